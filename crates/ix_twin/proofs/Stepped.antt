@@ -57,12 +57,13 @@ module _ (t : Twins) (agreed : HaveAgreed t) (e d : Event) where
   pub both_agreed : agrees t.at (world_of t.first).frame e d ≡ true → is_one_kind (next t.first e).reply (next t.second d).reply ≡ true → HaveAgreed (with_entries t e d)
   both_agreed calls kind = more (record { at = (agree_decides t.at (world_of t.first).frame e d).0 calls; kind = sym kinds ∙ kind })
 
--- whether nothing crossed, with one entry more
-pub clear_with : (l : Categories) (h k : History) (e : Event) → k ≡ with_entry h e
-    → none_crosses l (opening_world k.config) 1 k.events ≡ (none_crosses l (opening_world h.config) 1 h.events && not (crosses l (world_of h).frame (next h e).world.frame))
+-- whether nothing crossed, with one entry more, by whether nothing crossed before it
+pub clear_with : (l : Categories) (h k : History) (e : Event) → k ≡ with_entry h e → (before : Bool) → before ≡ none_crosses l (opening_world h.config) 1 h.events
+    → (before && not (crosses l (world_of h).frame (next h e).world.frame)) ≡ none_crosses l (opening_world k.config) 1 k.events
 unfolding world_of
-clear_with l h k e made =
-    ap (λ (x : History). none_crosses l (opening_world x.config) 1 x.events) made ∙ clear_more l (opening_world h.config) 1 (length h.events + 1) h.events e refl
+clear_with l h k e made before is =
+    ap (λ (b : Bool). b && not (crosses l (world_of h).frame (next h e).world.frame)) is
+    ∙ sym (ap (λ (x : History). none_crosses l (opening_world x.config) 1 x.events) made ∙ clear_more l (opening_world h.config) 1 (length h.events + 1) h.events e refl)
 
 -- what an entry gives is what is heard of it
 pub given_as : (h : History) (e : Event) (r : Reply) (before after : List ℕ) → IsGiven h e r before after → answered (next h e) ≡ heard_as r after

@@ -1,4 +1,4 @@
-use Rattle.std.proofs.Common.{◌≡◌, ◌&&◌, true, false, not, sym, ap, ◌∙◌, subst}
+use Rattle.std.proofs.Common.{◌≡◌, true, false, not, sym, ap, ◌∙◌, subst}
 use Rattle.ix_model.specs.history.Calls.{event_of}
 use Rattle.ix_model.specs.history.Events.{Event}
 use Rattle.ix_model.specs.history.History.{History, next, world_of}
@@ -6,7 +6,7 @@ use Rattle.ix_model.specs.opening.Opening.{opening_world}
 use Rattle.ix_model.specs.two_runs.TwoRuns.{is_one_kind}
 use Rattle.ix_model.proofs.words.Runs.{world_of-push}
 use Rattle.ix_twin.specs.Configs.{differ_above}
-use Rattle.ix_twin.specs.Tests.{agrees, crosses, is_low, none_crosses}
+use Rattle.ix_twin.specs.Tests.{agrees, is_low}
 use Rattle.ix_twin.specs.Twins.{HaveAgreed, IsGiven, Twins, with_entries}
 use Rattle.ix_twin.proofs.Crossing.{clear_decides}
 use Rattle.ix_twin.proofs.Low.{low_decides}
@@ -22,40 +22,28 @@ returns-then-not-agrees g c =
     subst (λ (x : Twins). HaveAgreed (with_entries x (event_of c.args.one.now) (event_of c.args.two.now)) → ⊥) c.twin.view_is apart
 
 pub invariant_of-twin : goal.invariant_of-twin
-invariant_of-twin g c = (
-  c.twin.invariant.0 ∙ (λ i. differ_above c.twin.inside.at (sym c.make-first.ensures.made i).config (sym c.make-second.ensures.made i).config),
-  elim c.if-clear.branch [
-    | then-clear w ↦
-        w.twin-is
-        ∙ ap not (w.has_crossed.ensures c.twin.inside.first (event_of c.args.one.now) c.make-first.ensures.made c.log_len-lines.ensures.len)
-        ∙ ap (λ b. b && not (crosses c.twin.inside.at (world_of c.twin.inside.first).frame (next c.twin.inside.first (event_of c.args.one.now)).world.frame)) (sym w.if-clear.true ∙ c.twin.invariant.1)
-        ∙ sym (clear_with c.twin.inside.at c.twin.inside.first c.make-first.new.core (event_of c.args.one.now) c.make-first.ensures.made)
-    | else-clear w ↦
-        let none : none_crosses c.twin.inside.at (opening_world c.twin.inside.first.config) 1 c.twin.inside.first.events ≡ false = sym c.twin.invariant.1 ∙ w.if-clear.false in
-        let all : none_crosses c.twin.inside.at (opening_world c.make-first.new.core.config) 1 c.make-first.new.core.events ≡ false =
-        clear_with c.twin.inside.at c.twin.inside.first c.make-first.new.core (event_of c.args.one.now) c.make-first.ensures.made
-        ∙ ap (λ b. b && not (crosses c.twin.inside.at (world_of c.twin.inside.first).frame (next c.twin.inside.first (event_of c.args.one.now)).world.frame)) none in
-        w.twin-is ∙ w.if-clear.false ∙ sym all
-  ],
-)
+invariant_of-twin g c =
+    let clear = clear_with c.twin.inside.at c.twin.inside.first c.make-first.new.core (event_of c.args.one.now) c.make-first.ensures.made in (
+      c.twin.invariant.0 ∙ (λ i. differ_above c.twin.inside.at (sym c.make-first.ensures.made i).config (sym c.make-second.ensures.made i).config),
+      elim c.if-clear.branch [
+        | then-clear w ↦
+            w.twin-is ∙ ap not (w.has_crossed.ensures c.twin.inside.first (event_of c.args.one.now) c.make-first.ensures.made c.log_len-lines.ensures.len)
+            ∙ clear true (sym w.if-clear.true ∙ c.twin.invariant.1)
+        | else-clear w ↦ w.twin-is ∙ w.if-clear.false ∙ clear false (sym w.if-clear.false ∙ c.twin.invariant.1)
+      ],
+    )
 
 pub invariant_of-twin-2 : goal.invariant_of-twin-2
-invariant_of-twin-2 g c = (
-  c.twin.invariant.0 ∙ (λ i. differ_above c.twin.inside.at (sym c.make-first.ensures.made i).config (sym c.make-second.ensures.made i).config),
-  elim c.if-clear.branch [
-    | then-clear w ↦
-        w.twin-is
-        ∙ ap not (w.has_crossed.ensures c.twin.inside.first (event_of c.args.one.now) c.make-first.ensures.made c.log_len-lines.ensures.len)
-        ∙ ap (λ b. b && not (crosses c.twin.inside.at (world_of c.twin.inside.first).frame (next c.twin.inside.first (event_of c.args.one.now)).world.frame)) (sym w.if-clear.true ∙ c.twin.invariant.1)
-        ∙ sym (clear_with c.twin.inside.at c.twin.inside.first c.make-first.new.core (event_of c.args.one.now) c.make-first.ensures.made)
-    | else-clear w ↦
-        let none : none_crosses c.twin.inside.at (opening_world c.twin.inside.first.config) 1 c.twin.inside.first.events ≡ false = sym c.twin.invariant.1 ∙ w.if-clear.false in
-        let all : none_crosses c.twin.inside.at (opening_world c.make-first.new.core.config) 1 c.make-first.new.core.events ≡ false =
-        clear_with c.twin.inside.at c.twin.inside.first c.make-first.new.core (event_of c.args.one.now) c.make-first.ensures.made
-        ∙ ap (λ b. b && not (crosses c.twin.inside.at (world_of c.twin.inside.first).frame (next c.twin.inside.first (event_of c.args.one.now)).world.frame)) none in
-        w.twin-is ∙ w.if-clear.false ∙ sym all
-  ],
-)
+invariant_of-twin-2 g c =
+    let clear = clear_with c.twin.inside.at c.twin.inside.first c.make-first.new.core (event_of c.args.one.now) c.make-first.ensures.made in (
+      c.twin.invariant.0 ∙ (λ i. differ_above c.twin.inside.at (sym c.make-first.ensures.made i).config (sym c.make-second.ensures.made i).config),
+      elim c.if-clear.branch [
+        | then-clear w ↦
+            w.twin-is ∙ ap not (w.has_crossed.ensures c.twin.inside.first (event_of c.args.one.now) c.make-first.ensures.made c.log_len-lines.ensures.len)
+            ∙ clear true (sym w.if-clear.true ∙ c.twin.invariant.1)
+        | else-clear w ↦ w.twin-is ∙ w.if-clear.false ∙ clear false (sym w.if-clear.false ∙ c.twin.invariant.1)
+      ],
+    )
 
 pub returns-then-is_one_kind : goal.returns-then-is_one_kind
 returns-then-is_one_kind g c =
