@@ -1,5 +1,5 @@
 -- What a run stands for, phase by phase.
-use Rattle.std.proofs.Common.{◌≡◌, ℕ, suc, true, List, [], ◌++◌, length, None, refl, sym, ap, ◌∙◌, subst}
+use Rattle.std.proofs.Common.{◌≡◌, ℕ, suc, Bool, true, List, [], ◌++◌, length, None, refl, sym, ap, ◌∙◌, subst}
 use Rattle.ix_model.specs.history.Made.{Made}
 use Rattle.ix_script.specs.lines.Before.{lanes_of}
 use Rattle.ix_script.specs.declared.line.Line.{Line}
@@ -13,7 +13,7 @@ use Rattle.ix_lanes.specs.asking.Ruled.{rules_told}
 use Rattle.ix_lanes.specs.histories.Serial.{header_of}
 use Rattle.ix_lanes.specs.histories.Lanes.{lines_of_seat}
 use Rattle.ix_lanes.specs.running.Phases.{asks_before, lane_before, lane_between, lines_before}
-use Rattle.ix_lanes.specs.running.Runs.{CutOff, IsStoppedBy, StandsFor}
+use Rattle.ix_lanes.specs.running.Runs.{CutOff, IsStoppedBy, Ran, StandsFor}
 use Rattle.ix_lanes.proofs.phased.Between.{asks_append, between_split}
 use Rattle.ix_lanes.proofs.phased.Making.{asked_followed, heard_followed}
 use Rattle.ix_lanes.proofs.phased.PhaseLines.{before-few, before-grows, before-taken}
@@ -73,3 +73,32 @@ module _ (s : List Line) (lane k : ℕ) where
 pub asks_between : (s : List Line) (lane k i j : ℕ) (names : Names) → i ≡ length (lines_before k s) → j ≡ length (lines_before (suc k) s)
     → lines_ask (rules_told s) (header_of s) names (lane_between s lane i j) ≡ next_asks s lane k names
 asks_between s lane k i j names from to = λ x. lines_ask (rules_told s) (header_of s) names (lane_between s lane (from x) (to x))
+
+-- ---- a run that is asked to go on
+abbrev pub ran : List Line → ℕ → ℕ → Bool → Names → Ran
+ran s lane k between names = record { script = s; lane = lane; done = k; between = between; names = names }
+
+-- A run of these parts stands between two phases: it is to do this phase, and it asks for what the phase has for it.
+pub record GoesOn (s : List Line) (lane k : ℕ) (between : Bool) (names : Names) (old : List Made) (phase seat : ℕ) (asks : Asking Names) : Type 0 where
+  pub is : between ≡ true
+  pub at : phase ≡ k
+  pub stands : StandsFor (ran s lane k true names) old
+  pub asked : asks ≡ next_asks s lane k names
+  pub made : (more : List Made) → AsAsked seat asks more → AsAsked lane (next_asks s lane k names) more
+
+pub goes_on : (r : Ran) (s t : List Line) (lane k : ℕ) (between : Bool) (names : Names) (old : List Made) (phase seat i j : ℕ) (asks : Asking Names)
+    → ran s lane k between names ≡ r → StandsFor r old → phase ≡ r.done → seat ≡ r.lane → (between ≡ true → i ≡ length (lines_before k s)) → j ≡ length (lines_before (suc phase) r.script)
+    → t ≡ s → asks ≡ lines_ask (rules_told t) (header_of t) names (lane_between t lane i j) → GoesOn s lane k between names old phase seat asks
+goes_on r s t lane k between names old phase seat i j asks view stands next mine from to script asked =
+    let is : between ≡ true = ap (λ (x : Ran). x.between) view ∙ stands.between in
+    let at : phase ≡ k = next ∙ sym (ap (λ (x : Ran). x.done) view) in
+    let end : j ≡ length (lines_before (suc k) s) = to ∙ (λ x. length (lines_before (suc (at x)) (sym view x).script)) in
+    let all : asks ≡ next_asks s lane k names =
+    asked ∙ ap (λ ls. lines_ask (rules_told ls) (header_of ls) names (lane_between ls lane i j)) script ∙ asks_between s lane k i j names (from is) end in
+    record {
+      is = is;
+      at = at;
+      stands = subst (λ (b : Bool). StandsFor (ran s lane k b names) old) is (subst (λ (x : Ran). StandsFor x old) (sym view) stands);
+      asked = all;
+      made = λ more h. subst (λ (p : Asking Names). AsAsked lane p more) all (subst (λ (n : ℕ). AsAsked n asks more) (mine ∙ sym (ap (λ (x : Ran). x.lane) view)) h);
+    }
