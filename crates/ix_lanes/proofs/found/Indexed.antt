@@ -1,11 +1,8 @@
 -- A list, as it is gone through by index.
-use Rattle.std.proofs.Common.{◌≡◌, unwrap_or, slice_index_or, ℕ, ◌+◌, ◌-◌, ◌<◌, ◌≤◌, ◌==◌, List, [], ◌∷◌, length, drop, Option, Some, None, refl, sym}
-use Rattle.std.proofs.Common.{ap, ◌∙◌, arith, slice_get, add-one, false, inl, inr, if◌then◌else◌}
-use Rattle.std.specs.Prelude.{IfSome}
-use Rattle.std.specs.Option.{option_map}
-use Rattle.std.proofs.Math.Seq.{drop-cons}
-use Rattle.std.proofs.lemmas.List.{drop_all}
-use Rattle.std.proofs.lemmas.Option.{slice_get_within, slice_get_cases, get_or_from_slice_get, unwrap_or-slice_get}
+use Rattle.std.proofs.Common.{◌≡◌, unwrap_or, slice_index_or, ℕ, ◌+◌, ◌-◌, ◌<◌, ◌≤◌, ◌==◌, List, [], ◌∷◌, length, drop, Option, Some, None, refl, sym, ap, ◌∙◌}
+use Rattle.std.proofs.Common.{arith, slice_get, add-one, false, inl, inr, if◌then◌else◌}
+use Rattle.std.specs.{Prelude.IfSome, Option.option_map}
+use Rattle.std.proofs.{Math.Seq.drop-cons, lemmas.{List.drop_all, Option.{slice_get_within, slice_get_cases, get_or_from_slice_get, unwrap_or-slice_get}}}
 
 -- the item at an index, and those after it
 pub rest_is : {A : Type 0} (xs : List A) (i : ℕ) (x : A) → slice_get xs i ≡ Some x → drop i xs ≡ x ∷ drop (i + 1) xs

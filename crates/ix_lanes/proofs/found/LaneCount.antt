@@ -1,10 +1,9 @@
 -- A script has no more lanes than lines.
-use Rattle.std.proofs.Common.{◌≡◌, ℕ, zero, suc, ◌+◌, ◌≤◌, Bool, true, false, List, [], ◌∷◌, ◌++◌, length, refl, sym, ap, ◌∙◌, arith, Some, None}
-use Rattle.std.proofs.Common.{slice_get, inl, inr, fold, if◌then◌else◌, length-append, replicate}
+use Rattle.std.proofs.Common.{◌≡◌, ℕ, zero, suc, ◌+◌, ◌≤◌, Bool, true, false, List, [], ◌∷◌, ◌++◌, length, refl, sym, ap, ◌∙◌, arith, Some, None, slice_get}
+use Rattle.std.proofs.Common.{inl, inr, fold, if◌then◌else◌, length-append, replicate}
 use Rattle.std.proofs.lemmas.Option.{slice_get_cases}
-use Rattle.ix_script.specs.declared.line.Line.{Line}
+use Rattle.ix_script.specs.{declared.line.Line.Line, lines.Before.{is_known, lanes_after, lanes_of}}
 use Rattle.ix_script.specs.declared.line.Line.TheVariants as line
-use Rattle.ix_script.specs.lines.Before.{is_known, lanes_after, lanes_of}
 
 one_more : (known : Bool) (name : List ℕ) (names : List (List ℕ)) → length (if known then names else names ++ name ∷ []) ≤ length names + 1
 one_more true name names = omega arith

@@ -1,11 +1,8 @@
 -- The names of processes, as lines are gone through.
 use Rattle.std.proofs.Common.{◌≡◌, ℕ, suc, ◌+◌, ◌≤◌, List, [], ◌∷◌, ◌++◌, length, drop, Some, refl, arith, slice_get}
 use Rattle.std.proofs.lemmas.List.{drop_all}
-use Rattle.ix_script.specs.declared.line.Line.{Line}
-use Rattle.ix_script.specs.lines.Before.{proc_names, proc_name_told}
-use Rattle.ix_lanes.specs.asking.Asked.{Numbers}
-use Rattle.ix_lanes.specs.histories.Serial.{numbered}
-use Rattle.ix_lanes.proofs.found.Indexed.{rest_is}
+use Rattle.ix_script.specs.{declared.line.Line.Line, lines.Before.{proc_names, proc_name_told}}
+use Rattle.ix_lanes.{specs.{asking.Asked.Numbers, histories.Serial.numbered}, proofs.found.Indexed.rest_is}
 
 both_numbered : (n : ℕ) (names more : List (List ℕ)) (m : Numbers) → numbered (n + length names) more (numbered n names m) ≡ numbered n (names ++ more) m
 both_numbered n [] more m = let same : n + 0 ≡ n = omega arith in rw same refl

@@ -1,12 +1,10 @@
 -- Names with their places, one at a time.
-use Rattle.std.proofs.Common.{◌≡◌, ℕ, Bool, true, false, cond, List, [], ◌∷◌, Option, Some, None, is_some, Result, Ok, Err, OnOk, OnErr, refl, sym, ap, subst, ◌∙◌}
-use Rattle.std.specs.Option.{option_flatten}
-use Rattle.std.specs.Ordering.{eq_by_cmp, nat_cmp}
-use Rattle.std.specs.Cmp.Lexicographic.{slice_cmp, nat_list_cmp_total}
-use Rattle.std.specs.Cmp.{eq_by_cmp_equiv}
-use Rattle.std.specs.FinMap.{find, get, insert, remove, empty, entries, contains_key, get-empty, get-entries, get-insert, get-remove, same_map, nat_cmp-IsAntisymmetric, slice_cmp-IsAntisymmetric}
-use Rattle.ix_lanes.specs.asking.Places.{ByName, filled, given, KeepsNames}
-use Rattle.ix_lanes.proofs.found.Keyed.{by_bytes, same_name}
+use Rattle.std.proofs.Common.{◌≡◌, ℕ, Bool, true, false, cond, List, [], ◌∷◌, Option, Some, None, is_some, Result, Ok, Err, OnOk, OnErr, refl, sym, ap, subst}
+use Rattle.std.proofs.Common.{◌∙◌}
+use Rattle.std.specs.{Option.option_flatten, Ordering.{eq_by_cmp, nat_cmp}, Cmp.{Lexicographic.{slice_cmp, nat_list_cmp_total}, eq_by_cmp_equiv}}
+use Rattle.std.specs.FinMap.{find, get, insert, remove, empty, entries, contains_key, get-empty, get-entries, get-insert, get-remove, same_map}
+use Rattle.std.specs.FinMap.{nat_cmp-IsAntisymmetric, slice_cmp-IsAntisymmetric}
+use Rattle.ix_lanes.{specs.asking.Places.{ByName, filled, given, KeepsNames}, proofs.found.Keyed.{by_bytes, same_name}}
 
 -- ---- what stands in a place
 flatten-cond : {X : Type 0} (b : Bool) (x : Option X) (o : Option (Option X)) → option_flatten (cond b (Some x) o) ≡ cond b x (option_flatten o)

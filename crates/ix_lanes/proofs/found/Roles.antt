@@ -1,16 +1,11 @@
 -- What follows of a line from what it is for.
 use Rattle.std.proofs.Common.{◌≡◌, ℕ, ◌<◌, true, false, List, [], length, Option, Some, None, refl, sym, slice_get}
 use Rattle.std.proofs.lemmas.Option.{get_or_from_slice_get, slice_get-get_or}
-use Rattle.ix_script.specs.declared.line.Line.{Line}
+use Rattle.ix_script.specs.{declared.line.Line.Line, lines.{Before.{new_fds, new_procs, proc_name_told, is_phase}, Roles.role_of}}
+use Rattle.ix_script.specs.scripts.Schedule.{begins_part, seat_after}
 use Rattle.ix_script.specs.declared.line.Line.TheVariants as line
 use Rattle.ix_script.specs.declared.role.Role.TheVariants as role
-use Rattle.ix_script.specs.lines.Before.{new_fds, new_procs, proc_name_told, is_phase}
-use Rattle.ix_script.specs.lines.Roles.{role_of}
-use Rattle.ix_lanes.specs.declared.asking.places.Places.{Places}
-use Rattle.ix_lanes.specs.asking.Places.{has_places}
-use Rattle.ix_lanes.specs.histories.Indexed.{line_in}
-use Rattle.ix_script.specs.scripts.Schedule.{begins_part, seat_after}
-use Rattle.ix_lanes.specs.running.Serially.{role_begins}
+use Rattle.ix_lanes.specs.{declared.asking.places.Places.Places, asking.Places.has_places, histories.Indexed.line_in, running.Serially.role_begins}
 
 -- ---- the line at an index
 pub line-there : (s : List Line) (i : ℕ) → i < length s → slice_get s i ≡ Some (line_in s i)

@@ -1,7 +1,6 @@
 -- The seat of a lane, as lanes are gone through.
 use Rattle.std.proofs.Common.{◌≡◌, ℕ, suc, ◌+◌, ◌≤◌, true, false, List, length, drop, Option, Some, None, ap, refl, ◌==◌, ◌∙◌, slice_get, add-one}
-use Rattle.std.proofs.lemmas.List.{drop_all}
-use Rattle.std.specs.Option.{option_eq}
+use Rattle.std.{proofs.lemmas.List.drop_all, specs.Option.option_eq}
 use Rattle.ix_model.specs.world.Naming.{same_bytes}
 use Rattle.ix_script.specs.scripts.Schedule.{is_seat, seat_from}
 use Rattle.ix_lanes.proofs.found.Indexed.{rest_is, none_left}

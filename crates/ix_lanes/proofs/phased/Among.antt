@@ -1,27 +1,17 @@
 -- Where a lane stands among its stretches, from one to the next.
-use Rattle.std.proofs.Common.{◌≡◌, ℕ, zero, suc, ◌+◌, ◌-◌, ◌≤◌, ◌<◌, Bool, true, false, not, List, [], ◌∷◌, length, take, drop, max, count_by, Option}
-use Rattle.std.proofs.Common.{Some, None, refl, sym, ap, ◌∙◌, subst, arith, slice_get, cond, inl, inr, true≢false}
-use Rattle.std.proofs.lemmas.Bool.{and_parts, cases_Bool, cases_lt}
-use Rattle.std.proofs.lemmas.List.{length-drop}
-use Rattle.std.proofs.lemmas.Option.{get_or_from_slice_get, slice_get_within}
+use Rattle.std.proofs.Common.{◌≡◌, ℕ, zero, suc, ◌+◌, ◌-◌, ◌≤◌, ◌<◌, Bool, true, false, not, List, [], ◌∷◌, length, take, drop, max, count_by, Option, Some, ap}
+use Rattle.std.proofs.Common.{None, refl, sym, ◌∙◌, subst, arith, slice_get, cond, inl, inr, true≢false}
+use Rattle.std.proofs.lemmas.{Bool.{and_parts, cases_Bool, cases_lt}, List.length-drop, Option.{get_or_from_slice_get, slice_get_within}}
 use Rattle.ix_policy.specs.declared.rule.Rule.{Rule}
-use Rattle.ix_script.specs.lines.Before.{is_phase, lanes_of}
+use Rattle.ix_script.specs.{lines.Before.{is_phase, lanes_of}, declared.{line.Line.Line, schedule.Stretch.Stretch}}
 use Rattle.ix_script.specs.scripts.Schedule.{StretchesStand, begins_part, is_seat, part_len, seat_after, seat_from, stretches_from, stretches_of}
-use Rattle.ix_script.specs.declared.line.Line.{Line}
 use Rattle.ix_script.specs.declared.line.Line.TheVariants as line
-use Rattle.ix_script.specs.declared.schedule.Stretch.{Stretch}
 use Rattle.ix_asking.specs.Asking as asking
-use Rattle.ix_lanes.specs.asking.Asked.{Names, Numbers, asked, named}
-use Rattle.ix_lanes.specs.asking.LineAsks.{line_asks, lines_ask}
+use Rattle.ix_lanes.specs.{asking.{Asked.{Names, Numbers, asked, named}, LineAsks.{line_asks, lines_ask}}, histories.Indexed.line_in}
+use Rattle.ix_lanes.specs.running.{Phases.{lane_between, seat_at}, Stretches.{AllStand, AreLeft, IsAmong, NoneStands, stands_in}}
 use Rattle.ix_lanes.specs.declared.asking.handed.Handed.TheVariants as handed
-use Rattle.ix_lanes.specs.histories.Indexed.{line_in}
-use Rattle.ix_lanes.specs.running.Phases.{lane_between, seat_at}
-use Rattle.ix_lanes.specs.running.Stretches.{AllStand, AreLeft, IsAmong, NoneStands, stands_in}
-use Rattle.ix_lanes.proofs.found.Indexed.{none_left, rest_is}
-use Rattle.ix_lanes.proofs.found.Roles.{line-is, line-there}
-use Rattle.ix_lanes.proofs.phased.LaneLines.{seat_one_more}
-use Rattle.ix_lanes.proofs.phased.Lefts.{begun_more, between_here, between_not}
-use Rattle.ix_lanes.proofs.phased.Stretching.{behind_others}
+use Rattle.ix_lanes.proofs.found.{Indexed.{none_left, rest_is}, Roles.{line-is, line-there}}
+use Rattle.ix_lanes.proofs.phased.{LaneLines.seat_one_more, Lefts.{begun_more, between_here, between_not}, Stretching.behind_others}
 
 -- ---- one line
 -- a line that begins no part leaves the seat, and begins no phase

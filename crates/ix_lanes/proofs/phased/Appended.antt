@@ -1,8 +1,7 @@
 -- What is asked for, one part after the other.
 use Rattle.std.proofs.Common.{◌≡◌, ℕ, List, [], ◌∷◌, ◌++◌, length, Some, None, refl, ap, ◌∙◌, arith}
 use Rattle.ix_model.specs.history.Events.{Event}
-use Rattle.ix_asking.specs.Asking.{Answered, Asking, Done, Ask, followed}
-use Rattle.ix_asking.specs.Lines.{Calls, calls_then, no_calls, with_entry_first, with_entries_first}
+use Rattle.ix_asking.specs.{Asking.{Answered, Asking, Done, Ask, followed}, Lines.{Calls, calls_then, no_calls, with_entry_first, with_entries_first}}
 use Rattle.ix_asking.specs.Runs.{entry_of}
 use Rattle.ix_lanes.proofs.serially.OneEntry.{all_answered}
 

@@ -1,20 +1,13 @@
 -- The lines of a lane between two indices, and what they ask for.
 use Rattle.std.proofs.Common.{◌≡◌, ℕ, ◌+◌, ◌≤◌, List, [], ◌∷◌, ◌++◌, length, take, drop, Option, Some, refl, sym, ap, ◌∙◌, arith, fold, slice_get}
-use Rattle.std.proofs.Math.Seq.{take-length}
-use Rattle.std.proofs.lemmas.List.{drop-append-le, length-append, length-take-le, take-append-drop, take-take, drop_all}
-use Rattle.std.proofs.lemmas.List.Sums.{fold-append}
-use Rattle.std.proofs.lemmas.Option.{slice_get_within}
+use Rattle.std.proofs.{Math.Seq.take-length, lemmas.List.{drop-append-le, length-append, length-take-le, take-append-drop, take-take, drop_all}}
+use Rattle.std.proofs.{lemmas.List.Sums.fold-append, lemmas.Option.slice_get_within}
 use Rattle.ix_policy.specs.declared.rule.Rule.{Rule}
-use Rattle.ix_script.specs.lines.Before.{lanes_of}
-use Rattle.ix_script.specs.declared.line.Line.{Line}
+use Rattle.ix_script.specs.{lines.Before.lanes_of, declared.line.Line.Line, scripts.Schedule.{Numbered, seat_after}}
 use Rattle.ix_asking.specs.Asking.{Asking, Ask, followed}
 use Rattle.ix_asking.specs.Asking as asking
-use Rattle.ix_lanes.specs.asking.Asked.{Names, Numbers, named}
-use Rattle.ix_script.specs.scripts.Schedule.{Numbered, seat_after}
-use Rattle.ix_lanes.specs.asking.LineAsks.{line_asks, lines_ask}
-use Rattle.ix_lanes.specs.histories.Lanes.{lines_of_seat}
-use Rattle.ix_lanes.specs.running.Phases.{lane_among, lane_between, seat_at}
-use Rattle.ix_lanes.proofs.phased.LaneLines.{lane-append, mine, one_more, one_of}
+use Rattle.ix_lanes.{specs.asking.Asked.{Names, Numbers, named}, specs.asking.LineAsks.{line_asks, lines_ask}, specs.histories.Lanes.lines_of_seat}
+use Rattle.ix_lanes.{specs.running.Phases.{lane_among, lane_between, seat_at}, proofs.phased.LaneLines.{lane-append, mine, one_more, one_of}}
 
 -- ---- what lines ask for
 followed_twice : {A B C : Type 0} (p : Asking A) (f : A → Asking B) (g : B → Asking C) → followed (followed p f) g ≡ followed p (λ a. followed (f a) g)

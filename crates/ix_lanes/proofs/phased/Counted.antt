@@ -1,9 +1,7 @@
 -- How many `phase` lines there are among the first lines of a script.
 use Rattle.std.proofs.Common.{◌≡◌, ℕ, zero, suc, ◌+◌, ◌≤◌, ◌<◌, Bool, true, false, cond, List, [], ◌∷◌, length, take, count_by, refl, ap, ◌∙◌, arith}
-use Rattle.ix_script.specs.declared.line.Line.{Line}
-use Rattle.ix_script.specs.lines.Before.{is_phase}
-use Rattle.ix_lanes.specs.running.Phases.{lines_to}
-use Rattle.ix_lanes.proofs.phased.PhaseLines.{count-cons, to-none, to-other, to-phase, to-stop}
+use Rattle.ix_script.specs.{declared.line.Line.Line, lines.Before.is_phase}
+use Rattle.ix_lanes.{specs.running.Phases.lines_to, proofs.phased.PhaseLines.{count-cons, to-none, to-other, to-phase, to-stop}}
 
 count-one : (l : Line) (lines : List Line) (b : Bool) → is_phase l ≡ b → count_by is_phase (l ∷ lines) ≡ cond b 1 0 + count_by is_phase lines
 count-one l lines b is = count-cons l lines ∙ ap (λ c. cond c 1 0 + count_by is_phase lines) is

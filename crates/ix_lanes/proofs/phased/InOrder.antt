@@ -1,48 +1,27 @@
 -- A serial run that asks for one call at a time: the entries that are left, line by line and call by call.
-use Rattle.std.proofs.Common.{◌≡◌, ◌≢◌, ℕ, suc, ◌+◌, ◌<◌, Bool, true, false, true≢false, List, [], ◌∷◌, length, map, take, drop, set, Option, Some}
-use Rattle.std.proofs.Common.{None, IfSome, is_some, inl, inr, if◌then◌else◌, option_map, refl, sym, ap, ◌∙◌, subst, arith, slice_get, slice_index_or, length-set}
-use Rattle.std.proofs.Common.{get_or-set_same, get_or-set_other, ⊎_elim}
-use Rattle.std.specs.List.{fold}
-use Rattle.std.specs.Option.{option_map_or}
-use Rattle.std.proofs.Math.Seq.{drop-cons}
-use Rattle.std.proofs.lemmas.Bool.{cases_Bool}
-use Rattle.std.proofs.lemmas.Bool.Decides.{Decides-eqb, eqb_tells}
-use Rattle.std.proofs.lemmas.List.{get_or-map, map-set, set-get_or}
+use Rattle.std.proofs.Common.{◌≡◌, ◌≢◌, ℕ, suc, ◌+◌, ◌<◌, Bool, true, false, true≢false, List, [], ◌∷◌, length, map, take, drop, set, Option, Some, None, inl}
+use Rattle.std.proofs.Common.{IfSome, is_some, inr, if◌then◌else◌, option_map, refl, sym, ap, ◌∙◌, subst, arith, slice_get, slice_index_or, length-set, ⊎_elim}
+use Rattle.std.proofs.Common.{get_or-set_same, get_or-set_other}
+use Rattle.std.specs.{List.fold, Option.option_map_or}
+use Rattle.std.proofs.{Math.Seq.drop-cons, lemmas.Bool.cases_Bool, lemmas.Bool.Decides.{Decides-eqb, eqb_tells}, lemmas.List.{get_or-map, map-set, set-get_or}}
 use Rattle.std.proofs.lemmas.Option.{get_or_from_slice_get, slice_get-get_or, slice_get_within}
-use Rattle.ix_model.specs.history.Events.{Event}
-use Rattle.ix_model.specs.history.Step.{step_of}
-use Rattle.ix_model.specs.world.World.{World}
+use Rattle.ix_model.specs.{history.{Events.Event, Step.step_of}, world.World.World}
 use Rattle.ix_policy.specs.declared.rule.Rule.{Rule}
-use Rattle.ix_asking.specs.Asking.{Answered, Asked, Asking, Ask, Due, IsDue, came_as, first, heard, mapped}
+use Rattle.ix_asking.specs.{Asking.{Answered, Asked, Asking, Ask, Due, IsDue, came_as, first, heard, mapped}, Runs.entry_of, declared.copying.Copying.Copying}
 use Rattle.ix_asking.specs.Asking as asking
-use Rattle.ix_asking.specs.Runs.{entry_of}
-use Rattle.ix_asking.specs.declared.copying.Copying.{Copying}
-use Rattle.ix_script.specs.lines.Before.{lanes_of}
-use Rattle.ix_script.specs.declared.line.Line.{Line}
-use Rattle.ix_script.specs.declared.line.Line.TheVariants as line
-use Rattle.ix_lanes.specs.asking.Asked.{Names, Numbers, asked, named, no_names}
-use Rattle.ix_lanes.specs.asking.LineAsks.{line_asks, one_call}
-use Rattle.ix_lanes.specs.asking.Places.{KeepsPlaces, standing}
-use Rattle.ix_lanes.specs.asking.Ruled.{rules_told}
-use Rattle.ix_lanes.specs.declared.asking.handed.Handed.{Handed}
-use Rattle.ix_lanes.specs.declared.asking.handed.Handed.TheVariants as handed
-use Rattle.ix_lanes.specs.declared.asking.places.Places.{Places}
-use Rattle.ix_lanes.specs.declared.running.part.Part.{Part}
-use Rattle.ix_lanes.specs.declared.running.part.Part.TheVariants as part
-use Rattle.ix_lanes.specs.histories.Indexed.{line_in}
-use Rattle.ix_script.specs.declared.role.Role.{Role}
-use Rattle.ix_script.specs.lines.Roles.{role_of}
+use Rattle.ix_script.specs.{lines.{Before.lanes_of, Roles.role_of}, declared.{line.Line.Line, role.Role.Role}}
 use Rattle.ix_script.specs.scripts.Schedule.{begins_part, is_seat, seat_after}
-use Rattle.ix_lanes.specs.histories.Serial.{answered, header_of, made_then, names_of, renamed, serial_from}
-use Rattle.ix_lanes.specs.running.Fields.{all_placed}
-use Rattle.ix_lanes.specs.running.Left.{Holds, IsHeard, IsPending, is_over, part_left}
-use Rattle.ix_lanes.specs.running.Phases.{lane_among, seat_at}
-use Rattle.ix_lanes.specs.running.Serially.{ArePlaced, IsWithin, SerialLeft, after_line, entries_left, entry_next, line_left, most_entries, next_entry, role_begins}
-use Rattle.ix_lanes.proofs.found.Roles.{begins-role}
-use Rattle.ix_lanes.proofs.phased.Among.{part_asks, part_names}
+use Rattle.ix_script.specs.declared.line.Line.TheVariants as line
+use Rattle.ix_lanes.specs.{asking.Asked.{Names, Numbers, asked, named, no_names}, asking.LineAsks.{line_asks, one_call}, asking.Places.{KeepsPlaces, standing}}
+use Rattle.ix_lanes.specs.{asking.Ruled.rules_told, declared.{asking.{handed.Handed.Handed, places.Places.Places}, running.part.Part.Part}}
+use Rattle.ix_lanes.specs.histories.{Indexed.line_in, Serial.{answered, header_of, made_then, names_of, renamed, serial_from}}
+use Rattle.ix_lanes.specs.running.{Fields.all_placed, Left.{Holds, IsHeard, IsPending, is_over, part_left}, Phases.{lane_among, seat_at}}
+use Rattle.ix_lanes.specs.declared.asking.handed.Handed.TheVariants as handed
+use Rattle.ix_lanes.specs.declared.running.part.Part.TheVariants as part
+use Rattle.ix_lanes.specs.running.Serially.{ArePlaced, IsWithin, SerialLeft, after_line, entries_left, entry_next, line_left, most_entries, next_entry}
+use Rattle.ix_lanes.specs.running.Serially.{role_begins}
+use Rattle.ix_lanes.proofs.{found.Roles.begins-role, phased.{Among.{part_asks, part_names}, Lefts.{due_here, pending_due}, Placed.keeps-lines}}
 use Rattle.ix_lanes.proofs.serially.LaneSteps.{seat_within}
-use Rattle.ix_lanes.proofs.phased.Lefts.{due_here, pending_due}
-use Rattle.ix_lanes.proofs.phased.Placed.{keeps-lines}
 
 -- ---- seats
 fold_low : (lanes : List (List ℕ)) (start : Option ℕ) (lines : List Line) → IfSome start (λ k. k < length lanes) → IfSome (fold (seat_after lanes) start lines) (λ k. k < length lanes)

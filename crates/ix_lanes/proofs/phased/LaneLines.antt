@@ -1,13 +1,9 @@
 -- The lines of a seat's lane, part by part.
-use Rattle.std.proofs.Common.{◌≡◌, ℕ, suc, ◌+◌, Bool, true, false, List, [], ◌∷◌, ◌++◌, length, take, Option, Some, None, refl, ap, ◌∙◌, arith, fold, slice_get, if◌then◌else◌}
-use Rattle.std.proofs.lemmas.List.{take_more, length-take-le}
-use Rattle.std.proofs.lemmas.List.Sums.{fold-append}
-use Rattle.std.proofs.lemmas.Option.{slice_get_within, get_or_from_slice_get}
-use Rattle.ix_script.specs.lines.Before.{lanes_of}
-use Rattle.ix_script.specs.declared.line.Line.{Line}
-use Rattle.ix_script.specs.scripts.Schedule.{seat_after, Numbered, is_seat}
-use Rattle.ix_lanes.specs.histories.Lanes.{lines_of_seat}
-use Rattle.ix_lanes.specs.running.Phases.{lane_among, seat_at}
+use Rattle.std.proofs.Common.{◌≡◌, ℕ, suc, ◌+◌, Bool, true, false, List, [], ◌∷◌, ◌++◌, length, take, Option, Some, None, refl, ap, ◌∙◌, arith, fold, slice_get}
+use Rattle.std.proofs.Common.{if◌then◌else◌}
+use Rattle.std.proofs.lemmas.{List.{take_more, length-take-le, Sums.fold-append}, Option.{slice_get_within, get_or_from_slice_get}}
+use Rattle.ix_script.specs.{lines.Before.lanes_of, declared.line.Line.Line, scripts.Schedule.{seat_after, Numbered, is_seat}}
+use Rattle.ix_lanes.specs.{histories.Lanes.lines_of_seat, running.Phases.{lane_among, seat_at}}
 
 -- one line, where it stands in the lane
 abbrev pub mine : ℕ → ℕ → Option ℕ → Line → List Numbered

@@ -1,41 +1,25 @@
 -- What is left of what a line, and a lane, asks for, as calls are answered.
-use Rattle.std.proofs.Common.{◌≡◌, ℕ, ◌+◌, ◌-◌, ◌≤◌, ◌<◌, Bool, true, false, List, [], ◌∷◌, ◌++◌, length, take, Option, Some, None, refl, sym, ap}
-use Rattle.std.proofs.Common.{◌∙◌, subst, arith, slice_get, cond, count_by, ◌⊎◌, ⊎_elim, true≢false}
+use Rattle.std.proofs.Common.{◌≡◌, ℕ, ◌+◌, ◌-◌, ◌≤◌, ◌<◌, Bool, true, false, List, [], ◌∷◌, ◌++◌, length, take, Option, Some, None, refl, sym, ap, ◌∙◌, subst}
+use Rattle.std.proofs.Common.{arith, slice_get, cond, count_by, ◌⊎◌, ⊎_elim, true≢false}
 use Rattle.std.proofs.lemmas.List.Sums.{sum_by-append}
 use Rattle.ix_policy.specs.declared.rule.Rule.{Rule}
-use Rattle.ix_asking.specs.Asking.{Answered, Asked, Asking, Ask, IsDue, Next, Came, Due, came_as, first, followed, heard, mapped}
+use Rattle.ix_asking.{specs.Asking.{Answered, Asked, Asking, Ask, IsDue, Next, Came, Due, came_as, first, followed, heard, mapped}, specs.Runs.StopsAt}
+use Rattle.ix_asking.{specs.declared.copying.Copying.Copying, specs.declared.stop.Stop.Stop, proofs.Every.AllOf}
 use Rattle.ix_asking.specs.Asking as asking
-use Rattle.ix_asking.specs.Runs.{StopsAt}
-use Rattle.ix_asking.proofs.Every.{AllOf}
-use Rattle.ix_asking.specs.declared.copying.Copying.{Copying}
-use Rattle.ix_asking.specs.declared.stop.Stop.{Stop}
-use Rattle.ix_script.specs.lines.Roles.{role_of}
-use Rattle.ix_script.specs.declared.line.Line.{Line}
-use Rattle.ix_script.specs.declared.line.Line.TheVariants as line
-use Rattle.ix_script.specs.declared.line.FdWord.{FdWord}
-use Rattle.ix_script.specs.declared.role.Role.TheVariants as role
-use Rattle.ix_lanes.specs.asking.Asked.{Names, Numbers, asked, named, no_names}
-use Rattle.ix_lanes.specs.asking.Handing.{handed_in}
-use Rattle.ix_lanes.specs.asking.LineAsks.{OfLine, line_asks, lines_ask, one_call}
-use Rattle.ix_lanes.specs.declared.asking.handed.Handed.{Handed}
-use Rattle.ix_lanes.specs.declared.asking.handed.Handed.TheVariants as handed
-use Rattle.ix_lanes.specs.declared.running.part.Part.{Part}
-use Rattle.ix_lanes.specs.declared.running.part.Part.TheVariants as part
-use Rattle.ix_lanes.specs.asking.Ruled.{rules_told}
-use Rattle.ix_lanes.specs.histories.History.{phase_of}
-use Rattle.ix_lanes.specs.histories.Indexed.{line_in}
-use Rattle.ix_script.specs.declared.schedule.Stretch.{Stretch}
+use Rattle.ix_script.specs.{lines.{Roles.role_of, Before.is_phase}, declared.{line.{Line.Line, FdWord.FdWord}, schedule.Stretch.Stretch}}
 use Rattle.ix_script.specs.scripts.Schedule.{is_seat}
-use Rattle.ix_lanes.specs.histories.Lanes.{lane_asks}
-use Rattle.ix_lanes.specs.histories.Serial.{header_of}
-use Rattle.ix_lanes.specs.running.Left.{Holds, IsHeard, IsHere, IsPending, LaneLeft, asks_left, is_done, is_over, left_from, most_from, names_done, next_phase, part_left, place_of}
-use Rattle.ix_script.specs.lines.Before.{is_phase}
-use Rattle.ix_lanes.specs.running.Phases.{lane_between, seat_at}
-use Rattle.ix_lanes.specs.running.Stretches.{IsAmong}
-use Rattle.ix_lanes.proofs.found.Roles.{line-is, line-there}
-use Rattle.ix_lanes.proofs.serially.LineCalls.{all-numbered}
-use Rattle.ix_lanes.proofs.phased.Between.{between_all, between_both, between_more, between_none}
-use Rattle.ix_lanes.proofs.phased.LaneLines.{mine, mine-here, mine-not, one_more}
+use Rattle.ix_script.specs.declared.line.Line.TheVariants as line
+use Rattle.ix_script.specs.declared.role.Role.TheVariants as role
+use Rattle.ix_lanes.specs.{asking.Asked.{Names, Numbers, asked, named, no_names}, asking.Handing.handed_in, asking.Ruled.rules_told}
+use Rattle.ix_lanes.specs.{asking.LineAsks.{OfLine, line_asks, lines_ask, one_call}, declared.{asking.handed.Handed.Handed, running.part.Part.Part}}
+use Rattle.ix_lanes.specs.histories.{History.phase_of, Indexed.line_in, Lanes.lane_asks, Serial.header_of}
+use Rattle.ix_lanes.specs.running.{Phases.{lane_between, seat_at}, Stretches.IsAmong}
+use Rattle.ix_lanes.specs.declared.asking.handed.Handed.TheVariants as handed
+use Rattle.ix_lanes.specs.declared.running.part.Part.TheVariants as part
+use Rattle.ix_lanes.specs.running.Left.{Holds, IsHeard, IsHere, IsPending, LaneLeft, asks_left, is_done, is_over, left_from, most_from, names_done, next_phase}
+use Rattle.ix_lanes.specs.running.Left.{part_left, place_of}
+use Rattle.ix_lanes.proofs.{found.Roles.{line-is, line-there}, serially.LineCalls.all-numbered}
+use Rattle.ix_lanes.proofs.phased.{Between.{between_all, between_both, between_more, between_none}, LaneLines.{mine, mine-here, mine-not, one_more}}
 
 -- ---- what asks
 

@@ -1,15 +1,9 @@
 -- The lines of a script, by its phases.
-use Rattle.std.proofs.Common.{◌≡◌, ℕ, zero, suc, ◌+◌, ◌≤◌, ◌<◌, max, Bool, true, false, cond, List, [], ◌∷◌, ◌++◌, length, take, drop, Some, refl}
-use Rattle.std.proofs.Common.{sym, ap, ◌∙◌, arith, slice_get, append_assoc, append-nil, length-append, count_by, if◌then◌else◌}
-use Rattle.std.proofs.lemmas.List.Sums.{count_by-le-length, sum_by-cons}
-use Rattle.std.proofs.lemmas.List.{length-take, length-take-le, drop_all}
-use Rattle.std.proofs.lemmas.Option.{slice_get_within}
-use Rattle.ix_script.specs.declared.line.Line.{Line}
-use Rattle.ix_script.specs.scripts.Schedule.{phases}
-use Rattle.ix_script.specs.lines.Before.{is_phase}
-use Rattle.ix_lanes.specs.running.Phases.{lines_to, lines_before}
-use Rattle.ix_lanes.proofs.found.Indexed.{rest_is}
-use Rattle.ix_lanes.proofs.phased.LaneLines.{one_more}
+use Rattle.std.proofs.Common.{◌≡◌, ℕ, zero, suc, ◌+◌, ◌≤◌, ◌<◌, max, Bool, true, false, cond, List, [], ◌∷◌, ◌++◌, length, take, drop, Some, refl, sym, ap, ◌∙◌}
+use Rattle.std.proofs.Common.{arith, slice_get, append_assoc, append-nil, length-append, count_by, if◌then◌else◌}
+use Rattle.std.proofs.lemmas.{List.{Sums.{count_by-le-length, sum_by-cons}, length-take, length-take-le, drop_all}, Option.slice_get_within}
+use Rattle.ix_script.specs.{declared.line.Line.Line, scripts.Schedule.phases, lines.Before.is_phase}
+use Rattle.ix_lanes.{specs.running.Phases.{lines_to, lines_before}, proofs.{found.Indexed.rest_is, phased.LaneLines.one_more}}
 
 -- ---- one line
 pub to-none : (k : ℕ) → lines_to k [] ≡ []

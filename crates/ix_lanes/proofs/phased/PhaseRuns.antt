@@ -1,21 +1,12 @@
 -- What a run stands for, phase by phase.
 use Rattle.std.proofs.Common.{◌≡◌, ℕ, suc, Bool, true, List, [], ◌++◌, length, None, refl, sym, ap, ◌∙◌, subst}
 use Rattle.ix_model.specs.history.Made.{Made}
-use Rattle.ix_script.specs.lines.Before.{lanes_of}
-use Rattle.ix_script.specs.declared.line.Line.{Line}
-use Rattle.ix_asking.specs.declared.stop.Stop.{Stop}
-use Rattle.ix_asking.specs.Asking.{Asking, Next, Came, Due, all_heard, first, followed, next}
-use Rattle.ix_asking.specs.Runs.{answer_at, answers_of, AsAsked, StopsAt}
-use Rattle.ix_asking.proofs.OneMore.{asked_after, heard_after}
-use Rattle.ix_lanes.specs.asking.Asked.{Names, no_names}
-use Rattle.ix_lanes.specs.asking.LineAsks.{lines_ask}
-use Rattle.ix_lanes.specs.asking.Ruled.{rules_told}
-use Rattle.ix_lanes.specs.histories.Serial.{header_of}
-use Rattle.ix_lanes.specs.histories.Lanes.{lines_of_seat}
-use Rattle.ix_lanes.specs.running.Phases.{asks_before, lane_before, lane_between, lines_before}
-use Rattle.ix_lanes.specs.running.Runs.{CutOff, IsStoppedBy, Ran, StandsFor}
-use Rattle.ix_lanes.proofs.phased.Between.{asks_append, between_split}
-use Rattle.ix_lanes.proofs.phased.Making.{asked_followed, heard_followed}
+use Rattle.ix_script.specs.{lines.Before.lanes_of, declared.line.Line.Line}
+use Rattle.ix_asking.{specs.declared.stop.Stop.Stop, specs.Asking.{Asking, Next, Came, Due, all_heard, first, followed, next}}
+use Rattle.ix_asking.{specs.Runs.{answer_at, answers_of, AsAsked, StopsAt}, proofs.OneMore.{asked_after, heard_after}}
+use Rattle.ix_lanes.specs.{asking.{Asked.{Names, no_names}, LineAsks.lines_ask, Ruled.rules_told}, histories.{Serial.header_of, Lanes.lines_of_seat}}
+use Rattle.ix_lanes.specs.running.{Phases.{asks_before, lane_before, lane_between, lines_before}, Runs.{CutOff, IsStoppedBy, Ran, StandsFor}}
+use Rattle.ix_lanes.proofs.{phased.Between.{asks_append, between_split}, phased.Making.{asked_followed, heard_followed}}
 use Rattle.ix_lanes.proofs.phased.PhaseLines.{before-few, before-grows, before-taken}
 
 pub stands_first : (s : List Line) (lane : ℕ) (names : Names) → names ≡ no_names → StandsFor (record { script = s; lane = lane; done = 0; between = true; names = names }) []

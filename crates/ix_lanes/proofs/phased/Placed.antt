@@ -1,15 +1,9 @@
 -- Names that have their places, line by line.
 use Rattle.std.proofs.Common.{◌≡◌, ℕ, ◌+◌, true, false, List, [], ◌∷◌, ◌++◌, take, drop, Some, None, refl, sym, ap, ◌∙◌, slice_get, append-nil}
-use Rattle.std.proofs.lemmas.Bool.{and_parts, and_from}
-use Rattle.std.proofs.lemmas.List.{take-append-drop}
-use Rattle.std.proofs.lemmas.List.Folds.{list_all-append}
-use Rattle.ix_script.specs.lines.Before.{lanes_of}
-use Rattle.ix_script.specs.declared.line.Line.{Line}
-use Rattle.ix_lanes.specs.declared.asking.places.Places.{Places}
-use Rattle.ix_script.specs.scripts.Schedule.{Numbered, is_seat}
-use Rattle.ix_lanes.specs.asking.Places.{has_places, KeepsPlaces}
-use Rattle.ix_lanes.specs.running.Phases.{lane_among, seat_at}
-use Rattle.ix_lanes.specs.running.Fields.{all_placed}
+use Rattle.std.proofs.lemmas.{Bool.{and_parts, and_from}, List.{take-append-drop, Folds.list_all-append}}
+use Rattle.ix_script.specs.{lines.Before.lanes_of, declared.line.Line.Line, scripts.Schedule.{Numbered, is_seat}}
+use Rattle.ix_lanes.specs.{declared.asking.places.Places.Places, asking.Places.{has_places, KeepsPlaces}}
+use Rattle.ix_lanes.specs.running.{Phases.{lane_among, seat_at}, Fields.all_placed}
 use Rattle.ix_lanes.proofs.phased.LaneLines.{lane-append, lane_one_more, mine-here, mine-not}
 
 module _ (s : List Line) (seat i : ℕ) (l : Line) (at : slice_get s i ≡ Some l) where

@@ -1,18 +1,14 @@
 -- What the lines ask for that make more calls than one.
 use Rattle.std.proofs.Common.{◌≡◌, ℕ, List, Option, None, refl, ap, sym, ◌∙◌}
 use Rattle.ix_policy.specs.declared.rule.Rule.{Rule}
-use Rattle.ix_asking.specs.Asking.{mapped}
+use Rattle.ix_asking.specs.{Asking.mapped, Copies.copies}
 use Rattle.ix_asking.specs.Asking as asking
-use Rattle.ix_asking.specs.Copies.{copies}
 use Rattle.ix_privserv.specs.Serving as privileges
 use Rattle.ix_sessserv.specs.Serving as sessions
-use Rattle.ix_script.specs.declared.line.Line.{Line}
+use Rattle.ix_script.specs.declared.line.{Line.Line, FdWord.FdWord}
 use Rattle.ix_script.specs.declared.line.Line.TheVariants as line
-use Rattle.ix_script.specs.declared.line.FdWord.{FdWord}
-use Rattle.ix_lanes.specs.asking.Asked.{Names, Numbers, asked, fd_of, pid_of}
+use Rattle.ix_lanes.specs.asking.{Asked.{Names, Numbers, asked, fd_of, pid_of}, Handing.who_in, LineAsks.{by_rules, gives_nothing, line_asks, one_call}}
 use Rattle.ix_lanes.specs.declared.asking.handed.Handed.TheVariants as handed
-use Rattle.ix_lanes.specs.asking.Handing.{who_in}
-use Rattle.ix_lanes.specs.asking.LineAsks.{by_rules, gives_nothing, line_asks, one_call}
 
 pub one_asks : (rules : Option (List Rule)) (header : Numbers) (names : Names) (n : ℕ) (l : Line) → ((proc : List ℕ) (from to : FdWord) (count : ℕ) → l ≡ line.Copy proc from to count → ⊥)
     → ((proc : List ℕ) (fd : FdWord) → l ≡ line.Priv proc fd → ⊥) → ((proc : List ℕ) (fd hand : FdWord) (q : Option (List ℕ)) → l ≡ line.Login proc fd hand q → ⊥)

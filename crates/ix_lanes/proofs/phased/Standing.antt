@@ -1,16 +1,10 @@
 -- What a run that stands for entries has asked for, as calls.
 use Rattle.std.proofs.Common.{◌≡◌, ℕ, suc, List, [], ◌∷◌, ◌++◌, Some, None, refl, sym, ap, ◌∙◌, append-nil}
-use Rattle.ix_model.specs.history.Events.{Event}
-use Rattle.ix_model.specs.history.Made.{Made}
-use Rattle.ix_model.specs.history.Systems.{FullFor}
-use Rattle.ix_model.specs.declared.reply.Answer.{Answer}
-use Rattle.ix_asking.specs.Asking.{Asking, Ask, Asked, Next, Came, Due, all_heard, next}
+use Rattle.ix_model.specs.{history.{Events.Event, Made.Made, Systems.FullFor}, declared.reply.Answer.Answer}
+use Rattle.ix_asking.{specs.Asking.{Asking, Ask, Asked, Next, Came, Due, all_heard, next}, specs.Lines.{calls_then, events_of, no_calls}}
+use Rattle.ix_asking.{specs.Runs.{answer_of, answers_of, AsAsked, entry_of}, proofs.Lines.{calls-cut, calls-done}}
 use Rattle.ix_asking.specs.Asking as asking
-use Rattle.ix_asking.specs.Lines.{calls_then, events_of, no_calls}
-use Rattle.ix_asking.specs.Runs.{answer_of, answers_of, AsAsked, entry_of}
-use Rattle.ix_asking.proofs.Lines.{calls-cut, calls-done}
-use Rattle.ix_lanes.specs.running.Phases.{asks_before, calls_before}
-use Rattle.ix_lanes.specs.running.Runs.{CutOff, IsStoppedBy, Ran, StandsFor}
+use Rattle.ix_lanes.specs.running.{Phases.{asks_before, calls_before}, Runs.{CutOff, IsStoppedBy, Ran, StandsFor}}
 
 -- ---- all that is asked for is made
 pub calls_all : {R : Type 0} (seat : ℕ) (p : Asking R) (made : List Made) (r : R) → AsAsked seat p made → next p (answers_of made) ≡ Came r

@@ -1,24 +1,16 @@
 -- The names that the lines of a lane give, stretch by stretch.
-use Rattle.std.proofs.Common.{◌≡◌, ℕ, zero, suc, ◌+◌, ◌-◌, ◌≤◌, min, Bool, true, List, [], ◌∷◌, ◌++◌, length, take, drop, Option, Some, None, refl}
-use Rattle.std.proofs.Common.{sym, ap, ◌∙◌, arith, slice_get, inl, inr, length-append, length-drop, ◌&&◌}
+use Rattle.std.proofs.Common.{◌≡◌, ℕ, zero, suc, ◌+◌, ◌-◌, ◌≤◌, min, Bool, true, List, [], ◌∷◌, ◌++◌, length, take, drop, Option, Some, None, refl, sym, ap}
+use Rattle.std.proofs.Common.{◌∙◌, arith, slice_get, inl, inr, length-append, length-drop, ◌&&◌}
 use Rattle.std.specs.List.{flat_map, list_all}
-use Rattle.std.proofs.lemmas.Bool.{and_parts, and_from, cases_Bool, cases_lt}
-use Rattle.std.proofs.lemmas.Grind.{flat_map-append}
-use Rattle.std.proofs.lemmas.List.{take_all}
-use Rattle.std.proofs.lemmas.List.Folds.{list_all-append}
-use Rattle.std.proofs.lemmas.Option.{slice_get_cases}
-use Rattle.ix_script.specs.lines.Before.{lanes_of}
-use Rattle.ix_script.specs.scripts.Schedule.{LanesAreStretches, begun_after, is_seat, lane_lines, numbered_from, seat_from, stretch_by, stretch_lines, stretches_from, stretches_of}
-use Rattle.ix_script.specs.declared.line.Line.{Line}
+use Rattle.std.proofs.{lemmas.Bool.{and_parts, and_from, cases_Bool, cases_lt}, lemmas.Grind.flat_map-append, lemmas.List.take_all}
+use Rattle.std.proofs.{lemmas.List.Folds.list_all-append, lemmas.Option.slice_get_cases}
+use Rattle.ix_script.specs.{lines.Before.lanes_of, declared.{line.Line.Line, schedule.Stretch.Stretch}}
+use Rattle.ix_script.specs.scripts.Schedule.{LanesAreStretches, begun_after, is_seat, lane_lines, numbered_from, seat_from, stretch_by, stretch_lines}
+use Rattle.ix_script.specs.scripts.Schedule.{stretches_from, stretches_of}
 use Rattle.ix_script.specs.declared.line.Line.TheVariants as line
-use Rattle.ix_script.specs.declared.schedule.Stretch.{Stretch}
-use Rattle.ix_lanes.specs.declared.asking.places.Places.{Places}
-use Rattle.ix_lanes.specs.asking.Places.{has_places, KeepsPlaces}
-use Rattle.ix_lanes.specs.histories.Lanes.{lines_of_seat}
-use Rattle.ix_lanes.specs.running.Fields.{all_placed}
-use Rattle.ix_lanes.specs.running.Phases.{lane_among}
-use Rattle.ix_lanes.proofs.phased.LaneLines.{one_more}
-use Rattle.ix_lanes.proofs.phased.Placed.{keeps-lines}
+use Rattle.ix_lanes.specs.{declared.asking.places.Places.Places, asking.Places.{has_places, KeepsPlaces}, histories.Lanes.lines_of_seat}
+use Rattle.ix_lanes.specs.running.{Fields.all_placed, Phases.lane_among}
+use Rattle.ix_lanes.proofs.phased.{LaneLines.one_more, Placed.keeps-lines}
 
 -- ---- lines without their numbers
 -- each name that one of these lines gives has its place

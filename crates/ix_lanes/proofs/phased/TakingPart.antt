@@ -1,32 +1,17 @@
 -- Whether a lane has a line in a phase, by the stretches that are left to it.
-use Rattle.std.proofs.Common.{◌≡◌, ℕ, zero, suc, append-nil, Bool, ◌+◌, ◌-◌, ◌≤◌, ◌<◌, true, false, List, [], ◌∷◌, length, take, drop, max, count_by}
-use Rattle.std.proofs.Common.{cond, is_some, refl, sym, ap, ◌∙◌, subst, arith, inl, inr, true≢false}
+use Rattle.std.proofs.Common.{◌≡◌, ℕ, zero, suc, append-nil, Bool, ◌+◌, ◌-◌, ◌≤◌, ◌<◌, true, false, List, [], ◌∷◌, length, take, drop, max, count_by, cond, sym}
+use Rattle.std.proofs.Common.{is_some, refl, ap, ◌∙◌, subst, arith, inl, inr, true≢false}
 use Rattle.std.proofs.lemmas.Bool.{cases_Bool, cases_lt}
 use Rattle.ix_model.specs.history.Made.{Made}
-use Rattle.ix_script.specs.lines.Before.{is_phase}
-use Rattle.ix_script.specs.scripts.Schedule.{stretches_of}
-use Rattle.ix_script.specs.declared.line.Line.{Line}
-use Rattle.ix_script.specs.declared.schedule.Stretch.{Stretch}
-use Rattle.ix_asking.specs.Asking.{Asking, Ask, Came, IsDue, first, followed}
-use Rattle.ix_asking.specs.declared.copying.Copying.{Copying}
+use Rattle.ix_script.specs.{lines.Before.is_phase, scripts.Schedule.stretches_of, declared.{line.Line.Line, schedule.Stretch.Stretch}}
+use Rattle.ix_asking.specs.{Asking.{Asking, Ask, Came, IsDue, first, followed}, declared.copying.Copying.Copying}
 use Rattle.ix_asking.specs.Asking as asking
-use Rattle.ix_lanes.specs.asking.Asked.{Names}
-use Rattle.ix_lanes.specs.asking.LineAsks.{lines_ask}
-use Rattle.ix_lanes.specs.asking.Ruled.{rules_told}
-use Rattle.ix_lanes.specs.histories.Indexed.{line_in}
-use Rattle.ix_lanes.specs.histories.Serial.{header_of}
-use Rattle.ix_lanes.specs.declared.running.part.Part.{Part}
-use Rattle.ix_lanes.specs.running.Left.{IsHere, is_done, is_over, left_from, names_done, next_phase, part_left}
-use Rattle.ix_lanes.specs.running.Phases.{lane_between, lines_before}
-use Rattle.ix_lanes.specs.running.Runs.{StandsFor}
-use Rattle.ix_lanes.specs.running.Stretches.{AreLeft, HasNone, HasOne, IsAmong, stands_in}
-use Rattle.ix_lanes.proofs.found.Roles.{line-there}
-use Rattle.ix_lanes.proofs.phased.Among.{idle_passed, lower, no_phase, stands_apart}
-use Rattle.ix_lanes.proofs.phased.Between.{between_none}
-use Rattle.ix_lanes.proofs.phased.Counted.{past_many, to_few}
-use Rattle.ix_lanes.proofs.phased.Lefts.{begun_more, here_pending, left_in, line_left}
-use Rattle.ix_lanes.proofs.phased.PhaseLines.{before-few, before-grows}
-use Rattle.ix_lanes.proofs.phased.PhaseRuns.{next_asks, stands_next}
+use Rattle.ix_lanes.specs.{asking.{Asked.Names, LineAsks.lines_ask, Ruled.rules_told}, histories.{Indexed.line_in, Serial.header_of}, running.Runs.StandsFor}
+use Rattle.ix_lanes.specs.{declared.running.part.Part.Part, running.Left.{IsHere, is_done, is_over, left_from, names_done, next_phase, part_left}}
+use Rattle.ix_lanes.specs.{running.Phases.{lane_between, lines_before}, running.Stretches.{AreLeft, HasNone, HasOne, IsAmong, stands_in}}
+use Rattle.ix_lanes.proofs.{found.Roles.line-there, phased.Among.{idle_passed, lower, no_phase, stands_apart}, phased.Between.between_none}
+use Rattle.ix_lanes.proofs.{phased.Counted.{past_many, to_few}, phased.Lefts.{begun_more, here_pending, left_in, line_left}}
+use Rattle.ix_lanes.proofs.{phased.PhaseLines.{before-few, before-grows}, phased.PhaseRuns.{next_asks, stands_next}}
 
 module _ (s : List Line) (seat : ℕ) where
   -- no phase begins with a line of the lane

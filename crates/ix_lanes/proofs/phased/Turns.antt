@@ -1,12 +1,10 @@
 -- The line before a stretch.
-use Rattle.std.proofs.Common.{◌≡◌, ℕ, zero, suc, ◌+◌, ◌-◌, true, List, [], ◌∷◌, Option, Some, None, sym, ap, ◌∙◌, arith, inl, inr, slice_get, slice_index_or, true≢false}
-use Rattle.std.proofs.lemmas.Bool.{cases_Bool}
-use Rattle.std.proofs.lemmas.Bool.Decides.{eqb_tells}
-use Rattle.ix_script.specs.lines.Before.{lanes_of}
-use Rattle.ix_script.specs.declared.line.Line.{Line}
-use Rattle.ix_script.specs.declared.line.Line.TheVariants as line
-use Rattle.ix_script.specs.declared.schedule.Stretch.{Stretch}
+use Rattle.std.proofs.Common.{◌≡◌, ℕ, zero, suc, ◌+◌, ◌-◌, true, List, [], ◌∷◌, Option, Some, None, sym, ap, ◌∙◌, arith, inl, inr, slice_get, slice_index_or}
+use Rattle.std.proofs.Common.{true≢false}
+use Rattle.std.proofs.lemmas.Bool.{cases_Bool, Decides.eqb_tells}
+use Rattle.ix_script.specs.{lines.Before.lanes_of, declared.{line.Line.Line, schedule.Stretch.Stretch}}
 use Rattle.ix_script.specs.scripts.Schedule.{begun_after, is_seat, part_len, seat_after, seat_from, stretches_from, stretches_of}
+use Rattle.ix_script.specs.declared.line.Line.TheVariants as line
 use Rattle.ix_lanes.specs.histories.Indexed.{line_in}
 
 -- the lane of a stretch is that of the line before it

@@ -1,16 +1,9 @@
 -- What a lane asks for in all phases.
 use Rattle.std.proofs.Common.{◌≡◌, ℕ, List, None, ap}
-use Rattle.ix_script.specs.lines.Before.{lanes_of}
-use Rattle.ix_script.specs.declared.line.Line.{Line}
-use Rattle.ix_asking.specs.Asking.{Answered}
-use Rattle.ix_asking.specs.Lines.{calls_then, no_calls}
-use Rattle.ix_lanes.specs.asking.Asked.{no_names}
-use Rattle.ix_lanes.specs.asking.LineAsks.{lines_ask}
-use Rattle.ix_lanes.specs.asking.Ruled.{rules_told}
-use Rattle.ix_lanes.specs.histories.Serial.{header_of}
-use Rattle.ix_lanes.specs.histories.Lanes.{calls_of, lane_asks, lines_of_seat}
-use Rattle.ix_script.specs.scripts.Schedule.{phases}
-use Rattle.ix_lanes.specs.running.Phases.{asks_before, calls_before}
+use Rattle.ix_script.specs.{lines.Before.lanes_of, declared.line.Line.Line, scripts.Schedule.phases}
+use Rattle.ix_asking.specs.{Asking.Answered, Lines.{calls_then, no_calls}}
+use Rattle.ix_lanes.specs.{asking.{Asked.no_names, LineAsks.lines_ask, Ruled.rules_told}, running.Phases.{asks_before, calls_before}}
+use Rattle.ix_lanes.specs.histories.{Serial.header_of, Lanes.{calls_of, lane_asks, lines_of_seat}}
 use Rattle.ix_lanes.proofs.phased.PhaseLines.{before-all}
 
 -- all phases have all lines

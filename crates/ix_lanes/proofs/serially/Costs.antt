@@ -1,39 +1,24 @@
 -- What entries cost, and what the lines need that they come from.
 use Rattle.std.proofs.Common.{◌≡◌, ℕ, ◌+◌, ◌≤◌, List, [], ◌∷◌, ◌++◌, length, Option, Some, None, refl, arith, min}
-use Rattle.std.specs.Prelude.{IfSome}
-use Rattle.std.proofs.lemmas.List.Sums.{sum_by-cons, sum_by-append, sum-map}
-use Rattle.std.proofs.lemmas.List.{length-take}
-use Rattle.ix_model.specs.world.World.{Frame, World}
-use Rattle.ix_model.specs.world.Contents.{readable}
-use Rattle.ix_model.specs.rows.Table.{Decision, verdict}
-use Rattle.ix_model.specs.rows.Telling.{told}
-use Rattle.ix_model.specs.rows.Walks.{OpenFile, behind}
-use Rattle.ix_model.specs.history.Cost.{cost_of, cost_of_history}
-use Rattle.ix_model.specs.history.Shown.{AreShown}
-use Rattle.ix_model.specs.history.Step.{answer, plainly, read_answer, step, step_of}
+use Rattle.std.{specs.Prelude.IfSome, proofs.lemmas.List.{Sums.{sum_by-cons, sum_by-append, sum-map}, length-take}}
+use Rattle.ix_model.specs.{world.{World.{Frame, World}, Contents.readable}, rows.{Table.{Decision, verdict}, Telling.told, Walks.{OpenFile, behind}}}
+use Rattle.ix_model.specs.{history.Cost.{cost_of, cost_of_history}, history.Shown.AreShown, history.Step.{answer, plainly, read_answer, step, step_of}}
+use Rattle.ix_model.specs.{history.Events.{Op, Event}, declared.reply.Reply.Reply}
 use Rattle.ix_model.proofs.clean.Showing.{shown_step}
-use Rattle.ix_model.specs.history.Events.{Op, Event}
 use Rattle.ix_model.specs.history.Events as op
-use Rattle.ix_model.specs.declared.reply.Reply.{Reply}
 use Rattle.ix_model.specs.declared.reply.Reply.TheVariants as reply
-use Rattle.ix_script.specs.scripts.Need.{cost_of_line, need}
-use Rattle.ix_script.specs.declared.line.Line.{Line}
+use Rattle.ix_script.specs.{scripts.Need.{cost_of_line, need}, declared.line.{Line.Line, FdWord.FdWord}}
 use Rattle.ix_script.specs.declared.line.Line.TheVariants as line
-use Rattle.ix_script.specs.declared.line.FdWord.{FdWord}
 use Rattle.ix_policy.specs.declared.rule.Rule.{Rule}
-use Rattle.ix_asking.specs.declared.serving.outcome.Outcome.{Outcome}
-use Rattle.ix_asking.specs.Asking.{Asked, Asking}
-use Rattle.ix_asking.specs.Copies.{copies}
+use Rattle.ix_asking.specs.{declared.serving.outcome.Outcome.Outcome, Asking.{Asked, Asking}, Copies.copies}
 use Rattle.ix_asking.proofs.Costs.{AreFew, Costs, copy-costs, costs-mapped}
 use Rattle.ix_privserv.specs.Serving as privileges
 use Rattle.ix_privserv.proofs.Asked as privileges_asked
 use Rattle.ix_sessserv.specs.Serving as sessions
 use Rattle.ix_sessserv.proofs.Asked as sessions_asked
 use Rattle.ix_lanes.specs.declared.asking.handed.Handed.{Handed}
+use Rattle.ix_lanes.specs.asking.{Asked.{Names, Numbers, asked, fd_of, pid_of}, Handing.who_in, LineAsks.{by_rules, line_asks, one_call, server_of}}
 use Rattle.ix_lanes.specs.declared.asking.handed.Handed.TheVariants as handed
-use Rattle.ix_lanes.specs.asking.Asked.{Names, Numbers, asked, fd_of, pid_of}
-use Rattle.ix_lanes.specs.asking.Handing.{who_in}
-use Rattle.ix_lanes.specs.asking.LineAsks.{by_rules, line_asks, one_call, server_of}
 
 -- ---- sums
 pub cost-none : cost_of_history [] ≡ 0

@@ -1,35 +1,18 @@
 -- The calls of a script's histories fit the form of labels that it tells, where its lines do.
-use Rattle.std.proofs.Common.{◌≡◌, ℕ, suc, ◌<◌, nat_lt, Bool, true, false, List, [], ◌∷◌, length, Option, Some, None, refl, sym, ap, subst, arith, inl, inr, if◌then◌else◌}
-use Rattle.std.specs.Prelude.{All, IfSome}
-use Rattle.std.specs.List.{list_all}
-use Rattle.std.proofs.lemmas.Bool.{cases_eq, and_parts, ltb-true}
-use Rattle.std.proofs.lemmas.List.Elements.{All-nil, All-cons, All-tail}
-use Rattle.ix_label.specs.declared.form.Form.{Form}
-use Rattle.ix_label.specs.Forms.{Fits}
-use Rattle.ix_model.specs.history.Events.{Event, Op}
+use Rattle.std.proofs.Common.{◌≡◌, ℕ, suc, ◌<◌, nat_lt, Bool, true, false, List, [], ◌∷◌, length, Option, Some, None, refl, sym, ap, subst, arith, inl, inr}
+use Rattle.std.proofs.Common.{if◌then◌else◌}
+use Rattle.std.{specs.{Prelude.{All, IfSome}, List.list_all}, proofs.lemmas.{Bool.{cases_eq, and_parts, ltb-true}, List.Elements.{All-nil, All-cons, All-tail}}}
+use Rattle.ix_label.specs.{declared.form.Form.Form, Forms.Fits}
+use Rattle.ix_model.specs.history.{Events.{Event, Op}, Spelled.{CallFits, EventsFit}}
 use Rattle.ix_model.specs.history.Events as op
-use Rattle.ix_model.specs.history.Spelled.{CallFits, EventsFit}
 use Rattle.ix_policy.specs.declared.rule.Rule.{Rule}
-use Rattle.ix_script.specs.lines.Before.{form_told, lanes_of}
-use Rattle.ix_script.specs.lines.Fits.{LineFits}
-use Rattle.ix_script.specs.declared.line.Line.{Line}
+use Rattle.ix_script.specs.{lines.{Before.{form_told, lanes_of}, Fits.LineFits}, declared.line.Line.Line, scripts.Schedule.{Numbered, seat_after, is_seat}}
 use Rattle.ix_script.specs.declared.line.Line.TheVariants as line
-use Rattle.ix_asking.specs.Asking.{Asked, Answered, Asking, Done, Ask}
-use Rattle.ix_asking.specs.Lines.{Calls, calls_then}
-use Rattle.ix_asking.specs.Runs.{entry_of}
-use Rattle.ix_asking.proofs.Every.{AllOf}
-use Rattle.ix_asking.proofs.Serves.{GivesNoLabel}
+use Rattle.ix_asking.{specs.{Asking.{Asked, Answered, Asking, Done, Ask}, Lines.{Calls, calls_then}, Runs.entry_of}, proofs.{Every.AllOf, Serves.GivesNoLabel}}
 use Rattle.ix_sessserv.specs.Serving.{clear_of}
-use Rattle.ix_lanes.specs.declared.asking.handed.Handed.{Handed}
-use Rattle.ix_lanes.specs.asking.Asked.{Names, Numbers, asked, named, no_names}
-use Rattle.ix_script.specs.scripts.Schedule.{Numbered, seat_after, is_seat}
-use Rattle.ix_lanes.specs.asking.LineAsks.{line_asks}
-use Rattle.ix_lanes.specs.asking.Ruled.{rules_told}
-use Rattle.ix_lanes.specs.histories.Serial.{header_of}
-use Rattle.ix_lanes.specs.histories.Lanes.{Lanes, calls_of, entries_of, lane_asks, lines_of_seat, replies_of}
-use Rattle.ix_lanes.proofs.serially.LaneSteps.{calls_from, calls-line, entries-mine, entries-other}
-use Rattle.ix_lanes.proofs.serially.LineCalls.{all-of-line}
-use Rattle.ix_lanes.proofs.serially.Told.{told-clear}
+use Rattle.ix_lanes.specs.{declared.asking.handed.Handed.Handed, asking.{Asked.{Names, Numbers, asked, named, no_names}, LineAsks.line_asks, Ruled.rules_told}}
+use Rattle.ix_lanes.specs.histories.{Serial.header_of, Lanes.{Lanes, calls_of, entries_of, lane_asks, lines_of_seat, replies_of}}
+use Rattle.ix_lanes.proofs.serially.{LaneSteps.{calls_from, calls-line, entries-mine, entries-other}, LineCalls.all-of-line, Told.told-clear}
 
 module _ (form : Form) where
   abbrev Fit : Event → Type 0

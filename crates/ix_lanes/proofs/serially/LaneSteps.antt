@@ -1,24 +1,13 @@
 -- What lanes ask for, what they are answered, and their names, a line or an entry at a time.
 use Rattle.std.proofs.Common.{◌≡◌, ℕ, suc, ◌+◌, ◌<◌, true, false, List, [], ◌∷◌, length, Option, Some, refl, sym, arith, if◌then◌else◌}
-use Rattle.std.specs.Prelude.{IfSome}
-use Rattle.std.proofs.lemmas.Bool.{eq-eqb, ne_eqb}
-use Rattle.std.proofs.lemmas.List.{get_or-set_same, get_or-set_other, length-set}
-use Rattle.ix_model.specs.world.Naming.{same_bytes}
-use Rattle.ix_model.specs.world.World.{World}
-use Rattle.ix_model.specs.history.Step.{step_of}
-use Rattle.ix_model.specs.history.Events.{Event}
+use Rattle.std.{specs.Prelude.IfSome, proofs.lemmas.{Bool.{eq-eqb, ne_eqb}, List.{get_or-set_same, get_or-set_other, length-set}}}
+use Rattle.ix_model.specs.{world.{Naming.same_bytes, World.World}, history.{Step.step_of, Events.Event}}
 use Rattle.ix_policy.specs.declared.rule.Rule.{Rule}
-use Rattle.ix_script.specs.declared.line.Line.{Line}
+use Rattle.ix_script.specs.{declared.line.Line.Line, scripts.Schedule.{Numbered, seat_after, seat_from}}
 use Rattle.ix_script.specs.declared.line.Line.TheVariants as line
-use Rattle.ix_asking.specs.Asking.{Answered}
-use Rattle.ix_asking.specs.Lines.{Calls, calls_then, no_calls}
-use Rattle.ix_asking.proofs.Lines.{calls-followed}
-use Rattle.ix_lanes.specs.declared.asking.handed.Handed.{Handed}
-use Rattle.ix_lanes.specs.asking.Asked.{Names, Numbers, named, no_names}
-use Rattle.ix_script.specs.scripts.Schedule.{Numbered, seat_after, seat_from}
-use Rattle.ix_lanes.specs.asking.LineAsks.{line_asks, lines_ask}
-use Rattle.ix_lanes.specs.histories.Serial.{answered, names_of, renamed}
-use Rattle.ix_lanes.specs.histories.Lanes.{entries_of, lines_of_seat, replies_from}
+use Rattle.ix_asking.{specs.{Asking.Answered, Lines.{Calls, calls_then, no_calls}}, proofs.Lines.calls-followed}
+use Rattle.ix_lanes.specs.{declared.asking.handed.Handed.Handed, asking.{Asked.{Names, Numbers, named, no_names}, LineAsks.{line_asks, lines_ask}}}
+use Rattle.ix_lanes.specs.histories.{Serial.{answered, names_of, renamed}, Lanes.{entries_of, lines_of_seat, replies_from}}
 use Rattle.ix_lanes.proofs.found.Indexed.{if_some_below}
 
 -- ---- the lines of a seat's lane

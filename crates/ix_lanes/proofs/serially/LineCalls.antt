@@ -1,25 +1,19 @@
 -- What holds of every call that a line asks for.
-use Rattle.std.proofs.Common.{◌≡◌, ℕ, List, [], ◌∷◌, Option, Some, None, refl}
-use Rattle.std.specs.Prelude.{IfSome}
+use Rattle.std.{proofs.Common.{◌≡◌, ℕ, List, [], ◌∷◌, Option, Some, None, refl}, specs.Prelude.IfSome}
 use Rattle.ix_model.specs.history.Events as op
 use Rattle.ix_policy.specs.declared.rule.Rule.{Rule}
 use Rattle.ix_script.specs.declared.line.Line.{Line}
 use Rattle.ix_script.specs.declared.line.Line.TheVariants as line
-use Rattle.ix_asking.specs.declared.serving.outcome.Outcome.{Outcome}
-use Rattle.ix_asking.specs.Asking.{Asked, Asking}
-use Rattle.ix_asking.specs.Copies.{copies, write_all}
-use Rattle.ix_asking.proofs.Every.{AllOf, all-mapped}
-use Rattle.ix_asking.proofs.Serves.{GivesNoLabel}
+use Rattle.ix_asking.specs.{declared.serving.outcome.Outcome.Outcome, Asking.{Asked, Asking}, Copies.{copies, write_all}}
+use Rattle.ix_asking.proofs.{Every.{AllOf, all-mapped}, Serves.GivesNoLabel}
 use Rattle.ix_privserv.specs.Serving as privileges
 use Rattle.ix_privserv.proofs.Asked as privileges_asked
 use Rattle.ix_sessserv.specs.Serving as sessions
 use Rattle.ix_sessserv.specs.Serving.{clear_of}
 use Rattle.ix_sessserv.proofs.Asked as sessions_asked
-use Rattle.ix_lanes.specs.declared.asking.handed.Handed.{Handed}
-use Rattle.ix_lanes.specs.declared.asking.handed.Handed.TheVariants as handed
-use Rattle.ix_lanes.specs.asking.Asked.{Names, Numbers, asked, fd_of, pid_of}
-use Rattle.ix_lanes.specs.asking.Handing.{who_in}
+use Rattle.ix_lanes.specs.{declared.asking.handed.Handed.Handed, asking.Asked.{Names, Numbers, asked, fd_of, pid_of}, asking.Handing.who_in}
 use Rattle.ix_lanes.specs.asking.LineAsks.{OfLine, by_rules, line_asks, one_call, server_of}
+use Rattle.ix_lanes.specs.declared.asking.handed.Handed.TheVariants as handed
 
 module _ (P : Asked → Type 0) (rules : Option (List Rule)) (header : Numbers) (names : Names) (n : ℕ) where
   -- it holds of the calls of the line n that give no label

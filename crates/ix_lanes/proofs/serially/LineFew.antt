@@ -1,12 +1,8 @@
 -- A line asks for nine calls at most, whatever they are answered.
 use Rattle.std.proofs.Common.{ℕ, List, [], ◌∷◌, Option, Some, None, arith}
-use Rattle.ix_model.specs.declared.ids.Fd.{Fd}
-use Rattle.ix_model.specs.declared.ids.Pid.{Pid}
+use Rattle.ix_model.specs.declared.ids.{Fd.Fd, Pid.Pid}
 use Rattle.ix_policy.specs.declared.rule.Rule.{Rule}
-use Rattle.ix_asking.specs.Asking.{Asked, Asking}
-use Rattle.ix_asking.specs.Copies.{copies, write_all}
-use Rattle.ix_asking.specs.declared.serving.outcome.Outcome.{Outcome}
-use Rattle.ix_asking.specs.serving.Serving.{Server}
+use Rattle.ix_asking.specs.{Asking.{Asked, Asking}, Copies.{copies, write_all}, declared.serving.outcome.Outcome.Outcome, serving.Serving.Server}
 use Rattle.ix_asking.proofs.Few.{Few, few-mapped, few-more}
 use Rattle.ix_privserv.specs.Serving as privileges
 use Rattle.ix_privserv.proofs.Few as privileges_few
@@ -15,10 +11,8 @@ use Rattle.ix_sessserv.proofs.Few as sessions_few
 use Rattle.ix_script.specs.declared.line.Line.{Line}
 use Rattle.ix_script.specs.declared.line.Line.TheVariants as line
 use Rattle.ix_lanes.specs.declared.asking.handed.Handed.{Handed}
+use Rattle.ix_lanes.specs.asking.{Asked.{Names, Numbers, asked, fd_of, pid_of}, Handing.who_in, LineAsks.{by_rules, line_asks, one_call, server_of}}
 use Rattle.ix_lanes.specs.declared.asking.handed.Handed.TheVariants as handed
-use Rattle.ix_lanes.specs.asking.Asked.{Names, Numbers, asked, fd_of, pid_of}
-use Rattle.ix_lanes.specs.asking.Handing.{who_in}
-use Rattle.ix_lanes.specs.asking.LineAsks.{by_rules, line_asks, one_call, server_of}
 
 few_one : (o : Option Asked) → Few 9 (one_call o)
 few_one None = tt

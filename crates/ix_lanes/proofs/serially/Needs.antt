@@ -1,33 +1,17 @@
 -- What a run of a script makes costs no more than the script needs.
-use Rattle.std.proofs.Common.{◌≡◌, ℕ, zero, suc, ◌+◌, ◌≤◌, ◌<◌, ◌==◌, nat_lt, true, List, [], ◌∷◌, ◌++◌, length, Option, Some, None, refl, sym, ap, ◌∙◌, subst, arith, inl, inr, if◌then◌else◌}
-use Rattle.std.specs.Prelude.{IfSome}
-use Rattle.std.specs.List.{list_all}
-use Rattle.std.proofs.lemmas.Bool.{cases_eq, eq-eqb, ne_eqb}
-use Rattle.ix_model.specs.world.World.{World}
-use Rattle.ix_model.specs.opening.Opening.{opening_world}
-use Rattle.ix_model.specs.history.Cost.{cost_of, cost_of_history}
-use Rattle.ix_model.specs.history.Step.{step_of}
-use Rattle.ix_model.specs.history.Events.{Event}
-use Rattle.ix_script.specs.lines.Before.{lanes_of}
-use Rattle.ix_script.specs.scripts.Need.{cost_of_line, need}
-use Rattle.ix_script.specs.scripts.Scripts.{config_of}
+use Rattle.std.proofs.Common.{◌≡◌, ℕ, zero, suc, ◌+◌, ◌≤◌, ◌<◌, ◌==◌, nat_lt, true, List, [], ◌∷◌, ◌++◌, length, Option, Some, None, refl, sym, ap, ◌∙◌, subst}
+use Rattle.std.proofs.Common.{arith, inl, inr, if◌then◌else◌}
+use Rattle.std.{specs.{Prelude.IfSome, List.list_all}, proofs.lemmas.Bool.{cases_eq, eq-eqb, ne_eqb}}
+use Rattle.ix_model.specs.{world.World.World, opening.Opening.opening_world, history.{Cost.{cost_of, cost_of_history}, Step.step_of, Events.Event}}
+use Rattle.ix_script.specs.{lines.Before.lanes_of, scripts.{Need.{cost_of_line, need}, Scripts.config_of, Schedule.{Numbered, seat_after}}}
 use Rattle.ix_script.specs.declared.line.Line.{Line}
 use Rattle.ix_policy.specs.declared.rule.Rule.{Rule}
-use Rattle.ix_asking.specs.Asking.{Answered, Asking, Done, Ask}
-use Rattle.ix_asking.specs.Lines.{Calls, calls_then}
-use Rattle.ix_asking.specs.Runs.{entry_of}
-use Rattle.ix_asking.proofs.Costs.{AreFew, Costs}
-use Rattle.ix_lanes.specs.declared.asking.handed.Handed.{Handed}
-use Rattle.ix_lanes.specs.asking.Asked.{Names, Numbers, named, no_names}
-use Rattle.ix_script.specs.scripts.Schedule.{Numbered, seat_after}
-use Rattle.ix_lanes.specs.asking.LineAsks.{line_asks}
-use Rattle.ix_lanes.specs.asking.Ruled.{rules_told}
+use Rattle.ix_asking.{specs.{Asking.{Answered, Asking, Done, Ask}, Lines.{Calls, calls_then}, Runs.entry_of}, proofs.Costs.{AreFew, Costs}}
+use Rattle.ix_lanes.specs.{declared.asking.handed.Handed.Handed, asking.{Asked.{Names, Numbers, named, no_names}, LineAsks.line_asks, Ruled.rules_told}}
 use Rattle.ix_lanes.specs.histories.Serial.{header_of}
 use Rattle.ix_lanes.specs.histories.Lanes.{Lanes, LanesSoFar, calls_of, entries_of, lane_asks, lines_of_seat, replies_from, replies_of}
-use Rattle.ix_lanes.proofs.serially.Costs.{cost-none, cost-cons, cost-push, need-cons, few_bytes, line-costs}
+use Rattle.ix_lanes.proofs.serially.{Costs.{cost-none, cost-cons, cost-push, need-cons, few_bytes, line-costs}, Told.rules-few, OneEntry.first_seat}
 use Rattle.ix_lanes.proofs.serially.LaneSteps.{calls_from, calls-line, entries-mine, entries-other, replies-mine, replies-other, lines-mine, lines-other}
-use Rattle.ix_lanes.proofs.serially.Told.{rules-few}
-use Rattle.ix_lanes.proofs.serially.OneEntry.{first_seat}
 
 -- ---- sums over seats
 -- the sum of what the seats below n have

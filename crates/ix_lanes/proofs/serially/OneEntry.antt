@@ -1,15 +1,9 @@
 -- One entry more or less at the front of a history, whatever the lanes ask for.
 use Rattle.std.proofs.Common.{◌≡◌, ℕ, ◌+◌, ◌≤◌, ◌<◌, nat_lt, nat_le, true, List, [], ◌∷◌, Some, None, refl, sym, ap, ◌∙◌, subst, arith, inl, inr}
-use Rattle.std.specs.List.{list_all}
-use Rattle.std.proofs.lemmas.Bool.{and_parts, and_from, cases_eq, le-leb, leb-true, lt-ltb, ltb-true}
-use Rattle.ix_model.specs.world.World.{World}
-use Rattle.ix_model.specs.history.Step.{step_of}
-use Rattle.ix_model.specs.history.Events.{Event}
-use Rattle.ix_asking.specs.Asking.{Asked, Answered, Asking, Ask}
-use Rattle.ix_asking.specs.Lines.{Calls, calls_then, with_entry_first}
-use Rattle.ix_asking.specs.Runs.{entry_of}
-use Rattle.ix_lanes.specs.histories.Serial.{answered}
-use Rattle.ix_lanes.specs.histories.Lanes.{entries_of, never_falls, replies_from}
+use Rattle.std.{specs.List.list_all, proofs.lemmas.Bool.{and_parts, and_from, cases_eq, le-leb, leb-true, lt-ltb, ltb-true}}
+use Rattle.ix_model.specs.{world.World.World, history.{Step.step_of, Events.Event}}
+use Rattle.ix_asking.specs.{Asking.{Asked, Answered, Asking, Ask}, Lines.{Calls, calls_then, with_entry_first}, Runs.entry_of}
+use Rattle.ix_lanes.specs.histories.{Serial.answered, Lanes.{entries_of, never_falls, replies_from}}
 use Rattle.ix_lanes.proofs.serially.LaneSteps.{entries-mine, entries-other, replies-mine, replies-other}
 
 -- ---- numbers of lines along entries

@@ -1,25 +1,13 @@
 -- What the lanes of a script ask for from a line on, and within one line.
 use Rattle.std.proofs.Common.{◌≡◌, ℕ, suc, ◌+◌, ◌<◌, ◌==◌, List, [], ◌∷◌, length, Option, Some, None, refl, sym, ap, ◌∙◌, subst, arith, inl, inr, if◌then◌else◌}
 use Rattle.std.proofs.lemmas.Bool.{cases_eq, eq-eqb, ne_eqb}
-use Rattle.ix_model.specs.world.World.{World}
-use Rattle.ix_model.specs.history.Step.{step_of}
-use Rattle.ix_model.specs.history.Events.{Event}
+use Rattle.ix_model.specs.{world.World.World, history.{Step.step_of, Events.Event}}
 use Rattle.ix_policy.specs.declared.rule.Rule.{Rule}
-use Rattle.ix_script.specs.lines.Before.{lanes_of}
-use Rattle.ix_script.specs.declared.line.Line.{Line}
-use Rattle.ix_asking.specs.Asking.{Asked, Answered, Asking, Done, Ask}
-use Rattle.ix_asking.specs.Lines.{Calls, calls_then}
-use Rattle.ix_asking.specs.Runs.{entry_of}
-use Rattle.ix_asking.proofs.Every.{AllOf}
-use Rattle.ix_lanes.specs.declared.asking.handed.Handed.{Handed}
-use Rattle.ix_lanes.specs.asking.Asked.{Names, Numbers, named}
-use Rattle.ix_script.specs.scripts.Schedule.{Numbered, seat_after}
-use Rattle.ix_lanes.specs.asking.LineAsks.{OfLine, line_asks}
-use Rattle.ix_lanes.specs.asking.Ruled.{rules_told}
-use Rattle.ix_lanes.specs.histories.Serial.{answered, header_of, names_of, renamed}
-use Rattle.ix_lanes.specs.histories.Lanes.{lines_of_seat}
-use Rattle.ix_lanes.proofs.serially.LaneSteps.{calls_from, calls-line, lines-mine, lines-other, names-mine, names-other}
-use Rattle.ix_lanes.proofs.serially.LineCalls.{all-numbered}
+use Rattle.ix_script.specs.{lines.Before.lanes_of, declared.line.Line.Line, scripts.Schedule.{Numbered, seat_after}}
+use Rattle.ix_asking.{specs.{Asking.{Asked, Answered, Asking, Done, Ask}, Lines.{Calls, calls_then}, Runs.entry_of}, proofs.Every.AllOf}
+use Rattle.ix_lanes.specs.{declared.asking.handed.Handed.Handed, asking.{Asked.{Names, Numbers, named}, LineAsks.{OfLine, line_asks}, Ruled.rules_told}}
+use Rattle.ix_lanes.specs.histories.{Serial.{answered, header_of, names_of, renamed}, Lanes.lines_of_seat}
+use Rattle.ix_lanes.proofs.{serially.LaneSteps.{calls_from, calls-line, lines-mine, lines-other, names-mine, names-other}, serially.LineCalls.all-numbered}
 use Rattle.ix_lanes.proofs.serially.OneEntry.{Answers, LanesAsk, StartsAt, ask-for}
 
 -- what a seat's lane asks for from a line on, where that line has the number n and stands in the lane of the seat `at`

@@ -1,22 +1,12 @@
 -- What seats have made of a history, and of one that goes on by one seat alone.
-use Rattle.std.proofs.Common.{◌≡◌, ℕ, suc, ◌+◌, ◌==◌, Bool, true, false, List, [], ◌∷◌, ◌++◌, length, refl, sym, ap, ◌∙◌, arith, add-one, append-nil, if◌then◌else◌}
-use Rattle.std.specs.List.{filter, list_all}
-use Rattle.std.proofs.lemmas.Bool.{and_parts, eqb-true, eq-eqb, ne_eqb}
-use Rattle.std.proofs.lemmas.List.Elements.{filter-append}
-use Rattle.ix_model.specs.world.World.{World}
-use Rattle.ix_model.specs.opening.Opening.{opening_world}
-use Rattle.ix_model.specs.history.Step.{step_of, run}
-use Rattle.ix_model.specs.history.Events.{Event}
-use Rattle.ix_model.specs.history.History.{History, world_of}
-use Rattle.ix_model.specs.history.Made.{Made}
-use Rattle.ix_model.specs.history.Seats.{made_of, replied, made_by, GoesOn}
-use Rattle.ix_script.specs.declared.line.Line.{Line}
-use Rattle.ix_script.specs.scripts.Scripts.{config_of}
-use Rattle.ix_asking.specs.Asking.{Answered}
-use Rattle.ix_lanes.specs.histories.Serial.{answered}
-use Rattle.ix_lanes.specs.histories.Lanes.{entries_of, replies_from, replies_of}
-use Rattle.ix_asking.specs.Runs.{answers_of}
-use Rattle.ix_asking.specs.Lines.{events_of}
+use Rattle.std.proofs.Common.{◌≡◌, ℕ, suc, ◌+◌, ◌==◌, Bool, true, false, List, [], ◌∷◌, ◌++◌, length, refl, sym, ap, ◌∙◌, arith, add-one, append-nil}
+use Rattle.std.proofs.Common.{if◌then◌else◌}
+use Rattle.std.{specs.List.{filter, list_all}, proofs.lemmas.{Bool.{and_parts, eqb-true, eq-eqb, ne_eqb}, List.Elements.filter-append}}
+use Rattle.ix_model.specs.{world.World.World, opening.Opening.opening_world}
+use Rattle.ix_model.specs.history.{Step.{step_of, run}, Events.Event, History.{History, world_of}, Made.Made, Seats.{made_of, replied, made_by, GoesOn}}
+use Rattle.ix_script.specs.{declared.line.Line.Line, scripts.Scripts.config_of}
+use Rattle.ix_asking.specs.{Asking.Answered, Runs.answers_of, Lines.events_of}
+use Rattle.ix_lanes.specs.histories.{Serial.answered, Lanes.{entries_of, replies_from, replies_of}}
 
 abbrev by : ℕ → Made → Bool
 by seat m = m.event.seat == seat

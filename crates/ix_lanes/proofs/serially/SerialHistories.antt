@@ -1,27 +1,13 @@
 -- Serial histories of a script: there is one, and it is the serial history.
 use Rattle.std.proofs.Common.{◌≡◌, ℕ, suc, ◌+◌, ◌<◌, List, [], ◌∷◌, length, Option, Some, None, refl, sym, ap, ◌∙◌, subst, arith}
-use Rattle.std.specs.Prelude.{IfSome}
-use Rattle.std.proofs.lemmas.List.{get_or-replicate, length-replicate}
-use Rattle.ix_model.specs.world.World.{World}
-use Rattle.ix_model.specs.opening.Opening.{opening_world}
-use Rattle.ix_model.specs.history.Step.{step_of}
-use Rattle.ix_model.specs.history.Events.{Event}
-use Rattle.ix_script.specs.lines.Before.{lanes_of}
-use Rattle.ix_script.specs.scripts.Scripts.{config_of}
-use Rattle.ix_script.specs.declared.line.Line.{Line}
-use Rattle.ix_asking.specs.Asking.{Answered, Asking, Done, Ask}
-use Rattle.ix_asking.specs.Lines.{Calls}
-use Rattle.ix_asking.specs.Runs.{entry_of}
-use Rattle.ix_asking.proofs.Every.{AllOf}
-use Rattle.ix_lanes.specs.declared.asking.handed.Handed.{Handed}
-use Rattle.ix_lanes.specs.asking.Asked.{Names, no_names}
-use Rattle.ix_lanes.specs.asking.LineAsks.{OfLine, line_asks}
-use Rattle.ix_lanes.specs.asking.Ruled.{rules_told}
-use Rattle.ix_script.specs.scripts.Schedule.{seat_after}
+use Rattle.std.{specs.Prelude.IfSome, proofs.lemmas.List.{get_or-replicate, length-replicate}}
+use Rattle.ix_model.specs.{world.World.World, opening.Opening.opening_world, history.{Step.step_of, Events.Event}}
+use Rattle.ix_script.specs.{lines.Before.lanes_of, scripts.{Scripts.config_of, Schedule.seat_after}, declared.line.Line.Line}
+use Rattle.ix_asking.{specs.{Asking.{Answered, Asking, Done, Ask}, Lines.Calls, Runs.entry_of}, proofs.Every.AllOf}
+use Rattle.ix_lanes.specs.{declared.asking.handed.Handed.Handed, asking.{Asked.{Names, no_names}, LineAsks.{OfLine, line_asks}, Ruled.rules_told}}
 use Rattle.ix_lanes.specs.histories.Serial.{answered, first_names, header_of, made_then, names_of, renamed, serial, serial_from}
 use Rattle.ix_lanes.specs.histories.Lanes.{IsSerial, entries_of, lane_asks, lines_of_seat, replies_from, replies_of}
-use Rattle.ix_lanes.proofs.serially.LaneSteps.{calls_from, entries-mine, length-renamed, seat_within}
-use Rattle.ix_lanes.proofs.serially.LineCalls.{all-numbered}
+use Rattle.ix_lanes.proofs.{serially.LaneSteps.{calls_from, entries-mine, length-renamed, seat_within}, serially.LineCalls.all-numbered}
 use Rattle.ix_lanes.proofs.serially.OneEntry.{Going, StartsAt, first_seat, one_after, one_before}
 use Rattle.ix_lanes.proofs.serially.Remains.{at_line, call_answers, lane_calls, next_seat, others_later, past_line, pending, rest_starts}
 

@@ -1,21 +1,10 @@
 -- The rules by which a script's servers serve.
 use Rattle.std.proofs.Common.{◌≡◌, ℕ, zero, suc, ◌≤◌, List, length, Option, Some, None, Result, Ok, Err, option_and_then, refl, slice_get, subst}
-use Rattle.std.specs.Prelude.{IfSome}
-use Rattle.std.specs.Option.{option_map_or}
-use Rattle.std.proofs.lemmas.List.Elements.{All-get_or}
-use Rattle.std.proofs.lemmas.Option.{slice_get_within, get_or_from_slice_get}
-use Rattle.ix_label.specs.declared.form.Form.{Form}
-use Rattle.ix_label.specs.Category.{bottom}
-use Rattle.ix_label.specs.Forms.{Fits}
-use Rattle.ix_label.proofs.Fitting.{within-bottom, within-fits}
-use Rattle.ix_policy.specs.Policies.{RulesFit, policy}
-use Rattle.ix_policy.specs.declared.fault.PolicyFault.{PolicyFault}
-use Rattle.ix_policy.specs.declared.rule.Rule.{Rule}
-use Rattle.ix_policy.proofs.Counting.{policy-few}
-use Rattle.ix_policy.proofs.Fitting.{policy_fits}
-use Rattle.ix_script.specs.lines.Before.{form_told}
-use Rattle.ix_script.specs.scripts.Scripts.{policy_of}
-use Rattle.ix_script.specs.declared.line.Line.{Line}
+use Rattle.std.{specs.{Prelude.IfSome, Option.option_map_or}, proofs.lemmas.{List.Elements.All-get_or, Option.{slice_get_within, get_or_from_slice_get}}}
+use Rattle.ix_label.{specs.{declared.form.Form.Form, Category.bottom, Forms.Fits}, proofs.Fitting.{within-bottom, within-fits}}
+use Rattle.ix_policy.specs.{Policies.{RulesFit, policy}, declared.{fault.PolicyFault.PolicyFault, rule.Rule.Rule}}
+use Rattle.ix_policy.proofs.{Counting.policy-few, Fitting.policy_fits}
+use Rattle.ix_script.specs.{lines.Before.form_told, scripts.Scripts.policy_of, declared.line.Line.Line}
 use Rattle.ix_sessserv.specs.Serving.{clear_of}
 use Rattle.ix_lanes.specs.asking.Ruled.{rules_told, unless_refused}
 

@@ -1,7 +1,6 @@
 use Rattle.std.proofs.Common.{◌≡◌, [], refl, ◌∙◌, arith}
 use Rattle.ix_script.specs.lines.Before.{proc_name_told}
-use Rattle.ix_lanes.specs.histories.Indexed.{line_in}
-use Rattle.ix_lanes.proofs.found.Roles.{no-proc}
+use Rattle.ix_lanes.{specs.histories.Indexed.line_in, proofs.found.Roles.no-proc}
 use Rattle.ix_lanes.proofs.lanes.add_proc.Goals as goal
 
 pub returns-in_default : goal.returns-in_default

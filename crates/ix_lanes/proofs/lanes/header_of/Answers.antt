@@ -1,8 +1,5 @@
 use Rattle.std.proofs.Common.{◌∙◌, arith, refl}
-use Rattle.ix_lanes.specs.histories.Indexed.{line_in}
-use Rattle.ix_lanes.specs.histories.Serial.{header_of}
-use Rattle.ix_lanes.proofs.found.Numbering.{numbered_on, numbered_end}
-use Rattle.ix_lanes.proofs.found.Roles.{line-there}
+use Rattle.ix_lanes.{specs.histories.{Indexed.line_in, Serial.header_of}, proofs.found.{Numbering.{numbered_on, numbered_end}, Roles.line-there}}
 use Rattle.ix_lanes.proofs.lanes.header_of.Goals as goal
 
 pub loop-index-init : goal.loop-index-init

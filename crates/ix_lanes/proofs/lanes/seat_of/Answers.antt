@@ -1,9 +1,7 @@
 use Rattle.std.proofs.Common.{sym, ap, ◌∙◌, arith}
 use Rattle.ix_model.specs.world.Naming.{same_bytes}
 use Rattle.ix_script.specs.lines.Before.{lanes_of}
-use Rattle.ix_lanes.proofs.found.Indexed.{none_mapped}
-use Rattle.ix_lanes.proofs.found.LaneCount.{lanes_few}
-use Rattle.ix_lanes.proofs.found.SeatSearch.{seat_here, seat_later, seat_none, seat_past}
+use Rattle.ix_lanes.proofs.found.{Indexed.none_mapped, LaneCount.lanes_few, SeatSearch.{seat_here, seat_later, seat_none, seat_past}}
 use Rattle.ix_lanes.proofs.lanes.seat_of.Goals as goal
 
 pub returns-then-eq : goal.returns-then-eq

@@ -1,6 +1,5 @@
 use Rattle.std.proofs.Common.{◌≡◌, drop}
-use Rattle.ix_script.specs.lines.Before.{lanes_of}
-use Rattle.ix_script.specs.scripts.Schedule.{seat_from}
+use Rattle.ix_script.specs.{lines.Before.lanes_of, scripts.Schedule.seat_from}
 use Rattle.ix_lanes.proofs.lanes.seat_of.Given as goal
 
 abbrev pub invariant-loop-seat : goal.invariant-loop-seat

@@ -1,7 +1,6 @@
 use Rattle.std.proofs.Common.{sym, ◌∙◌}
 use Rattle.ix_script.specs.lines.Before.{lanes_of}
-use Rattle.ix_lanes.specs.histories.Indexed.{line_in}
-use Rattle.ix_lanes.proofs.found.Roles.{seat-begun, seat-left, seat-named}
+use Rattle.ix_lanes.{specs.histories.Indexed.line_in, proofs.found.Roles.{seat-begun, seat-left, seat-named}}
 use Rattle.ix_lanes.proofs.lanes.seat_past.Goals as goal
 
 pub returns-in-Phase : goal.returns-in-Phase

@@ -1,6 +1,5 @@
 use Rattle.std.proofs.Common.{sym, ◌∙◌}
-use Rattle.ix_lanes.proofs.found.Indexed.{counted_from_one, is_there}
-use Rattle.ix_lanes.proofs.found.Roles.{line-is}
+use Rattle.ix_lanes.proofs.found.{Indexed.{counted_from_one, is_there}, Roles.line-is}
 use Rattle.ix_lanes.proofs.lines.line_at.Goals as goal
 
 pub returns : goal.returns

@@ -1,11 +1,8 @@
-use Rattle.std.proofs.Common.{rules, ◌≡◌, ℕ, true, Some, refl, ap, ◌∙◌}
-use Rattle.std.specs.FinMap.{contains_key, insert}
+use Rattle.std.{proofs.Common.{rules, ◌≡◌, ℕ, true, Some, refl, ap, ◌∙◌}, specs.FinMap.{contains_key, insert}}
 use Rattle.ix_model.specs.declared.ids.Fd.{Fd}
-use Rattle.ix_lanes.specs.declared.asking.handed.Handed.{Handed}
+use Rattle.ix_lanes.specs.{declared.asking.handed.Handed.Handed, asking.Asked.{first_in, second_in}}
+use Rattle.ix_lanes.proofs.{found.Placing.{given-filled, keeps-inserted}, asking.calls.bind_both.Goals.{in-Two, in_default-handed}}
 use Rattle.ix_lanes.specs.declared.asking.handed.Handed.TheVariants as handed
-use Rattle.ix_lanes.specs.asking.Asked.{first_in, second_in}
-use Rattle.ix_lanes.proofs.found.Placing.{given-filled, keeps-inserted}
-use Rattle.ix_lanes.proofs.asking.calls.bind_both.Goals.{in-Two, in_default-handed}
 use Rattle.ix_lanes.proofs.asking.calls.bind_both.Goals as goal
 
 not-two : (g : Handed) → ((f s : Fd) → g ≡ handed.Two f s → ⊥) → ◌≡◌ {A = ℕ × ℕ} (255, 255) (first_in g, second_in g)

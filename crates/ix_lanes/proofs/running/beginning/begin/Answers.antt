@@ -6,12 +6,8 @@ use Rattle.ix_sessserv.specs.Places as sessions_at
 use Rattle.ix_sessserv.specs.Serving as sessions
 use Rattle.ix_sessserv.specs.declared.server.SessServer.{SessServer}
 use Rattle.ix_asking.specs.Asking.{Asking, IsDue, first, mapped}
-use Rattle.ix_lanes.specs.asking.Handing.{who_in}
-use Rattle.ix_lanes.specs.asking.LineAsks.{by_rules, gives_nothing}
-use Rattle.ix_lanes.specs.asking.Places.{standing}
-use Rattle.ix_lanes.specs.declared.asking.handed.Handed.{Handed}
-use Rattle.ix_lanes.proofs.phased.Lefts.{due_apart, none_asked, one_due}
-use Rattle.ix_lanes.proofs.phased.Served.{copy_asks, login_asks, login_none, one_asks, priv_asks, priv_none}
+use Rattle.ix_lanes.specs.{asking.{Handing.who_in, LineAsks.{by_rules, gives_nothing}, Places.standing}, declared.asking.handed.Handed.Handed}
+use Rattle.ix_lanes.proofs.phased.{Lefts.{due_apart, none_asked, one_due}, Served.{copy_asks, login_asks, login_none, one_asks, priv_asks, priv_none}}
 use Rattle.ix_lanes.proofs.running.beginning.begin.Goals as goal
 
 pub returns-in_default-policy-clause-asks : goal.returns-in_default-policy-clause-asks

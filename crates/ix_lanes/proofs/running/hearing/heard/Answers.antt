@@ -1,13 +1,8 @@
 use Rattle.std.proofs.Common.{◌≡◌, ◌<◌, List, ℕ, sym, ap, ◌∙◌, subst, arith}
-use Rattle.ix_asking.specs.Asking.{Answered, mapped, Asking, Done, IsDue, first, heard}
-use Rattle.ix_asking.specs.declared.serving.outcome.Outcome.{Outcome}
+use Rattle.ix_asking.specs.{Asking.{Answered, mapped, Asking, Done, IsDue, first, heard}, declared.serving.outcome.Outcome.Outcome}
 use Rattle.ix_sessserv.specs.Places as sessions
 use Rattle.ix_sessserv.specs.declared.server.SessServer.{SessServer}
-use Rattle.ix_lanes.specs.asking.Asked.{asked}
-use Rattle.ix_lanes.specs.asking.Handing.{who_in}
-use Rattle.ix_lanes.specs.asking.LineAsks.{one_call}
-use Rattle.ix_lanes.specs.declared.running.part.Part.{Part}
-use Rattle.ix_lanes.specs.running.Left.{part_left, part_most}
+use Rattle.ix_lanes.specs.{asking.{Asked.asked, Handing.who_in, LineAsks.one_call}, declared.running.part.Part.Part, running.Left.{part_left, part_most}}
 use Rattle.ix_lanes.proofs.phased.Lefts.{command_heard, mapped_due, mapped_heard}
 use Rattle.ix_lanes.proofs.running.hearing.heard.Goals as goal
 

@@ -1,9 +1,7 @@
 use Rattle.std.proofs.Common.{◌≡◌, ◌+◌, ◌-◌, ◌<◌, ◌≤◌, ℕ, List, Some, drop, length, min, slice_get, sym, ap, ◌∙◌, arith, take, true≢false}
 use Rattle.ix_script.specs.declared.line.Line.{Line}
-use Rattle.ix_lanes.specs.asking.Places.{has_places, standing}
-use Rattle.ix_lanes.specs.histories.Indexed.{line_in}
-use Rattle.ix_lanes.proofs.found.Roles.{line-there, no-places}
-use Rattle.ix_lanes.proofs.phased.Stretching.{behind_others, line_more, placed, stretch_done}
+use Rattle.ix_lanes.specs.{asking.Places.{has_places, standing}, histories.Indexed.line_in}
+use Rattle.ix_lanes.proofs.{found.Roles.{line-there, no-places}, phased.Stretching.{behind_others, line_more, placed, stretch_done}}
 use Rattle.ix_lanes.proofs.running.lane_calls.add_stretch.Goals.{in-Naming, in_default, then-matches+in_ok-add, else-matches}
 use Rattle.ix_lanes.proofs.running.lane_calls.add_stretch.Goals as goal
 

@@ -1,6 +1,5 @@
 use Rattle.std.proofs.Common.{◌≡◌, ◌≤◌, ◌-◌, true, drop, take}
-use Rattle.ix_lanes.specs.asking.Places.{KeepsPlaces, standing}
-use Rattle.ix_lanes.proofs.phased.Stretching.{placed}
+use Rattle.ix_lanes.{specs.asking.Places.{KeepsPlaces, standing}, proofs.phased.Stretching.placed}
 use Rattle.ix_lanes.proofs.running.lane_calls.add_stretch.Given as goal
 
 abbrev pub invariant-loop-index : goal.invariant-loop-index

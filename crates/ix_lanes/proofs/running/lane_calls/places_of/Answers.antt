@@ -1,10 +1,6 @@
-use Rattle.std.proofs.Common.{◌≤◌, List, length, sym, ap, ◌∙◌, arith}
-use Rattle.std.specs.List.{flat_map}
-use Rattle.std.proofs.lemmas.List.{take_all}
-use Rattle.ix_script.specs.scripts.Schedule.{stretch_lines, stretches_of}
-use Rattle.ix_script.specs.declared.line.Line.{Line}
-use Rattle.ix_lanes.specs.running.Fields.{all_placed}
-use Rattle.ix_lanes.proofs.phased.Stretching.{all_stretches, few_stretches, stretch_more, stretches_past}
+use Rattle.std.{proofs.{Common.{◌≤◌, List, length, sym, ap, ◌∙◌, arith}, lemmas.List.take_all}, specs.List.flat_map}
+use Rattle.ix_script.specs.{scripts.Schedule.{stretch_lines, stretches_of}, declared.line.Line.Line}
+use Rattle.ix_lanes.{specs.running.Fields.all_placed, proofs.phased.Stretching.{all_stretches, few_stretches, stretch_more, stretches_past}}
 use Rattle.ix_lanes.proofs.running.lane_calls.places_of.Goals as goal
 
 pub returns-in_default-clause-all : goal.returns-in_default-clause-all

@@ -1,9 +1,6 @@
-use Rattle.std.proofs.Common.{◌≡◌, ◌≤◌, true, length, take}
-use Rattle.std.specs.List.{flat_map}
+use Rattle.std.{proofs.Common.{◌≡◌, ◌≤◌, true, length, take}, specs.List.flat_map}
 use Rattle.ix_script.specs.scripts.Schedule.{stretch_lines, stretches_of}
-use Rattle.ix_lanes.specs.asking.Asked.{no_names}
-use Rattle.ix_lanes.specs.asking.Places.{standing}
-use Rattle.ix_lanes.specs.running.Fields.{all_placed}
+use Rattle.ix_lanes.specs.{asking.{Asked.no_names, Places.standing}, running.Fields.all_placed}
 use Rattle.ix_lanes.proofs.running.lane_calls.places_of.Given as goal
 
 abbrev pub invariant-loop-n : goal.invariant-loop-n

@@ -1,14 +1,8 @@
-use Rattle.std.proofs.Common.{◌≡◌, ◌+◌, [], drop, length, List, Some, sym, subst, arith, slice_get}
-use Rattle.std.proofs.lemmas.List.{drop_all}
-use Rattle.ix_script.specs.scripts.Schedule.{stretches_of}
-use Rattle.ix_script.specs.declared.line.Line.{Line}
-use Rattle.ix_script.specs.declared.schedule.Stretch.{Stretch}
-use Rattle.ix_lanes.specs.running.Phases.{lines_before}
-use Rattle.ix_lanes.specs.running.Stretches.{AreLeft}
+use Rattle.std.proofs.{Common.{◌≡◌, ◌+◌, [], drop, length, List, Some, sym, subst, arith, slice_get}, lemmas.List.drop_all}
+use Rattle.ix_script.specs.{scripts.Schedule.stretches_of, declared.{line.Line.Line, schedule.Stretch.Stretch}}
+use Rattle.ix_lanes.specs.running.{Phases.lines_before, Stretches.AreLeft}
 use Rattle.ix_lanes.proofs.found.Indexed.{none_left, rest_is}
-use Rattle.ix_lanes.proofs.phased.Among.{stretch_phase}
-use Rattle.ix_lanes.proofs.phased.Stretching.{few_stretches}
-use Rattle.ix_lanes.proofs.phased.TakingPart.{empty_passed, later_there, none_left_there, one_there}
+use Rattle.ix_lanes.proofs.phased.{Among.stretch_phase, Stretching.few_stretches, TakingPart.{empty_passed, later_there, none_left_there, one_there}}
 use Rattle.ix_lanes.proofs.running.phases.has_part.Goals as goal
 
 pub returns-in_default : goal.returns-in_default

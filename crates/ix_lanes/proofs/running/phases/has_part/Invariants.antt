@@ -1,7 +1,6 @@
 use Rattle.std.proofs.Common.{drop, length}
 use Rattle.ix_script.specs.scripts.Schedule.{stretches_of}
-use Rattle.ix_lanes.specs.running.Phases.{lines_before}
-use Rattle.ix_lanes.specs.running.Stretches.{AreLeft}
+use Rattle.ix_lanes.specs.running.{Phases.lines_before, Stretches.AreLeft}
 use Rattle.ix_lanes.proofs.running.phases.has_part.Given as goal
 
 abbrev pub invariant-loop-n : goal.invariant-loop-n

@@ -1,6 +1,5 @@
 use Rattle.std.proofs.Common.{sym, ◌∙◌}
-use Rattle.ix_lanes.specs.histories.Indexed.{line_in}
-use Rattle.ix_lanes.proofs.found.Roles.{no-phase, phase-role}
+use Rattle.ix_lanes.{specs.histories.Indexed.line_in, proofs.found.Roles.{no-phase, phase-role}}
 use Rattle.ix_lanes.proofs.running.phases.is_phase_at.Goals as goal
 
 pub returns-in-Phase : goal.returns-in-Phase

@@ -1,8 +1,7 @@
 use Rattle.std.proofs.Common.{◌≡◌, ◌+◌, ◌<◌, List, length, sym, ◌∙◌, arith, subst}
 use Rattle.ix_script.specs.declared.line.Line.{Line}
 use Rattle.ix_lanes.specs.histories.Indexed.{line_in}
-use Rattle.ix_lanes.proofs.found.Roles.{line-there}
-use Rattle.ix_lanes.proofs.phased.PhaseLines.{Left, before-few, left-first, left-other, left-phase, left-end, left-past}
+use Rattle.ix_lanes.proofs.{found.Roles.line-there, phased.PhaseLines.{Left, before-few, left-first, left-other, left-phase, left-end, left-past}}
 use Rattle.ix_lanes.proofs.running.phases.phase_end.Goals.{then-is_phase_at+else-passed, else-is_phase_at}
 use Rattle.ix_lanes.proofs.running.phases.phase_end.Goals as goal
 

@@ -1,9 +1,5 @@
 use Rattle.std.proofs.Common.{◌≡◌, ◌<◌, ℕ, true, length, map, replicate, slice_index_or}
-use Rattle.ix_lanes.specs.asking.Asked.{no_names}
-use Rattle.ix_lanes.specs.asking.Places.{standing}
-use Rattle.ix_lanes.specs.declared.asking.places.Places.{Places}
-use Rattle.ix_lanes.specs.running.Fields.{all_placed}
-use Rattle.ix_lanes.specs.running.Phases.{lane_among}
+use Rattle.ix_lanes.specs.{asking.{Asked.no_names, Places.standing}, declared.asking.places.Places.Places, running.{Fields.all_placed, Phases.lane_among}}
 use Rattle.ix_lanes.proofs.running.serial_calls.all_places.Given as goal
 
 abbrev pub invariant-loop-seat : goal.invariant-loop-seat

@@ -1,6 +1,5 @@
 use Rattle.std.proofs.Common.{◌++◌, subst, sym}
-use Rattle.ix_lanes.specs.running.SideBySide.{AllRun}
-use Rattle.ix_lanes.proofs.phased.SideBySide.{both_run, one_runs}
+use Rattle.ix_lanes.{specs.running.SideBySide.AllRun, proofs.phased.SideBySide.{both_run, one_runs}}
 use Rattle.ix_lanes.proofs.running.side_by_side.+halves.Goals as goal
 
 pub run_all-returns-then-runners-eq1 : goal.run_all-returns-then-runners-eq1

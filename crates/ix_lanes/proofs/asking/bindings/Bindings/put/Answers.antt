@@ -1,8 +1,5 @@
-use Rattle.std.proofs.Common.{◌≡◌, List, ℕ, true, sym, ap, ◌∙◌, subst}
-use Rattle.std.specs.Option.{option_copied_mut}
-use Rattle.std.specs.FinMap.{contains_key}
-use Rattle.ix_lanes.proofs.found.Keyed.{map-put, not_there, with_value}
-use Rattle.ix_lanes.proofs.asking.bindings.Bindings.put.Goals.{in-Some, in_default}
+use Rattle.std.{proofs.Common.{◌≡◌, List, ℕ, true, sym, ap, ◌∙◌, subst}, specs.{Option.option_copied_mut, FinMap.contains_key}}
+use Rattle.ix_lanes.proofs.{found.Keyed.{map-put, not_there, with_value}, asking.bindings.Bindings.put.Goals.{in-Some, in_default}}
 use Rattle.ix_lanes.proofs.asking.bindings.Bindings.put.Goals as goal
 
 pub returns : goal.returns

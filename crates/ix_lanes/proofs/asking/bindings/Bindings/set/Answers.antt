@@ -1,6 +1,5 @@
 use Rattle.std.proofs.Common.{◌≡◌, ◌∙◌, true, is_ok, not, ap}
-use Rattle.ix_lanes.proofs.found.Keyed.{map-set}
-use Rattle.ix_lanes.proofs.found.Oks.{from_ok}
+use Rattle.ix_lanes.proofs.found.{Keyed.map-set, Oks.from_ok}
 use Rattle.ix_lanes.proofs.asking.bindings.Bindings.set.Goals as goal
 
 pub returns-clause-ok : goal.returns-clause-ok

@@ -1,7 +1,5 @@
-use Rattle.std.proofs.Common.{◌≡◌, ap, ◌∙◌}
-use Rattle.std.specs.FinMap.{empty}
-use Rattle.ix_lanes.specs.asking.Places.{given}
-use Rattle.ix_lanes.proofs.found.Placing.{given-empty}
+use Rattle.std.{proofs.Common.{◌≡◌, ap, ◌∙◌}, specs.FinMap.empty}
+use Rattle.ix_lanes.{specs.asking.Places.given, proofs.found.Placing.given-empty}
 use Rattle.ix_lanes.proofs.asking.places.Places.new.Goals as goal
 
 pub returns : goal.returns

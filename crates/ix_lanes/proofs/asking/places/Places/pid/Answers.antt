@@ -1,6 +1,4 @@
-use Rattle.std.proofs.Common.{sym, ap, ◌∙◌, unwrap_or}
-use Rattle.std.specs.FinMap.{get}
-use Rattle.std.specs.Option.{option_flatten}
+use Rattle.std.{proofs.Common.{sym, ap, ◌∙◌, unwrap_or}, specs.{FinMap.get, Option.option_flatten}}
 use Rattle.ix_lanes.proofs.found.Placing.{get-given}
 use Rattle.ix_lanes.proofs.asking.places.Places.pid.Goals as goal
 

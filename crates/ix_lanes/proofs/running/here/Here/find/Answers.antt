@@ -1,20 +1,11 @@
 use Rattle.std.proofs.Common.{◌≡◌, ◌+◌, ◌-◌, ℕ, false, List, Some, option_map, sym, ap, ◌∙◌, subst, true≢false, arith}
-use Rattle.ix_script.specs.declared.line.Line.{Line}
-use Rattle.ix_script.specs.declared.schedule.Stretch.{Stretch}
+use Rattle.ix_script.specs.declared.{line.Line.Line, schedule.Stretch.Stretch}
 use Rattle.ix_asking.specs.Asking as asking
-use Rattle.ix_lanes.specs.asking.LineAsks.{line_asks, lines_ask}
-use Rattle.ix_lanes.specs.asking.Places.{standing}
-use Rattle.ix_lanes.specs.asking.Ruled.{rules_told}
+use Rattle.ix_lanes.specs.{asking.{LineAsks.{line_asks, lines_ask}, Places.standing, Ruled.rules_told}, histories.Serial.header_of}
+use Rattle.ix_lanes.specs.running.{Left.{is_over, part_left}, Phases.{lane_among, lane_between}, Stretches.IsAmong}
 use Rattle.ix_lanes.specs.declared.asking.handed.Handed.TheVariants as handed
-use Rattle.ix_lanes.specs.histories.Serial.{header_of}
-use Rattle.ix_lanes.specs.running.Left.{is_over, part_left}
-use Rattle.ix_lanes.specs.running.Phases.{lane_among, lane_between}
-use Rattle.ix_lanes.specs.running.Stretches.{IsAmong}
-use Rattle.ix_lanes.proofs.found.Roles.{line-there}
-use Rattle.ix_lanes.proofs.phased.Among.{among_mine, among_more, idle_passed}
-use Rattle.ix_lanes.proofs.phased.Lefts.{here_begun, line_begun, line_skipped, not_over}
-use Rattle.ix_lanes.proofs.phased.Placed.{keeps-lines, placed-line}
-use Rattle.ix_lanes.proofs.running.here.Here.find.Goals.{in-Over, in_default}
+use Rattle.ix_lanes.proofs.{found.Roles.line-there, phased.Among.{among_mine, among_more, idle_passed}, phased.Placed.{keeps-lines, placed-line}}
+use Rattle.ix_lanes.proofs.{phased.Lefts.{here_begun, line_begun, line_skipped, not_over}, running.here.Here.find.Goals.{in-Over, in_default}}
 use Rattle.ix_lanes.proofs.running.here.Here.find.Goals as goal
 
 pub lines-preserved-then-self : goal.lines-preserved-then-self

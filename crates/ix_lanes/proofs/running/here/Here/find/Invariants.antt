@@ -1,10 +1,6 @@
 use Rattle.std.proofs.Common.{◌≡◌, ◌≤◌}
-use Rattle.ix_lanes.specs.asking.LineAsks.{lines_ask}
-use Rattle.ix_lanes.specs.asking.Places.{KeepsPlaces, standing}
-use Rattle.ix_lanes.specs.asking.Ruled.{rules_told}
-use Rattle.ix_lanes.specs.histories.Serial.{header_of}
-use Rattle.ix_lanes.specs.running.Phases.{lane_between}
-use Rattle.ix_lanes.specs.running.Stretches.{IsAmong, steps_to}
+use Rattle.ix_lanes.specs.{asking.{LineAsks.lines_ask, Places.{KeepsPlaces, standing}, Ruled.rules_told}, histories.Serial.header_of}
+use Rattle.ix_lanes.specs.running.{Phases.lane_between, Stretches.{IsAmong, steps_to}}
 use Rattle.ix_lanes.proofs.running.here.Here.find.Given as goal
 
 abbrev pub invariant-lines : goal.invariant-lines

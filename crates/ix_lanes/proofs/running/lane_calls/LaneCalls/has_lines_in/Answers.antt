@@ -1,8 +1,5 @@
 use Rattle.std.proofs.Common.{◌≡◌, true, length, subst}
-use Rattle.ix_lanes.specs.running.Left.{LaneLeft, asks_left, is_done}
-use Rattle.ix_lanes.specs.running.Phases.{lines_before}
-use Rattle.ix_lanes.specs.running.Stretches.{TellsPart}
-use Rattle.ix_lanes.proofs.phased.TakingPart.{left_between}
+use Rattle.ix_lanes.{specs.running.{Left.{LaneLeft, asks_left, is_done}, Phases.lines_before, Stretches.TellsPart}, proofs.phased.TakingPart.left_between}
 use Rattle.ix_lanes.proofs.running.lane_calls.LaneCalls.has_lines_in.Goals as goal
 
 pub returns : goal.returns

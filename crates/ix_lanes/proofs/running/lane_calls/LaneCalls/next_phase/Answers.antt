@@ -1,7 +1,6 @@
 use Rattle.std.proofs.Common.{sym, ap, ◌∙◌}
 use Rattle.ix_asking.specs.Asking.{first}
-use Rattle.ix_lanes.specs.running.Left.{LaneLeft, asks_left, next_phase}
-use Rattle.ix_lanes.proofs.phased.Lefts.{line_left, not_over, phase_here}
+use Rattle.ix_lanes.{specs.running.Left.{LaneLeft, asks_left, next_phase}, proofs.phased.Lefts.{line_left, not_over, phase_here}}
 use Rattle.ix_lanes.proofs.running.lane_calls.LaneCalls.next_phase.Goals as goal
 
 pub returns-in_default : goal.returns-in_default

@@ -1,16 +1,10 @@
 use Rattle.std.proofs.Common.{ℕ, ◌+◌, List, Some, sym, ap, ◌∙◌, subst, arith}
 use Rattle.ix_asking.specs.Asking.{IsDue, first, heard}
-use Rattle.ix_script.specs.declared.line.Line.{Line}
-use Rattle.ix_lanes.specs.asking.Places.{standing}
-use Rattle.ix_lanes.specs.histories.Indexed.{line_in}
-use Rattle.ix_lanes.specs.histories.Serial.{header_of}
-use Rattle.ix_lanes.specs.running.Left.{IsHeard, LaneLeft, asks_left}
-use Rattle.ix_script.specs.declared.schedule.Stretch.{Stretch}
-use Rattle.ix_lanes.specs.running.Stretches.{IsAmong}
+use Rattle.ix_script.specs.declared.{line.Line.Line, schedule.Stretch.Stretch}
+use Rattle.ix_lanes.specs.{asking.Places.standing, histories.{Indexed.line_in, Serial.header_of}}
+use Rattle.ix_lanes.specs.running.{Left.{IsHeard, LaneLeft, asks_left}, Stretches.IsAmong}
 use Rattle.ix_lanes.proofs.found.Roles.{line-there}
-use Rattle.ix_lanes.proofs.phased.Among.{among_mine, among_more}
-use Rattle.ix_lanes.proofs.phased.Lefts.{asks_on, due_left, here_pending, line_left}
-use Rattle.ix_lanes.proofs.phased.Placed.{keeps-lines, placed-line}
+use Rattle.ix_lanes.proofs.phased.{Among.{among_mine, among_more}, Lefts.{asks_on, due_left, here_pending, line_left}, Placed.{keeps-lines, placed-line}}
 use Rattle.ix_lanes.proofs.running.lane_calls.LaneCallsAsks.hear.Goals as goal
 
 pub heard-requires-clause-due : goal.heard-requires-clause-due

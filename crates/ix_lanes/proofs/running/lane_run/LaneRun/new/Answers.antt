@@ -1,9 +1,6 @@
 use Rattle.std.proofs.Common.{[], sym, subst, refl}
-use Rattle.ix_lanes.specs.running.Left.{is_done, names_done}
-use Rattle.ix_lanes.specs.running.Runs.{StandsFor}
-use Rattle.ix_lanes.specs.asking.Asked.{Names}
+use Rattle.ix_lanes.{specs.{running.{Left.{is_done, names_done}, Runs.StandsFor}, asking.Asked.Names}, proofs.phased.PhaseRuns.stands_first}
 use Rattle.ix_asking.specs.Asking.{Asking}
-use Rattle.ix_lanes.proofs.phased.PhaseRuns.{stands_first}
 use Rattle.ix_lanes.proofs.running.lane_run.LaneRun.new.Goals as goal
 
 pub returns-clause-stands : goal.returns-clause-stands

@@ -1,19 +1,11 @@
 use Rattle.std.proofs.Common.{◌≡◌, ℕ, ◌+◌, ◌<◌, ◌++◌, suc, true, not, is_some, true≢false, Bool, List, length, sym, ap, ◌∙◌, subst, arith, add-one}
-use Rattle.ix_model.specs.history.Made.{Made}
-use Rattle.ix_model.specs.declared.reply.Answer.{Answer}
-use Rattle.ix_script.specs.declared.line.Line.{Line}
-use Rattle.ix_asking.specs.Asking.{Asking, Next, came_as, first, next}
-use Rattle.ix_asking.specs.Runs.{answers_of, StopsAt}
-use Rattle.ix_lanes.specs.asking.Asked.{Names}
-use Rattle.ix_lanes.specs.running.Left.{LanePlace, asks_left, is_done, names_done}
-use Rattle.ix_script.specs.scripts.Schedule.{phases}
-use Rattle.ix_lanes.specs.running.Phases.{lines_before}
+use Rattle.ix_model.specs.{history.Made.Made, declared.reply.Answer.Answer}
+use Rattle.ix_script.specs.{declared.line.Line.Line, scripts.Schedule.phases}
+use Rattle.ix_asking.specs.{Asking.{Asking, Next, came_as, first, next}, Runs.{answers_of, StopsAt}}
+use Rattle.ix_lanes.specs.{asking.Asked.Names, running.Left.{LanePlace, asks_left, is_done, names_done}, running.Phases.lines_before, running.Stretches.HasNone}
 use Rattle.ix_lanes.specs.running.Runs.{CutOff, Ran, StandsFor}
-use Rattle.ix_lanes.specs.running.Stretches.{HasNone}
-use Rattle.ix_lanes.proofs.phased.Lefts.{came_done, stops_due}
-use Rattle.ix_lanes.proofs.phased.PhaseLines.{before-few, before-grows, phases-few}
-use Rattle.ix_lanes.proofs.phased.PhaseRuns.{cut_next, goes_on, ran, stands_next}
-use Rattle.ix_lanes.proofs.phased.TakingPart.{idle_asks, next_none, none_next, stands_over}
+use Rattle.ix_lanes.proofs.{phased.Lefts.{came_done, stops_due}, phased.PhaseLines.{before-few, before-grows, phases-few}}
+use Rattle.ix_lanes.proofs.{phased.PhaseRuns.{cut_next, goes_on, ran, stands_next}, phased.TakingPart.{idle_asks, next_none, none_next, stands_over}}
 use Rattle.ix_lanes.proofs.running.lane_run.LaneRun.phase.Goals as goal
 
 pub ask_to-requires-clause-within : goal.ask_to-requires-clause-within

@@ -1,7 +1,5 @@
 use Rattle.std.proofs.Common.{◌≡◌, true, length, sym, ◌∙◌, subst}
-use Rattle.ix_lanes.specs.running.Phases.{lines_before}
-use Rattle.ix_lanes.specs.running.Runs.{Ran}
-use Rattle.ix_lanes.specs.running.Stretches.{TellsPart}
+use Rattle.ix_lanes.specs.running.{Phases.lines_before, Runs.Ran, Stretches.TellsPart}
 use Rattle.ix_lanes.proofs.running.lane_run.LaneRun.takes_part.Goals as goal
 
 pub returns : goal.returns

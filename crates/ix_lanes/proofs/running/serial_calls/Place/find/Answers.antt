@@ -1,23 +1,12 @@
 use Rattle.std.proofs.Common.{◌≡◌, ◌+◌, ◌<◌, ℕ, false, List, Some, length, map, option_map, take, drop, sym, ap, ◌∙◌, true≢false, arith, slice_index_or}
 use Rattle.ix_asking.specs.Asking as asking
-use Rattle.ix_script.specs.lines.Before.{lanes_of}
-use Rattle.ix_script.specs.declared.line.Line.{Line}
-use Rattle.ix_lanes.specs.asking.LineAsks.{line_asks}
-use Rattle.ix_lanes.specs.asking.Places.{standing}
+use Rattle.ix_script.specs.{lines.Before.lanes_of, declared.line.Line.Line, scripts.Schedule.seat_after}
+use Rattle.ix_lanes.specs.{asking.{LineAsks.line_asks, Places.standing}, declared.{asking.places.Places.Places, running.serial_calls.Place.Place}}
+use Rattle.ix_lanes.specs.{histories.{Indexed.line_in, Serial.serial_from}, running.{Left.{is_over, part_left}, Phases.seat_at}}
 use Rattle.ix_lanes.specs.declared.asking.handed.Handed.TheVariants as handed
-use Rattle.ix_lanes.specs.declared.asking.places.Places.{Places}
-use Rattle.ix_lanes.specs.declared.running.serial_calls.Place.{Place}
-use Rattle.ix_lanes.specs.histories.Indexed.{line_in}
-use Rattle.ix_script.specs.scripts.Schedule.{seat_after}
-use Rattle.ix_lanes.specs.histories.Serial.{serial_from}
-use Rattle.ix_lanes.specs.running.Left.{is_over, part_left}
-use Rattle.ix_lanes.specs.running.Phases.{seat_at}
-use Rattle.ix_lanes.proofs.found.Roles.{line-there}
-use Rattle.ix_lanes.proofs.phased.InOrder.{asking_seat, begun_left, begun_within, lane_mine, lane_there, lane_within, placed_set, skipped, unasked}
-use Rattle.ix_lanes.proofs.phased.LaneLines.{seat_one_more}
-use Rattle.ix_lanes.proofs.phased.Lefts.{not_over}
-use Rattle.ix_lanes.proofs.phased.Placed.{placed-line}
+use Rattle.ix_lanes.proofs.{found.Roles.line-there, phased.{LaneLines.seat_one_more, Lefts.not_over, Placed.placed-line}}
 use Rattle.ix_lanes.proofs.running.serial_calls.Place.find.Goals.{in-Some+else-not-matches, in-Over, in_default-matches, in_default}
+use Rattle.ix_lanes.proofs.phased.InOrder.{asking_seat, begun_left, begun_within, lane_mine, lane_there, lane_within, placed_set, skipped, unasked}
 use Rattle.ix_lanes.proofs.running.serial_calls.Place.find.Goals as goal
 
 pub bounds-places-seat : goal.bounds-places-seat

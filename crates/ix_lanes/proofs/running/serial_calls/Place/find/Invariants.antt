@@ -1,9 +1,6 @@
 use Rattle.std.proofs.Common.{◌≡◌, ℕ, ◌+◌, ◌-◌, ◌≤◌, drop, length, map, take}
 use Rattle.ix_model.specs.world.World.{World}
-use Rattle.ix_lanes.specs.asking.Places.{standing}
-use Rattle.ix_lanes.specs.histories.Serial.{serial_from}
-use Rattle.ix_lanes.specs.running.Phases.{seat_at}
-use Rattle.ix_lanes.specs.running.Serially.{ArePlaced}
+use Rattle.ix_lanes.specs.{asking.Places.standing, histories.Serial.serial_from, running.{Phases.seat_at, Serially.ArePlaced}}
 use Rattle.ix_lanes.proofs.running.serial_calls.Place.find.Given as goal
 
 abbrev pub invariant-lines : goal.invariant-lines

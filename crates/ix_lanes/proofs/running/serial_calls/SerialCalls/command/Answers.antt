@@ -1,9 +1,7 @@
 use Rattle.std.proofs.Common.{◌≡◌, List, Some, map, sym, ap, ◌∙◌, arith}
 use Rattle.ix_script.specs.declared.line.Line.{Line}
 use Rattle.ix_lanes.specs.declared.running.part.Part.TheVariants as part
-use Rattle.ix_lanes.specs.asking.Places.{standing}
-use Rattle.ix_lanes.specs.running.Left.{is_over}
-use Rattle.ix_lanes.specs.running.Serially.{SerialLeft, next_entry}
+use Rattle.ix_lanes.specs.{asking.Places.standing, running.{Left.is_over, Serially.{SerialLeft, next_entry}}}
 use Rattle.ix_lanes.proofs.phased.InOrder.{command_next, indexed, lane_within}
 use Rattle.ix_lanes.proofs.running.serial_calls.SerialCalls.command.Goals as goal
 

@@ -1,20 +1,14 @@
 use Rattle.std.proofs.Common.{◌≡◌, ◌∷◌, ◌+◌, ◌<◌, List, Some, is_some, map, drop, sym, ap, ◌∙◌, subst, length, true, arith}
-use Rattle.std.specs.Vec.{with_item}
-use Rattle.std.proofs.lemmas.List.{with_items_is}
-use Rattle.ix_model.specs.history.Step.{step_of}
-use Rattle.ix_model.specs.world.World.{World}
+use Rattle.std.{specs.Vec.with_item, proofs.lemmas.List.with_items_is}
+use Rattle.ix_model.specs.{history.Step.step_of, world.World.World}
 use Rattle.ix_asking.specs.Asking.{Answered}
 use Rattle.ix_script.specs.declared.line.Line.{Line}
-use Rattle.ix_lanes.specs.asking.Asked.{Names}
-use Rattle.ix_lanes.specs.asking.Places.{standing}
-use Rattle.ix_lanes.specs.declared.asking.places.Places.{Places}
-use Rattle.ix_lanes.specs.histories.Indexed.{line_in}
-use Rattle.ix_lanes.specs.histories.Serial.{header_of, names_of, serial_from}
-use Rattle.ix_lanes.specs.running.Left.{IsHeard}
-use Rattle.ix_lanes.specs.running.Serially.{ArePlaced, LeavesLines, SerialLeft, entries_left, most_entries, next_entry}
-use Rattle.ix_lanes.proofs.found.Roles.{line-there}
-use Rattle.ix_lanes.proofs.phased.InOrder.{due_stands, goes_on, indexed, lane_is, lane_mine, lane_within, line_asks_on, line_done, lines_behind, placed_set, still_fewer, still_within}
-use Rattle.ix_lanes.proofs.phased.Placed.{placed-line}
+use Rattle.ix_lanes.specs.{asking.{Asked.Names, Places.standing}, declared.asking.places.Places.Places}
+use Rattle.ix_lanes.specs.histories.{Indexed.line_in, Serial.{header_of, names_of, serial_from}}
+use Rattle.ix_lanes.specs.running.{Left.IsHeard, Serially.{ArePlaced, LeavesLines, SerialLeft, entries_left, most_entries, next_entry}}
+use Rattle.ix_lanes.proofs.{found.Roles.line-there, phased.Placed.placed-line}
+use Rattle.ix_lanes.proofs.phased.InOrder.{due_stands, goes_on, indexed, lane_is, lane_mine, lane_within, line_asks_on, line_done, lines_behind, placed_set}
+use Rattle.ix_lanes.proofs.phased.InOrder.{still_fewer, still_within}
 use Rattle.ix_lanes.proofs.running.serial_calls.SerialCalls.hear.Goals as goal
 
 pub heard-requires-clause-due : goal.heard-requires-clause-due

@@ -1,20 +1,14 @@
 use Rattle.std.proofs.Common.{◌≡◌, List, Some, map, sym, ap, ◌∙◌}
-use Rattle.ix_asking.specs.Asking.{Asking, first}
-use Rattle.ix_asking.specs.declared.serving.outcome.Outcome.{Outcome}
+use Rattle.ix_asking.specs.{Asking.{Asking, first}, declared.serving.outcome.Outcome.Outcome, Steps.next_of}
 use Rattle.ix_privserv.specs.Places as privileges
 use Rattle.ix_privserv.specs.declared.server.PrivServer.{PrivServer}
 use Rattle.ix_sessserv.specs.Places as sessions
 use Rattle.ix_sessserv.specs.declared.server.SessServer.{SessServer}
-use Rattle.ix_asking.specs.Steps.{next_of}
 use Rattle.ix_script.specs.declared.line.Line.{Line}
-use Rattle.ix_lanes.specs.asking.Places.{standing}
-use Rattle.ix_lanes.specs.asking.Handing.{who_in}
+use Rattle.ix_lanes.specs.{asking.{Places.standing, Handing.who_in}, declared.running.part.Part.Part, running.Serially.{entry_next, next_entry}}
+use Rattle.ix_lanes.proofs.{phased.InOrder.{came_next, mapped_next}, running.serial_calls.SerialCalls.next.Goals.{in-Priv, in-Login}}
 use Rattle.ix_lanes.specs.declared.asking.handed.Handed.TheVariants as handed
-use Rattle.ix_lanes.specs.declared.running.part.Part.{Part}
 use Rattle.ix_lanes.specs.declared.running.part.Part.TheVariants as part
-use Rattle.ix_lanes.specs.running.Serially.{entry_next, next_entry}
-use Rattle.ix_lanes.proofs.phased.InOrder.{came_next, mapped_next}
-use Rattle.ix_lanes.proofs.running.serial_calls.SerialCalls.next.Goals.{in-Priv, in-Login}
 use Rattle.ix_lanes.proofs.running.serial_calls.SerialCalls.next.Goals as goal
 
 pub returns-clause-entry : goal.returns-clause-entry

@@ -1,5 +1,4 @@
-use Rattle.std.proofs.Common.{◌≡◌, ◌==◌, ◌+◌, true, sym}
-use Rattle.std.proofs.lemmas.Bool.Decides.{Decides-eqb}
+use Rattle.std.proofs.{Common.{◌≡◌, ◌==◌, ◌+◌, true, sym}, lemmas.Bool.Decides.Decides-eqb}
 use Rattle.ix_script.specs.declared.schedule.Stretch.{Stretch}
 use Rattle.ix_lanes.proofs.phased.Turns.{stretch_begins}
 use Rattle.ix_lanes.proofs.running.turns.Turns.is_next.Goals as goal
