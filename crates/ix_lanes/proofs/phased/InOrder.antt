@@ -228,6 +228,10 @@ due_stands c due = go (is_over c.part) refl c.seat refl
       ap is_some is,
     )
 
+-- and in a run that contracts see so
+pub due_seen : {c d : SerialLeft} → c ≡ d → is_some (next_entry d) ≡ true → (is_over c.part ≡ false) × ((k : ℕ) → c.seat ≡ Some k → IsDue (first (line_left c k))) × (is_some c.seat ≡ true)
+due_seen {c} {d} is due = due_stands c (subst (λ (x : SerialLeft). is_some (next_entry x) ≡ true) (sym is) due)
+
 -- none stands next, and none is left
 pub none_left : (c : SerialLeft) → (is_over c.part ≡ false → (k : ℕ) → c.seat ≡ Some k → IsDue (first (line_left c k))) → next_entry c ≡ None → (w : World) (place : ℕ) → entries_left c w place ≡ []
 none_left c due none w place = go (is_over c.part) refl c.seat refl

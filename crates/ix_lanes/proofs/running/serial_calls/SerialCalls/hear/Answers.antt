@@ -1,4 +1,4 @@
-use Rattle.std.proofs.Common.{◌≡◌, ◌∷◌, ◌+◌, ◌<◌, List, Some, is_some, map, drop, sym, ap, ◌∙◌, subst, length, true, arith}
+use Rattle.std.proofs.Common.{◌≡◌, ◌∷◌, ◌+◌, ◌<◌, List, Some, map, drop, sym, ap, ◌∙◌, subst, length, arith}
 use Rattle.std.{specs.Vec.with_item, proofs.lemmas.List.with_items_is}
 use Rattle.ix_model.specs.{history.Step.step_of, world.World.World}
 use Rattle.ix_asking.specs.Asking.{Answered}
@@ -7,15 +7,14 @@ use Rattle.ix_lanes.specs.{asking.{Asked.Names, Places.standing}, declared.askin
 use Rattle.ix_lanes.specs.histories.{Indexed.line_in, Serial.{header_of, names_of, serial_from}}
 use Rattle.ix_lanes.specs.running.{Left.IsHeard, Serially.{ArePlaced, LeavesLines, SerialLeft, entries_left, most_entries, next_entry}}
 use Rattle.ix_lanes.proofs.{found.Roles.line-there, phased.Placed.placed-line}
-use Rattle.ix_lanes.proofs.phased.InOrder.{due_stands, goes_on, indexed, lane_is, lane_mine, lane_within, line_asks_on, line_done, lines_behind, placed_set}
+use Rattle.ix_lanes.proofs.phased.InOrder.{due_seen, goes_on, indexed, lane_is, lane_mine, lane_within, line_asks_on, line_done, lines_behind, placed_set}
 use Rattle.ix_lanes.proofs.phased.InOrder.{still_fewer, still_within}
 use Rattle.ix_lanes.proofs.running.serial_calls.SerialCalls.hear.Goals as goal
 
 pub heard-requires-clause-due : goal.heard-requires-clause-due
 heard-requires-clause-due c =
     let i = c.self.inside in
-    let v : SerialLeft = record { script = i.script.now; names = map standing i.places.items; at = i.here.at; seat = i.here.seat; copying = i.copying; part = i.part } in
-    let st = due_stands v (subst (λ (x : SerialLeft). is_some (next_entry x) ≡ true) (sym c.self.view_is) c.requires.due) in
+    let st = due_seen c.self.view_is c.requires.due in
     let k = lane_is i.here.seat st.2 in
     (header_of i.script.now, names_of (map standing i.places.items) k.0, i.here.at + 1, line_in i.script.now i.here.at, st.1 k.0 k.1)
 
@@ -23,8 +22,7 @@ pub invariant_of-self : goal.invariant_of-self
 invariant_of-self c =
     let i = c.self.inside in
     let s : List Line = i.script.now in
-    let v : SerialLeft = record { script = s; names = map standing i.places.items; at = i.here.at; seat = i.here.seat; copying = i.copying; part = i.part } in
-    let st = due_stands v (subst (λ (x : SerialLeft). is_some (next_entry x) ≡ true) (sym c.self.view_is) c.requires.due) in
+    let st = due_seen c.self.view_is c.requires.due in
     let k = lane_is i.here.seat st.2 in
     let names : Names = names_of (map standing i.places.items) k.0 in
     let a : Answered = record { reply = c.args.reply.now; bytes = c.args.bytes.now } in
@@ -36,8 +34,7 @@ pub returns-in_default-clause-on : goal.returns-in_default-clause-on
 returns-in_default-clause-on c =
     let i = c.self.inside in
     let s : List Line = i.script.now in
-    let v : SerialLeft = record { script = s; names = map standing i.places.items; at = i.here.at; seat = i.here.seat; copying = i.copying; part = i.part } in
-    let st = due_stands v (subst (λ (x : SerialLeft). is_some (next_entry x) ≡ true) (sym c.self.view_is) c.requires.due) in
+    let st = due_seen c.self.view_is c.requires.due in
     let k = lane_is i.here.seat st.2 in
     let names : Names = names_of (map standing i.places.items) k.0 in
     let a : Answered = record { reply = c.args.reply.now; bytes = c.args.bytes.now } in
@@ -53,8 +50,7 @@ pub returns-in_default-clause-fewer : goal.returns-in_default-clause-fewer
 returns-in_default-clause-fewer c =
     let i = c.self.inside in
     let s : List Line = i.script.now in
-    let v : SerialLeft = record { script = s; names = map standing i.places.items; at = i.here.at; seat = i.here.seat; copying = i.copying; part = i.part } in
-    let st = due_stands v (subst (λ (x : SerialLeft). is_some (next_entry x) ≡ true) (sym c.self.view_is) c.requires.due) in
+    let st = due_seen c.self.view_is c.requires.due in
     let k = lane_is i.here.seat st.2 in
     let names : Names = names_of (map standing i.places.items) k.0 in
     let a : Answered = record { reply = c.args.reply.now; bytes = c.args.bytes.now } in
@@ -82,8 +78,7 @@ bind-requires c =
     let i = c.self.inside in
     let s : List Line = i.script.now in
     let k = c.in-Some-seat.seat in
-    let v : SerialLeft = record { script = s; names = map standing i.places.items; at = i.here.at; seat = i.here.seat; copying = i.copying; part = i.part } in
-    let st = due_stands v (subst (λ (x : SerialLeft). is_some (next_entry x) ≡ true) (sym c.self.view_is) c.requires.due) in
+    let st = due_seen c.self.view_is c.requires.due in
     let is = sym c.self.invariant.1.in_lane ∙ c.in-Some-seat.is in
     let low = lane_within s i.places.items i.here.at k c.self.invariant.0.placed is in
     let there = indexed i.places.items k c.index_mut.result.now low (sym c.index_mut.ensures.value) in
@@ -104,8 +99,7 @@ returns-clause-on c =
     let i = c.self.inside in
     let s : List Line = i.script.now in
     let k = c.in-Some-seat.seat in
-    let v : SerialLeft = record { script = s; names = map standing i.places.items; at = i.here.at; seat = i.here.seat; copying = i.copying; part = i.part } in
-    let st = due_stands v (subst (λ (x : SerialLeft). is_some (next_entry x) ≡ true) (sym c.self.view_is) c.requires.due) in
+    let st = due_seen c.self.view_is c.requires.due in
     let low = lane_within s i.places.items i.here.at k c.self.invariant.0.placed (sym c.self.invariant.1.in_lane ∙ c.in-Some-seat.is) in
     let there = indexed i.places.items k c.index_mut.result.now low (sym c.index_mut.ensures.value) in
     let names : Names = names_of (map standing i.places.items) k in
