@@ -1,32 +1,18 @@
 -- The lanes before the first phase, and once each has met the first behind the last one.
 use Rattle.std.proofs.Common.{◌≡◌, ℕ, zero, suc, ◌<◌, Bool, true, List, length, replicate, Option, Some, sym, ap, ◌∙◌, subst, arith, slice_get, inl, inr, None}
-use Rattle.std.proofs.lemmas.Bool.{cases_eq}
-use Rattle.std.proofs.lemmas.List.{get_or-replicate, length-replicate}
-use Rattle.std.proofs.lemmas.Option.{slice_get-get_or, slice_get_within}
+use Rattle.std.proofs.lemmas.{Bool.cases_eq, List.{get_or-replicate, length-replicate}, Option.{slice_get-get_or, slice_get_within}}
 use mathlib.Core.List.{IsPrefix}
-use Rattle.ix_asking.specs.Lines.{events_of}
-use Rattle.ix_asking.specs.Runs.{answers_of}
+use Rattle.ix_asking.specs.{Lines.events_of, Runs.answers_of}
 use Rattle.ix_gate.specs.Gate.{GateState}
 use Rattle.ix_kernel.specs.Systems.{SystemState, made_at}
-use Rattle.ix_model.specs.history.Events.{Event}
-use Rattle.ix_model.specs.history.Made.{Made}
-use Rattle.ix_model.specs.history.Seats.{made_by}
-use Rattle.ix_model.specs.history.Systems.{FullFor}
-use Rattle.ix_model.specs.declared.reply.Answer.{Answer}
+use Rattle.ix_model.specs.{history.{Events.Event, Made.Made, Seats.made_by, Systems.FullFor}, declared.reply.Answer.Answer}
 use Rattle.ix_model.specs.declared.reply.Answer.TheVariants as answer
-use Rattle.ix_script.specs.lines.Before.{lanes_of}
-use Rattle.ix_script.specs.scripts.Scripts.{config_of}
-use Rattle.ix_script.specs.declared.line.Line.{Line}
-use Rattle.ix_lanes.specs.running.Phases.{calls_before}
-use Rattle.ix_lanes.specs.running.Runs.{Ran}
+use Rattle.ix_script.specs.{lines.Before.lanes_of, scripts.Scripts.config_of, declared.line.Line.Line}
+use Rattle.ix_lanes.specs.running.{Phases.calls_before, Runs.Ran}
 use Rattle.ix_lanes.specs.running.Runs as runs
-use Rattle.ix_parallel.specs.Between.{Between, CutShort, GetsTo, MadeAll, MadeTo, SeesPart, StagesWhere}
-use Rattle.ix_parallel.specs.Meeting.{AllBegin, LearnOfFirst, Learns, SameKernel}
-use Rattle.ix_parallel.specs.Seats.{AreStopped, AtPhase, Runs, Seated, Sees}
-use Rattle.ix_parallel.specs.Stages.{ComesTo, Stages}
-use Rattle.ix_parallel.proofs.together.OneLane.{comes_as_made}
-use Rattle.ix_parallel.proofs.together.OnePhase.{place}
-use Rattle.ix_parallel.proofs.together.Seen.{begin_each_other, made_sees, part_further, part_sees, sees_part}
+use Rattle.ix_parallel.specs.{Between.{Between, CutShort, GetsTo, MadeAll, MadeTo, SeesPart, StagesWhere}, Meeting.{AllBegin, LearnOfFirst, Learns, SameKernel}}
+use Rattle.ix_parallel.specs.{Seats.{AreStopped, AtPhase, Runs, Seated, Sees}, Stages.{ComesTo, Stages}}
+use Rattle.ix_parallel.proofs.together.{OneLane.comes_as_made, OnePhase.place, Seen.{begin_each_other, made_sees, part_further, part_sees, sees_part}}
 
 -- ---- before
 stages_known : (P : ℕ → Type 0) (s : List Line) (k : ℕ) (events : List Event) → Stages s k events → StagesWhere P s k events

@@ -1,26 +1,14 @@
 -- The end of all phases.
-use Rattle.std.specs.List.{list_all}
-use Rattle.std.proofs.Common.{◌≡◌, ℕ, ◌≤◌, nat_lt, List, [], ◌++◌, length, take, drop, Option, Some, None, is_some, true, false, refl, sym, ap, ◌∙◌, subst, arith}
-use Rattle.std.specs.Prelude.{All}
-use Rattle.ix_gate.specs.Gate.{GateState}
-use Rattle.ix_gate.specs.Seat.{StandsFor}
+use Rattle.std.specs.{List.list_all, Prelude.All}
+use Rattle.std.proofs.Common.{◌≡◌, ℕ, ◌≤◌, nat_lt, List, [], ◌++◌, length, take, drop, Option, Some, None, is_some, true, false, refl, sym, ap, ◌∙◌, subst}
+use Rattle.std.proofs.Common.{arith}
+use Rattle.ix_gate.specs.{Gate.GateState, Seat.StandsFor}
 use Rattle.ix_kernel.specs.Seen.{KSeatState}
-use Rattle.ix_model.specs.history.Cost.{cost_of_history}
-use Rattle.ix_model.specs.history.Events.{Event}
-use Rattle.ix_model.specs.declared.config.Config.{Config}
-use Rattle.ix_model.specs.declared.reply.Answer.{Answer}
-use Rattle.ix_script.specs.lines.Before.{lanes_of}
-use Rattle.ix_script.specs.scripts.Need.{need}
-use Rattle.ix_script.specs.scripts.Scripts.{config_of}
-use Rattle.ix_script.specs.declared.line.Line.{Line}
-use Rattle.ix_script.specs.scripts.Schedule.{phases}
+use Rattle.ix_model.specs.{history.{Cost.cost_of_history, Events.Event}, declared.{config.Config.Config, reply.Answer.Answer}}
+use Rattle.ix_script.specs.{lines.Before.lanes_of, scripts.{Need.need, Scripts.config_of, Schedule.phases}, declared.line.Line.Line}
 use Rattle.ix_lanes.specs.histories.History.{IsHistory}
-use Rattle.ix_parallel.specs.Joining.{AllFilled, AllSee, Ended, IsFull, Joined, StandsForAll}
-use Rattle.ix_parallel.specs.Seats.{AreStopped, AtPhase, Runs, Seated}
-use Rattle.ix_parallel.specs.Stages.{Stages}
-use Rattle.ix_parallel.proofs.together.Full.{never_full}
-use Rattle.ix_parallel.proofs.together.Joining.{all_of_seats, written_over}
-use Rattle.ix_parallel.proofs.together.Whole.{stages_make}
+use Rattle.ix_parallel.specs.{Joining.{AllFilled, AllSee, Ended, IsFull, Joined, StandsForAll}, Seats.{AreStopped, AtPhase, Runs, Seated}, Stages.Stages}
+use Rattle.ix_parallel.proofs.together.{Full.never_full, Joining.{all_of_seats, written_over}, Whole.stages_make}
 
 -- the seats of all lanes have seen one history
 pub see_one : (s : List Line) (kernel : GateState) (k : ℕ) (lanes : List Seated) (stop : Option Answer) → Runs s kernel k lanes stop → (history : List Event) × AllSee s kernel history lanes

@@ -1,31 +1,16 @@
 -- A journal of the script's config is never full.
-use Rattle.std.proofs.Common.{◌≡◌, ℕ, ◌+◌, ◌≤◌, nat_lt, true, List, [], ◌∷◌, ◌++◌, length, drop, fold, Option, Some, None, refl, sym, ap, ◌∙◌, subst, arith, append-nil}
-use Rattle.std.specs.Prelude.{IfSome}
-use Rattle.std.specs.List.{list_all}
-use Rattle.std.proofs.lemmas.List.{take-append-drop}
-use Rattle.ix_model.specs.history.Cost.{cost_of_history}
-use Rattle.ix_model.specs.history.Events.{Event}
-use Rattle.ix_script.specs.lines.Before.{lanes_of}
-use Rattle.ix_script.specs.scripts.Need.{need}
-use Rattle.ix_script.specs.declared.line.Line.{Line}
-use Rattle.ix_asking.specs.Asking.{Answered, Asking, Done, Ask, followed}
-use Rattle.ix_asking.specs.Lines.{Calls, calls_then, no_calls}
-use Rattle.ix_lanes.specs.asking.Asked.{Names, no_names}
-use Rattle.ix_script.specs.scripts.Schedule.{Numbered, seat_after}
-use Rattle.ix_lanes.specs.asking.LineAsks.{lines_ask}
-use Rattle.ix_lanes.specs.asking.Ruled.{rules_told}
-use Rattle.ix_lanes.specs.histories.Serial.{header_of}
-use Rattle.ix_lanes.specs.histories.Lanes.{LanesSoFar, calls_of, entries_of, lane_asks, lines_of_seat, replies_of}
+use Rattle.std.proofs.Common.{◌≡◌, ℕ, ◌+◌, ◌≤◌, nat_lt, true, List, [], ◌∷◌, ◌++◌, length, drop, fold, Option, Some, None, refl, sym, ap, ◌∙◌, subst, arith}
+use Rattle.std.proofs.Common.{append-nil}
+use Rattle.std.{specs.{Prelude.IfSome, List.list_all}, proofs.lemmas.List.take-append-drop}
+use Rattle.ix_model.specs.history.{Cost.cost_of_history, Events.Event}
+use Rattle.ix_script.specs.{lines.Before.lanes_of, scripts.{Need.need, Schedule.{Numbered, seat_after}}, declared.line.Line.Line}
+use Rattle.ix_asking.specs.{Asking.{Answered, Asking, Done, Ask, followed}, Lines.{Calls, calls_then, no_calls}}
+use Rattle.ix_lanes.specs.asking.{Asked.{Names, no_names}, LineAsks.lines_ask, Ruled.rules_told}
+use Rattle.ix_lanes.specs.histories.{Serial.header_of, Lanes.{LanesSoFar, calls_of, entries_of, lane_asks, lines_of_seat, replies_of}}
 use Rattle.ix_lanes.specs.running.Phases.{asks_before, lane_among, lane_before, lines_before}
-use Rattle.ix_parallel.specs.Joining.{IsFull}
-use Rattle.ix_parallel.specs.Stages.{ComesTo}
-use Rattle.ix_lanes.proofs.serially.Costs.{cost-push}
-use Rattle.ix_lanes.proofs.serially.Needs.{next_fits}
-use Rattle.ix_lanes.proofs.phased.Appended.{appended, stays_cut}
-use Rattle.ix_lanes.proofs.phased.Between.{asks_append}
-use Rattle.ix_lanes.proofs.phased.LaneLines.{lane-append}
-use Rattle.ix_lanes.proofs.phased.PhaseLines.{before-taken}
-use Rattle.ix_parallel.proofs.together.MadeIn.{one_reply_each}
+use Rattle.ix_parallel.{specs.{Joining.IsFull, Stages.ComesTo}, proofs.together.MadeIn.one_reply_each}
+use Rattle.ix_lanes.proofs.serially.{Costs.cost-push, Needs.next_fits}
+use Rattle.ix_lanes.proofs.phased.{Appended.{appended, stays_cut}, Between.asks_append, LaneLines.lane-append, PhaseLines.before-taken}
 
 -- what isn't answered is no entry
 none_without : {R : Type 0} (seat : ℕ) (p : Asking R) → (calls_then seat p [] no_calls).entries ≡ []

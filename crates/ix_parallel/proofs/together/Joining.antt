@@ -1,20 +1,13 @@
 -- What one seat stands for, once those of all lanes were joined into it.
-use Rattle.std.proofs.Common.{◌≡◌, ℕ, zero, suc, ◌<◌, ◌⊎◌, ⊎_elim, nat_le, nat_lt, Bool, true, false, cond, List, [], ◌∷◌, ◌++◌, length, take, drop}
-use Rattle.std.proofs.Common.{Some, refl, sym, ap, ◌∙◌, subst, arith, inl, inr, append-nil, append_assoc, length-append, slice_get}
-use Rattle.std.specs.Prelude.{All, Contains}
-use Rattle.std.specs.List.{list_all}
-use Rattle.std.proofs.lemmas.Bool.{and_from, cases_eq, lt-ltb}
+use Rattle.std.proofs.Common.{◌≡◌, ℕ, zero, suc, ◌<◌, ◌⊎◌, ⊎_elim, nat_le, nat_lt, Bool, true, false, cond, List, [], ◌∷◌, ◌++◌, length, take, drop, Some, refl}
+use Rattle.std.proofs.Common.{sym, ap, ◌∙◌, subst, arith, inl, inr, append-nil, append_assoc, length-append, slice_get}
+use Rattle.std.{specs.{Prelude.{All, Contains}, List.list_all}, proofs.lemmas.Bool.{and_from, cases_eq, lt-ltb}, proofs.Math.Seq.take-append_seam}
 use Rattle.std.proofs.lemmas.List.Elements.{All-tail, Contains-append_left, Contains-push, Contains-push_cases}
-use Rattle.std.proofs.Math.Seq.{take-append_seam}
-use Rattle.ix_gate.specs.Gate.{GateState}
-use Rattle.ix_gate.specs.History.{longer}
-use Rattle.ix_gate.specs.Seat.{StandsFor, after_meeting}
-use Rattle.ix_kernel.specs.Seen.{KSeatState, own}
-use Rattle.ix_kernel.specs.Systems.{FilledUp}
+use Rattle.ix_gate.specs.{Gate.GateState, History.longer, Seat.{StandsFor, after_meeting}}
+use Rattle.ix_kernel.specs.{Seen.{KSeatState, own}, Systems.FilledUp}
 use Rattle.ix_model.specs.history.Events.{Event}
 use Rattle.ix_script.specs.declared.line.Line.{Line}
-use Rattle.ix_parallel.specs.Joining.{AllFilled, AllSee, Joined, JoinedSoFar}
-use Rattle.ix_parallel.specs.Seats.{Seated, Sees}
+use Rattle.ix_parallel.specs.{Joining.{AllFilled, AllSee, Joined, JoinedSoFar}, Seats.{Seated, Sees}}
 
 -- ---- lists
 -- the element behind a beginning

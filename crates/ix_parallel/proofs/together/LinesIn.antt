@@ -3,17 +3,11 @@ use Rattle.std.proofs.Common.{ℕ, suc, ◌+◌, ◌≤◌, ◌<◌, true, false
 use Rattle.std.proofs.lemmas.Bool.{cases_eq}
 use Rattle.ix_model.specs.history.Events.{Event}
 use Rattle.ix_policy.specs.declared.rule.Rule.{Rule}
-use Rattle.ix_script.specs.declared.line.Line.{Line}
-use Rattle.ix_asking.specs.Asking.{Answered, Asking, Done, Ask}
-use Rattle.ix_asking.specs.Lines.{calls_then, no_calls}
-use Rattle.ix_asking.proofs.Every.{AllOf, all-followed, all-weaker}
-use Rattle.ix_lanes.specs.declared.asking.handed.Handed.{Handed}
-use Rattle.ix_lanes.specs.asking.Asked.{Names, Numbers, named}
-use Rattle.ix_script.specs.scripts.Schedule.{Numbered, seat_after, is_seat}
-use Rattle.ix_lanes.specs.asking.LineAsks.{OfLine, line_asks, lines_ask}
+use Rattle.ix_script.specs.{declared.line.Line.Line, scripts.Schedule.{Numbered, seat_after, is_seat}}
+use Rattle.ix_asking.{specs.{Asking.{Answered, Asking, Done, Ask}, Lines.{calls_then, no_calls}}, proofs.Every.{AllOf, all-followed, all-weaker}}
+use Rattle.ix_lanes.specs.{declared.asking.handed.Handed.Handed, asking.{Asked.{Names, Numbers, named}, LineAsks.{OfLine, line_asks, lines_ask}}}
 use Rattle.ix_lanes.specs.histories.Lanes.{entries_of, lines_of_seat}
-use Rattle.ix_lanes.proofs.serially.LaneSteps.{calls_from, entries-mine, entries-other}
-use Rattle.ix_lanes.proofs.serially.LineCalls.{all-numbered}
+use Rattle.ix_lanes.proofs.serially.{LaneSteps.{calls_from, entries-mine, entries-other}, LineCalls.all-numbered}
 
 -- what holds of the number of each line
 abbrev pub EachNumber : (ℕ → Type 0) → List Numbered → Type 0

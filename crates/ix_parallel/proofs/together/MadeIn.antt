@@ -2,19 +2,10 @@
 use Rattle.std.proofs.Common.{◌≡◌, ℕ, suc, ◌+◌, ◌==◌, true, false, List, [], ◌∷◌, ◌++◌, length, refl, sym, ap, ◌∙◌, subst, arith, if◌then◌else◌}
 use Rattle.std.specs.List.{filter}
 use mathlib.Core.List.{IsPrefix}
-use Rattle.ix_model.specs.world.World.{World}
-use Rattle.ix_model.specs.opening.Opening.{opening_world}
-use Rattle.ix_model.specs.history.Step.{step_of}
-use Rattle.ix_model.specs.history.Events.{Event}
-use Rattle.ix_model.specs.history.Made.{Made}
-use Rattle.ix_model.specs.history.Seats.{made_by, made_of, replied}
-use Rattle.ix_script.specs.scripts.Scripts.{config_of}
-use Rattle.ix_script.specs.declared.line.Line.{Line}
-use Rattle.ix_asking.specs.Asking.{Answered}
-use Rattle.ix_lanes.specs.histories.Serial.{answered}
-use Rattle.ix_lanes.specs.histories.Lanes.{entries_of, replies_from, replies_of}
-use Rattle.ix_asking.specs.Runs.{answers_of}
-use Rattle.ix_asking.specs.Lines.{events_of}
+use Rattle.ix_model.specs.{world.World.World, opening.Opening.opening_world, history.{Step.step_of, Events.Event, Made.Made, Seats.{made_by, made_of, replied}}}
+use Rattle.ix_script.specs.{scripts.Scripts.config_of, declared.line.Line.Line}
+use Rattle.ix_asking.specs.{Asking.Answered, Runs.answers_of, Lines.events_of}
+use Rattle.ix_lanes.specs.histories.{Serial.answered, Lanes.{entries_of, replies_from, replies_of}}
 use Rattle.ix_parallel.proofs.together.Seen.{begin_each_other}
 
 module _ (k : ℕ) where

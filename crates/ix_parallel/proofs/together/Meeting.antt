@@ -4,10 +4,8 @@ use Rattle.std.proofs.lemmas.Bool.{cases_eq}
 use mathlib.Core.List.{IsPrefix}
 use Rattle.ix_kernel.specs.Systems.{SystemState, seat_goes_on_further}
 use Rattle.ix_model.specs.history.Events.{Event}
-use Rattle.ix_parallel.specs.Meeting.{AllBegin, FirstLearns, LearnAll, LearnOfFirst, Learns, LearnsOf, Meets, SameKernel}
-use Rattle.ix_parallel.specs.Seats.{Seated}
-use Rattle.ix_parallel.proofs.together.OnePhase.{place}
-use Rattle.ix_parallel.proofs.together.Seen.{begins_further, same_goes_on}
+use Rattle.ix_parallel.specs.{Meeting.{AllBegin, FirstLearns, LearnAll, LearnOfFirst, Learns, LearnsOf, Meets, SameKernel}, Seats.Seated}
+use Rattle.ix_parallel.proofs.together.{OnePhase.place, Seen.{begins_further, same_goes_on}}
 
 -- ---- learning
 pub learns_not : (lane : Seated) → Learns lane lane

@@ -1,9 +1,7 @@
 -- A meeting of the seats of two lanes of a list.
 use Rattle.std.proofs.Common.{◌≡◌, ◌≢◌, ℕ, zero, suc, ◌-◌, ◌<◌, List, [], ◌∷◌, ◌++◌, length, get_or, set, Some, refl, sym, ap, ◌∙◌, subst, arith, slice_get}
-use Rattle.std.proofs.lemmas.List.{length-set, set-append_left, set-append_right, set-get_or}
-use Rattle.std.proofs.lemmas.Option.{slice_get-get_or}
-use Rattle.ix_parallel.specs.Meeting.{MayMeet, Meets, SameKernel}
-use Rattle.ix_parallel.specs.Seats.{Seated}
+use Rattle.std.proofs.lemmas.{List.{length-set, set-append_left, set-append_right, set-get_or}, Option.slice_get-get_or}
+use Rattle.ix_parallel.specs.{Meeting.{MayMeet, Meets, SameKernel}, Seats.Seated}
 
 -- ---- lists
 pub set_here : {A : Type 0} → (xs : List A) (n : ℕ) (x y : A) → slice_get xs n ≡ Some x → slice_get (set xs n y) n ≡ Some y

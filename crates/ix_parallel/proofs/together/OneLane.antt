@@ -2,29 +2,16 @@
 use Rattle.std.proofs.Common.{◌≡◌, ℕ, suc, ◌<◌, List, Option, Some, None, sym, ap, ◌∙◌, subst, arith}
 use mathlib.Core.List.{IsPrefix}
 use Rattle.ix_gate.specs.Gate.{GateState}
-use Rattle.ix_kernel.specs.Seen.{KSeatState}
-use Rattle.ix_kernel.specs.Systems.{GoesOn, SeatGoesOn, SystemState, made_of, made_at, seat_of, stopped_of, seat_goes_on_further}
-use Rattle.ix_model.specs.history.Events.{Event}
-use Rattle.ix_model.specs.history.Seats.{made_by}
-use Rattle.ix_model.specs.history.Systems.{FullFor}
-use Rattle.ix_model.specs.declared.reply.Answer.{Answer}
+use Rattle.ix_kernel.specs.{Seen.KSeatState, Systems.{GoesOn, SeatGoesOn, SystemState, made_of, made_at, seat_of, stopped_of, seat_goes_on_further}}
+use Rattle.ix_model.specs.{history.{Events.Event, Seats.made_by, Systems.FullFor}, declared.reply.Answer.Answer}
 use Rattle.ix_model.specs.declared.reply.Answer.TheVariants as answer
-use Rattle.ix_script.specs.scripts.Scripts.{config_of}
-use Rattle.ix_script.specs.declared.line.Line.{Line}
-use Rattle.ix_lanes.specs.histories.Lanes.{entries_of, replies_of}
-use Rattle.ix_lanes.specs.running.Phases.{calls_before}
-use Rattle.ix_asking.specs.Runs.{answers_of}
-use Rattle.ix_asking.specs.Lines.{events_of}
-use Rattle.ix_lanes.specs.running.Runs.{Ran}
-use Rattle.ix_lanes.specs.running.Runs as runs
-use Rattle.ix_lanes.specs.running.SideBySide.{RunsPhase}
+use Rattle.ix_script.specs.{scripts.Scripts.config_of, declared.line.Line.Line}
+use Rattle.ix_lanes.specs.{histories.Lanes.{entries_of, replies_of}, running.{Phases.calls_before, Runs.Ran, SideBySide.RunsPhase}}
 use Rattle.ix_lanes.proofs.phased.Standing.{cut_calls, stands_calls}
-use Rattle.ix_parallel.specs.Between.{MadeTo, Waits}
-use Rattle.ix_parallel.specs.Meeting.{Learns}
-use Rattle.ix_parallel.specs.Seats.{Seated}
-use Rattle.ix_parallel.specs.Stages.{ComesTo}
-use Rattle.ix_parallel.proofs.together.MadeIn.{made_between, made_entries, made_replies}
-use Rattle.ix_parallel.proofs.together.Seen.{begins_itself, made_part, made_sees, part_further}
+use Rattle.ix_asking.specs.{Runs.answers_of, Lines.events_of}
+use Rattle.ix_lanes.specs.running.Runs as runs
+use Rattle.ix_parallel.specs.{Between.{MadeTo, Waits}, Meeting.Learns, Seats.Seated, Stages.ComesTo}
+use Rattle.ix_parallel.proofs.together.{MadeIn.{made_between, made_entries, made_replies}, Seen.{begins_itself, made_part, made_sees, part_further}}
 
 -- a lane with its seat runs a phase
 abbrev pub RunsSeated : Seated → Seated → Option Answer → Type 0

@@ -1,27 +1,18 @@
 -- What all lanes come to in a phase, in which some take part.
-use Rattle.std.proofs.Common.{◌≡◌, ℕ, zero, suc, ◌<◌, List, [], ◌∷◌, length, get_or, is_some, Bool, true, false, Option, Some, None, refl, sym, ap, ◌∙◌, subst, arith, slice_get, inl, inr, ◌⊎◌, ⊎_elim}
-use Rattle.std.specs.Prelude.{All}
-use Rattle.std.proofs.lemmas.Bool.{cases_eq}
-use Rattle.std.proofs.lemmas.Option.{slice_get-get_or, slice_get_within}
+use Rattle.std.proofs.Common.{◌≡◌, ℕ, zero, suc, ◌<◌, List, [], ◌∷◌, length, get_or, is_some, Bool, true, false, Option, Some, None, refl, sym, ap, ◌∙◌, subst}
+use Rattle.std.proofs.Common.{arith, slice_get, inl, inr, ◌⊎◌, ⊎_elim}
+use Rattle.std.{specs.Prelude.All, proofs.lemmas.{Bool.cases_eq, Option.{slice_get-get_or, slice_get_within}}}
 use mathlib.Core.List.{IsPrefix}
 use Rattle.ix_gate.specs.Gate.{GateState}
 use Rattle.ix_kernel.specs.Systems.{SystemState, made_at}
-use Rattle.ix_model.specs.history.Events.{Event}
-use Rattle.ix_model.specs.history.Seats.{made_by}
-use Rattle.ix_model.specs.declared.reply.Answer.{Answer}
-use Rattle.ix_script.specs.lines.Before.{lanes_of}
-use Rattle.ix_script.specs.scripts.Scripts.{config_of}
-use Rattle.ix_script.specs.declared.line.Line.{Line}
-use Rattle.ix_script.specs.scripts.Schedule.{phases}
-use Rattle.ix_lanes.specs.running.Phases.{lines_before}
-use Rattle.ix_lanes.specs.running.Runs.{Ran}
+use Rattle.ix_model.specs.{history.{Events.Event, Seats.made_by}, declared.reply.Answer.Answer}
+use Rattle.ix_script.specs.{lines.Before.lanes_of, scripts.{Scripts.config_of, Schedule.phases}, declared.line.Line.Line}
+use Rattle.ix_lanes.specs.running.{Phases.lines_before, Runs.Ran, SideBySide.{AllRun, EachRuns, IsReady, first_stop}, Stretches.{HasNone, TellsPart}}
 use Rattle.ix_lanes.specs.running.Runs as runs
-use Rattle.ix_lanes.specs.running.SideBySide.{AllRun, EachRuns, IsReady, first_stop}
-use Rattle.ix_lanes.specs.running.Stretches.{HasNone, TellsPart}
-use Rattle.ix_parallel.specs.Between.{Between, CutShort, GetsTo, MadeAll, StagesWhere, TellParts, Waits}
+use Rattle.ix_parallel.specs.{Between.{Between, CutShort, GetsTo, MadeAll, StagesWhere, TellParts, Waits}, Seats.Seated}
 use Rattle.ix_parallel.specs.Meeting.{AllBegin, FirstLearns, LearnAll, LearnOfFirst, Learns, SameKernel}
-use Rattle.ix_parallel.specs.Seats.{Seated}
-use Rattle.ix_parallel.proofs.together.OneLane.{RunsSeated, comes_as_made, idle_made, lane_cut, lane_done, lane_goes, lane_kernel, lane_made, lane_waits, met_made}
+use Rattle.ix_parallel.proofs.together.OneLane.{RunsSeated, comes_as_made, idle_made, lane_cut, lane_done, lane_goes, lane_kernel, lane_made, lane_waits}
+use Rattle.ix_parallel.proofs.together.OneLane.{met_made}
 use Rattle.ix_parallel.proofs.together.Seen.{begin_each_other, begins_further, begins_itself, part_further}
 
 -- ---- lists, by places

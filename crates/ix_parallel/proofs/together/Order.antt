@@ -1,31 +1,16 @@
 -- Where the lanes make the entries of a phase behind those of the phases before, phases never fall.
-use Rattle.std.proofs.Common.{◌≡◌, ℕ, zero, suc, ◌+◌, ◌-◌, ◌≤◌, ◌<◌, ◌==◌, nat_le, nat_lt, true, List, [], ◌∷◌, ◌++◌, length, take, drop, fold, None, refl, sym, ap, ◌∙◌, subst, arith}
+use Rattle.std.proofs.Common.{◌≡◌, ℕ, zero, suc, ◌+◌, ◌-◌, ◌≤◌, ◌<◌, ◌==◌, nat_le, nat_lt, true, List, [], ◌∷◌, ◌++◌, length, take, drop, fold, None, refl, sym}
+use Rattle.std.proofs.Common.{ap, ◌∙◌, subst, arith}
 use Rattle.std.specs.List.{list_all}
-use Rattle.std.proofs.Math.Seq.{take-add}
-use Rattle.std.proofs.lemmas.List.{append_cancel_left, length-take}
-use Rattle.std.proofs.lemmas.List.Elements.{filter-append}
-use Rattle.std.proofs.lemmas.Bool.{and_parts, and_from, le-leb}
+use Rattle.std.proofs.{Math.Seq.take-add, lemmas.{List.{append_cancel_left, length-take, Elements.filter-append}, Bool.{and_parts, and_from, le-leb}}}
 use Rattle.ix_model.specs.history.Events.{Event}
-use Rattle.ix_script.specs.lines.Before.{lanes_of}
-use Rattle.ix_script.specs.declared.line.Line.{Line}
-use Rattle.ix_asking.specs.Asking.{Asking, followed}
-use Rattle.ix_asking.specs.Lines.{Calls, calls_then, no_calls}
-use Rattle.ix_lanes.specs.asking.Asked.{Names, no_names}
-use Rattle.ix_script.specs.scripts.Schedule.{Numbered, seat_after}
-use Rattle.ix_lanes.specs.asking.LineAsks.{lines_ask}
-use Rattle.ix_lanes.specs.asking.Ruled.{rules_told}
-use Rattle.ix_lanes.specs.histories.Serial.{header_of}
-use Rattle.ix_lanes.specs.histories.Lanes.{entries_of, lines_of_seat, replies_of}
+use Rattle.ix_script.specs.{lines.Before.lanes_of, declared.line.Line.Line, scripts.Schedule.{Numbered, seat_after}}
+use Rattle.ix_asking.specs.{Asking.{Asking, followed}, Lines.{Calls, calls_then, no_calls}}
+use Rattle.ix_lanes.specs.asking.{Asked.{Names, no_names}, LineAsks.lines_ask, Ruled.rules_told}
+use Rattle.ix_lanes.specs.histories.{Serial.header_of, Lanes.{entries_of, lines_of_seat, replies_of}, History.{phase_of, phases_never_fall}}
 use Rattle.ix_lanes.specs.running.Phases.{asks_before, calls_before, lane_among, lane_before, lines_before}
-use Rattle.ix_lanes.specs.histories.History.{phase_of, phases_never_fall}
-use Rattle.ix_parallel.specs.Stages.{ComesTo, LanesTo, Stages}
-use Rattle.ix_lanes.proofs.serially.OneEntry.{first_seat}
-use Rattle.ix_lanes.proofs.phased.Appended.{appended}
-use Rattle.ix_lanes.proofs.phased.Between.{asks_append}
-use Rattle.ix_lanes.proofs.phased.LaneLines.{lane-append}
-use Rattle.ix_lanes.proofs.phased.PhaseLines.{before-taken}
-use Rattle.ix_parallel.proofs.together.MadeIn.{more_replies, one_reply_each}
-use Rattle.ix_parallel.proofs.together.PhaseOf.{before_further, phase_at}
+use Rattle.ix_parallel.{specs.Stages.{ComesTo, LanesTo, Stages}, proofs.together.{MadeIn.{more_replies, one_reply_each}, PhaseOf.{before_further, phase_at}}}
+use Rattle.ix_lanes.proofs.{serially.OneEntry.first_seat, phased.{Appended.appended, Between.asks_append, LaneLines.lane-append, PhaseLines.before-taken}}
 use Rattle.ix_parallel.proofs.together.LinesIn.{EachLine, EachNumber, Within, each_append, each_in_lane, each_of_seats, each_of_lines, each_weaker}
 
 -- ---- seats

@@ -2,9 +2,7 @@
 use Rattle.std.proofs.Common.{◌≡◌, ℕ, ◌+◌, ◌<◌, Bool, true, List, length, set, Some, sym, ◌∙◌, subst, arith, slice_get, inl, inr}
 use Rattle.std.proofs.lemmas.Bool.{cases_eq}
 use Rattle.ix_lanes.specs.running.Stretches.{TellsPart}
-use Rattle.ix_parallel.specs.Seats.{Seated}
-use Rattle.ix_parallel.proofs.together.MetAt.{set_else, set_here}
-use Rattle.ix_parallel.proofs.together.OnePhase.{place}
+use Rattle.ix_parallel.{specs.Seats.Seated, proofs.together.{MetAt.{set_else, set_here}, OnePhase.place}}
 
 -- of the first lanes it is told
 abbrev pub TellFirst : ℕ → ℕ → List Seated → List Bool → Type 0

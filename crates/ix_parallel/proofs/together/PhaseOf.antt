@@ -1,15 +1,10 @@
 -- The phase of a line, by where it stands.
 use Rattle.std.proofs.Common.{◌≡◌, ℕ, zero, suc, ◌+◌, ◌≤◌, ◌<◌, nat_le, Bool, true, false, cond, List, [], ◌∷◌, length, take, count_by, refl, ap, arith}
-use Rattle.std.proofs.lemmas.List.{length-take}
-use Rattle.std.proofs.lemmas.Bool.{and_parts, and_from, le-leb, leb-true}
+use Rattle.std.proofs.lemmas.{List.length-take, Bool.{and_parts, and_from, le-leb, leb-true}}
 use Rattle.ix_model.specs.history.Events.{Event}
-use Rattle.ix_script.specs.declared.line.Line.{Line}
-use Rattle.ix_lanes.specs.histories.Lanes.{never_falls}
-use Rattle.ix_script.specs.lines.Before.{is_phase}
-use Rattle.ix_lanes.specs.running.Phases.{lines_before, lines_to}
-use Rattle.ix_lanes.specs.histories.History.{phase_of, phases_never_fall}
-use Rattle.ix_lanes.proofs.phased.Counted.{past_many, to_few}
-use Rattle.ix_lanes.proofs.phased.PhaseLines.{before-taken, count-cons, to-none, to-other, to-phase, to-stop}
+use Rattle.ix_script.specs.{declared.line.Line.Line, lines.Before.is_phase}
+use Rattle.ix_lanes.specs.{histories.{Lanes.never_falls, History.{phase_of, phases_never_fall}}, running.Phases.{lines_before, lines_to}}
+use Rattle.ix_lanes.proofs.phased.{Counted.{past_many, to_few}, PhaseLines.{before-taken, count-cons, to-none, to-other, to-phase, to-stop}}
 
 -- ---- from one phase to the next
 to_further : (s : List Line) (k : ℕ) → length (lines_to k s) ≤ length (lines_to (suc k) s)

@@ -1,20 +1,14 @@
 -- Lanes that get their seats.
-use Rattle.std.proofs.Common.{◌≡◌, ℕ, zero, suc, ◌+◌, ◌≤◌, ◌<◌, ⊎_elim, true, List, [], ◌∷◌, ◌++◌, length, drop, Some, refl, sym, ap, ◌∙◌, subst, arith, slice_get, length-append, length-drop}
+use Rattle.std.proofs.Common.{◌≡◌, ℕ, zero, suc, ◌+◌, ◌≤◌, ◌<◌, ⊎_elim, true, List, [], ◌∷◌, ◌++◌, length, drop, Some, refl, sym, ap, ◌∙◌, subst, arith}
+use Rattle.std.proofs.Common.{slice_get, length-append, length-drop}
 use Rattle.std.proofs.lemmas.Option.{slice_get_within}
-use Rattle.ix_gate.specs.Gate.{GateState}
-use Rattle.ix_gate.specs.Seat.{new_seat}
-use Rattle.ix_kernel.specs.Seen.{KSeatState}
-use Rattle.ix_kernel.specs.Systems.{made_at}
-use Rattle.ix_model.specs.history.Seats.{made_by}
-use Rattle.ix_model.specs.declared.config.Config.{Config}
-use Rattle.ix_script.specs.lines.Before.{lanes_of}
-use Rattle.ix_script.specs.scripts.Scripts.{config_of}
-use Rattle.ix_script.specs.declared.line.Line.{Line}
-use Rattle.ix_lanes.specs.asking.Asked.{no_names}
-use Rattle.ix_lanes.specs.running.Runs.{Ran}
+use Rattle.ix_gate.specs.{Gate.GateState, Seat.new_seat}
+use Rattle.ix_kernel.specs.{Seen.KSeatState, Systems.made_at}
+use Rattle.ix_model.specs.{history.Seats.made_by, declared.config.Config.Config}
+use Rattle.ix_script.specs.{lines.Before.lanes_of, scripts.Scripts.config_of, declared.line.Line.Line}
+use Rattle.ix_lanes.specs.{asking.Asked.no_names, running.Runs.Ran}
 use Rattle.ix_lanes.specs.running.Runs as runs
-use Rattle.ix_parallel.specs.Seats.{AreNew, AtPhase, Seated, SeatedSoFar, Stands}
-use Rattle.ix_parallel.proofs.together.Joining.{in_push_at}
+use Rattle.ix_parallel.{specs.Seats.{AreNew, AtPhase, Seated, SeatedSoFar, Stands}, proofs.together.Joining.in_push_at}
 
 -- what is left begins with the seat of the number
 pub left_begins : {A : Type 0} → (xs : List A) (n : ℕ) (y : A) (ys : List A) → drop n xs ≡ y ∷ ys → (slice_get xs n ≡ Some y) × (drop (suc n) xs ≡ ys)

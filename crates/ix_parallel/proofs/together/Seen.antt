@@ -1,21 +1,12 @@
 -- What is seen of one history: beginnings of it, and what a seat made of it.
 use Rattle.std.proofs.Common.{◌≡◌, ℕ, List, [], ◌++◌, length, Option, refl, sym, ap, ◌∙◌, subst, arith, append-nil, append_assoc, length-append}
-use Rattle.std.specs.Option.{option_map_or}
-use Rattle.std.proofs.lemmas.List.{nil_from_length}
+use Rattle.std.{specs.Option.option_map_or, proofs.lemmas.List.nil_from_length}
 use mathlib.Core.List.{IsPrefix}
-use Rattle.ix_gate.specs.History.{longer}
-use Rattle.ix_gate.specs.Gate.{GateState}
-use Rattle.ix_gate.proofs.Prefixes.{by_length}
-use Rattle.ix_kernel.specs.Seen.{KSeatState}
-use Rattle.ix_kernel.specs.Systems.{SeatGoesOn, made_at}
-use Rattle.ix_model.specs.history.Events.{Event}
-use Rattle.ix_model.specs.history.Made.{Made}
-use Rattle.ix_model.specs.history.Seats.{made_by}
-use Rattle.ix_model.specs.declared.config.Config.{Config}
-use Rattle.ix_script.specs.scripts.Scripts.{config_of}
-use Rattle.ix_script.specs.declared.line.Line.{Line}
-use Rattle.ix_parallel.specs.Between.{SeesPart}
-use Rattle.ix_parallel.specs.Seats.{Sees}
+use Rattle.ix_gate.{specs.{History.longer, Gate.GateState}, proofs.Prefixes.by_length}
+use Rattle.ix_kernel.specs.{Seen.KSeatState, Systems.{SeatGoesOn, made_at}}
+use Rattle.ix_model.specs.{history.{Events.Event, Made.Made, Seats.made_by}, declared.config.Config.Config}
+use Rattle.ix_script.specs.{scripts.Scripts.config_of, declared.line.Line.Line}
+use Rattle.ix_parallel.specs.{Between.SeesPart, Seats.Sees}
 
 module _ {A : Type 0} where
   pub begins_itself : (xs : List A) → IsPrefix xs xs

@@ -1,18 +1,10 @@
 -- What the lanes made in all phases is a history of the script.
-use Rattle.std.proofs.Common.{◌≡◌, nat_lt, true, List, length, sym, ◌∙◌}
-use Rattle.std.specs.List.{list_all}
+use Rattle.std.{proofs.Common.{◌≡◌, nat_lt, true, List, length, sym, ◌∙◌}, specs.List.list_all}
 use Rattle.ix_model.specs.history.Events.{Event}
-use Rattle.ix_script.specs.lines.Before.{lanes_of}
-use Rattle.ix_script.specs.declared.line.Line.{Line}
-use Rattle.ix_lanes.specs.histories.Serial.{serial}
-use Rattle.ix_lanes.specs.histories.Lanes.{replies_of}
-use Rattle.ix_script.specs.scripts.Schedule.{phases}
-use Rattle.ix_lanes.specs.histories.History.{IsHistory}
-use Rattle.ix_parallel.specs.Stages.{Stages}
-use Rattle.ix_lanes.proofs.serially.AllPhases.{all_phases}
-use Rattle.ix_lanes.proofs.serially.SerialHistories.{serial_serial}
-use Rattle.ix_parallel.proofs.together.PhaseOf.{by_lines}
-use Rattle.ix_parallel.proofs.together.Order.{all_within, lanes_come_to, stages_in_order}
+use Rattle.ix_script.specs.{lines.Before.lanes_of, declared.line.Line.Line, scripts.Schedule.phases}
+use Rattle.ix_lanes.specs.histories.{Serial.serial, Lanes.replies_of, History.IsHistory}
+use Rattle.ix_lanes.proofs.serially.{AllPhases.all_phases, SerialHistories.serial_serial}
+use Rattle.ix_parallel.{specs.Stages.Stages, proofs.together.{PhaseOf.by_lines, Order.{all_within, lanes_come_to, stages_in_order}}}
 
 pub stages_make : (s : List Line) (events : List Event) → Stages s (phases s) events → list_all (λ e. nat_lt e.seat (length (lanes_of s))) events ≡ true → IsHistory s events
 stages_make s events h seats = record {

@@ -1,10 +1,6 @@
-use Rattle.std.proofs.Common.{◌≡◌, ◌∷◌, List, [], length, sym, ap, ◌∙◌, subst, arith}
-use Rattle.std.specs.Prelude.{IfNone}
-use Rattle.std.proofs.lemmas.List.{nil_from_length}
+use Rattle.std.{proofs.{Common.{◌≡◌, ◌∷◌, List, [], length, sym, ap, ◌∙◌, subst, arith}, lemmas.List.nil_from_length}, specs.Prelude.IfNone}
 use Rattle.ix_kernel.specs.Seen.{KSeatState}
-use Rattle.ix_parallel.specs.Joining.{JoinedSoFar}
-use Rattle.ix_parallel.specs.Seats.{Seated}
-use Rattle.ix_parallel.proofs.together.Joining.{joined_begin, joined_end, joined_gates, joined_step}
+use Rattle.ix_parallel.{specs.{Joining.JoinedSoFar, Seats.Seated}, proofs.together.Joining.{joined_begin, joined_end, joined_gates, joined_step}}
 use Rattle.ix_parallel.proofs.history.join_all.Goals as goal
 use Rattle.ix_parallel.proofs.history.join_all.Given as given
 

@@ -1,7 +1,6 @@
 use Rattle.std.proofs.Common.{◌++◌, List, length, take, drop}
 use Rattle.ix_script.specs.scripts.Schedule.{phases}
-use Rattle.ix_parallel.specs.Seats.{Seated}
-use Rattle.ix_parallel.proofs.together.Ending.{lanes_ran, one_is_left, see_one}
+use Rattle.ix_parallel.{specs.Seats.Seated, proofs.together.Ending.{lanes_ran, one_is_left, see_one}}
 use Rattle.ix_parallel.proofs.history.run_seats.Goals as goal
 
 pub join_all-requires : goal.join_all-requires

@@ -1,10 +1,8 @@
 use Rattle.std.proofs.Common.{◌≡◌, true, not, is_ok, if◌then◌else◌, List, [], ◌∷◌, ◌++◌, ap, ◌∙◌, subst, arith}
 use Rattle.std.proofs.lemmas.List.{nil_from_length}
-use Rattle.ix_kernel.specs.Seen.{KSeatState}
-use Rattle.ix_kernel.specs.Systems.{SystemState}
+use Rattle.ix_kernel.specs.{Seen.KSeatState, Systems.SystemState}
 use Rattle.ix_lanes.specs.running.Runs.{Ran}
-use Rattle.ix_parallel.specs.Seats.{Seated, SeatedSoFar}
-use Rattle.ix_parallel.proofs.together.Seating.{all_seated, next_is_new, none_seated, seated_next}
+use Rattle.ix_parallel.{specs.Seats.{Seated, SeatedSoFar}, proofs.together.Seating.{all_seated, next_is_new, none_seated, seated_next}}
 use Rattle.ix_parallel.proofs.history.seated.Goals as goal
 
 pub loop-seat-init : goal.loop-seat-init

@@ -1,9 +1,6 @@
-use Rattle.std.proofs.Common.{◌+◌, ◌∙◌, true, arith, subst, sym, true≢false}
-use Rattle.std.proofs.lemmas.Option.{get_or_from_slice_get}
-use Rattle.ix_parallel.specs.Meeting.{FirstLearns}
-use Rattle.ix_parallel.proofs.together.Meeting.{heard_next, heard_none, heard_other, kernel_stays}
-use Rattle.ix_parallel.proofs.together.MetAt.{same_kernels}
-use Rattle.ix_parallel.proofs.meeting.first_learns.Goals.{then-parts-other, else-parts-other}
+use Rattle.std.proofs.{Common.{◌+◌, ◌∙◌, true, arith, subst, sym, true≢false}, lemmas.Option.get_or_from_slice_get}
+use Rattle.ix_parallel.{specs.Meeting.FirstLearns, proofs.together.Meeting.{heard_next, heard_none, heard_other, kernel_stays}}
+use Rattle.ix_parallel.{proofs.together.MetAt.same_kernels, proofs.meeting.first_learns.Goals.{then-parts-other, else-parts-other}}
 use Rattle.ix_parallel.proofs.meeting.first_learns.Goals as goal
 
 pub loop-other-init : goal.loop-other-init

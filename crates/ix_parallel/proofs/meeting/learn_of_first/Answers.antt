@@ -1,9 +1,6 @@
-use Rattle.std.proofs.Common.{◌+◌, ◌∙◌, true, arith, subst, sym, true≢false}
-use Rattle.std.proofs.lemmas.Option.{get_or_from_slice_get}
-use Rattle.ix_parallel.specs.Meeting.{LearnOfFirst}
-use Rattle.ix_parallel.proofs.together.Meeting.{kernel_stays, learnt_next, learnt_none, learnt_other}
-use Rattle.ix_parallel.proofs.together.MetAt.{same_kernels}
-use Rattle.ix_parallel.proofs.meeting.learn_of_first.Goals.{then-parts-one, else-parts-one}
+use Rattle.std.proofs.{Common.{◌+◌, ◌∙◌, true, arith, subst, sym, true≢false}, lemmas.Option.get_or_from_slice_get}
+use Rattle.ix_parallel.{specs.Meeting.LearnOfFirst, proofs.together.Meeting.{kernel_stays, learnt_next, learnt_none, learnt_other}}
+use Rattle.ix_parallel.{proofs.together.MetAt.same_kernels, proofs.meeting.learn_of_first.Goals.{then-parts-one, else-parts-one}}
 use Rattle.ix_parallel.proofs.meeting.learn_of_first.Goals as goal
 
 pub loop-one-init : goal.loop-one-init

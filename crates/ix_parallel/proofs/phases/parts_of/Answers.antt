@@ -1,6 +1,4 @@
-use Rattle.std.proofs.Common.{◌∙◌, arith, get_or}
-use Rattle.std.proofs.lemmas.List.{length-set}
-use Rattle.std.proofs.lemmas.Option.{slice_get-get_or, slice_get_within}
+use Rattle.std.proofs.{Common.{◌∙◌, arith, get_or}, lemmas.{List.length-set, Option.{slice_get-get_or, slice_get_within}}}
 use Rattle.ix_parallel.proofs.together.Parts.{tell_more}
 use Rattle.ix_parallel.proofs.phases.parts_of.Goals as goal
 

@@ -1,8 +1,7 @@
 use Rattle.std.proofs.Common.{◌≡◌, ◌+◌, suc, length, sym, ap, ◌∙◌, subst, arith}
 use Rattle.ix_lanes.specs.running.Phases.{lines_before}
 use Rattle.ix_script.specs.scripts.Schedule.{phases}
-use Rattle.ix_parallel.specs.Between.{Between}
-use Rattle.ix_parallel.proofs.together.OnePhase.{goes_on, stops_for_all}
+use Rattle.ix_parallel.{specs.Between.Between, proofs.together.OnePhase.{goes_on, stops_for_all}}
 use Rattle.ix_parallel.proofs.phases.run_each.Goals as goal
 
 pub run_one-stop-requires-clause-few : goal.run_one-stop-requires-clause-few

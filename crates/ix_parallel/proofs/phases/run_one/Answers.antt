@@ -1,5 +1,4 @@
-use Rattle.ix_parallel.proofs.together.Meeting.{kernel_stays}
-use Rattle.ix_parallel.proofs.together.OnePhase.{kernel_after, kernel_before, lanes_ready, runs_on}
+use Rattle.ix_parallel.proofs.together.{Meeting.kernel_stays, OnePhase.{kernel_after, kernel_before, lanes_ready, runs_on}}
 use Rattle.ix_parallel.proofs.phases.run_one.Goals as goal
 
 pub learn_of_first-requires-clause-kernel : goal.learn_of_first-requires-clause-kernel
