@@ -1,11 +1,9 @@
 -- The entries of a history are made once more on a core that had none.
-use Rattle.std.proofs.Common.{◌≡◌, ℕ, ◌+◌, ◌≤◌, [], ◌∷◌, ◌++◌, length, drop, Some, slice_get, refl, sym, ap, ◌∙◌, arith, append_assoc, append-nil, length-append}
+use Rattle.std.proofs.Common.{◌≡◌, ℕ, ◌+◌, ◌≤◌, [], ◌∷◌, ◌++◌, length, drop, Some, slice_get, refl, sym, ap, ◌∙◌, arith, append_assoc, append-nil}
+use Rattle.std.proofs.Common.{length-append}
 use Rattle.std.proofs.lemmas.List.{drop_all}
-use Rattle.ix_model.specs.history.Cost.{cost_of, cost_of_history}
-use Rattle.ix_model.specs.history.Events.{Event}
-use Rattle.ix_model.specs.history.History.{History, with_entry}
-use Rattle.ix_lanes.proofs.found.Indexed.{rest_is}
-use Rattle.ix_lanes.proofs.serially.Costs.{cost-cons, cost-none, cost-push}
+use Rattle.ix_model.specs.history.{Cost.{cost_of, cost_of_history}, Events.Event, History.{History, with_entry}}
+use Rattle.ix_lanes.proofs.{found.Indexed.rest_is, serially.Costs.{cost-cons, cost-none, cost-push}}
 
 -- a core has made so many entries of a history, and its journal has room for the others
 pub record Remade (history replay : History) (told : ℕ) : Type 0 where

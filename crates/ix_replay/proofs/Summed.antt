@@ -1,35 +1,19 @@
 -- What the entries of a history come to is added up while they are made.
-use Rattle.std.proofs.Common.{◌≡◌, ℕ, suc, ◌+◌, ◌*◌, ◌≤◌, Bool, true, false, not, List, [], ◌∷◌, ◌++◌, length, Option, Some, None, is_some, refl, ap, ◌∙◌, subst, sym, arith, if◌then◌else◌}
-use Rattle.std.specs.List.{sum_by}
-use Rattle.std.proofs.lemmas.Bool.Decides.{nat_tests}
-use Rattle.std.proofs.lemmas.List.Sums.{count_by-le-length, sum_by-append, sum_by-cons}
-use Rattle.ix_model.specs.world.World.{World, Frame}
-use Rattle.ix_model.specs.world.Contents.{on_pipe}
-use Rattle.ix_model.specs.opening.Opening.{opening_world}
-use Rattle.ix_model.specs.rows.Table.{Decision, verdict}
-use Rattle.ix_model.specs.rows.Telling.{told, told_of_write, told_of_pipe_write, told_of_file_write}
-use Rattle.ix_model.specs.rows.Walks.{OpenFile, behind}
-use Rattle.ix_model.specs.history.Events.{Op, Event}
+use Rattle.std.proofs.Common.{◌≡◌, ℕ, suc, ◌+◌, ◌*◌, ◌≤◌, Bool, true, false, not, List, [], ◌∷◌, ◌++◌, length, Option, Some, None, is_some, refl, ap, ◌∙◌, sym}
+use Rattle.std.proofs.Common.{subst, arith, if◌then◌else◌}
+use Rattle.std.{specs.List.sum_by, proofs.lemmas.{Bool.Decides.nat_tests, List.Sums.{count_by-le-length, sum_by-append, sum_by-cons}}}
+use Rattle.ix_model.specs.{world.{World.{World, Frame}, Contents.on_pipe}, opening.Opening.opening_world, rows.Table.{Decision, verdict}, history.Made.Made}
+use Rattle.ix_model.specs.{rows.Telling.{told, told_of_write, told_of_pipe_write, told_of_file_write}, rows.Walks.{OpenFile, behind}, history.Shown.AreShown}
+use Rattle.ix_model.specs.{history.Events.{Op, Event}, history.History.{History, world_of, with_entry, next}, history.Seats.{made_of, replied}}
+use Rattle.ix_model.specs.{history.Step.{plainly, write_answer, answer, step, step_of, run}, declared.{config.Config.Config, reply.Reply.Reply}}
 use Rattle.ix_model.specs.history.Events as op
-use Rattle.ix_model.specs.history.History.{History, world_of, with_entry, next}
-use Rattle.ix_model.specs.history.Made.{Made}
-use Rattle.ix_model.specs.history.Seats.{made_of, replied}
-use Rattle.ix_model.specs.history.Shown.{AreShown}
-use Rattle.ix_model.specs.history.Step.{plainly, write_answer, answer, step, step_of, run}
-use Rattle.ix_model.specs.declared.config.Config.{Config}
-use Rattle.ix_model.specs.declared.reply.Reply.{Reply}
 use Rattle.ix_model.specs.declared.reply.Reply.TheVariants as reply
-use Rattle.ix_model.proofs.clean.Cleaning.{WriteFacts, wrote}
-use Rattle.ix_model.proofs.clean.Showing.{shown_step}
-use Rattle.ix_model.proofs.words.Seats.{replied-push}
-use Rattle.ix_script.specs.scripts.Scripts.{config_of}
-use Rattle.ix_script.specs.declared.line.Line.{Line}
-use Rattle.ix_report.specs.LineText.{totals_line}
-use Rattle.ix_report.specs.declared.totals.Totals.{Totals}
+use Rattle.ix_model.proofs.{clean.{Cleaning.{WriteFacts, wrote}, Showing.shown_step}, words.Seats.replied-push}
+use Rattle.ix_script.specs.{scripts.Scripts.config_of, declared.line.Line.Line}
+use Rattle.ix_report.specs.{LineText.totals_line, declared.totals.Totals.Totals}
 use Rattle.ix_asking.specs.Runs.{count_in}
-use Rattle.ix_replay.specs.Summary.{is_refused, bytes_written, refused_in, read_in, written_in, totals_of, summary_line}
+use Rattle.ix_replay.specs.{Summary.{is_refused, bytes_written, refused_in, read_in, written_in, totals_of, summary_line}, declared.tally.Tally.Tally}
 use Rattle.ix_replay.specs.Tallying.{HasSeen, IsSmall, tally_of, with_reply}
-use Rattle.ix_replay.specs.declared.tally.Tally.{Tally}
 
 -- ---- one entry comes to little
 few_shown : (r : Reply) (bytes : List ℕ) → AreShown r bytes → count_in r ≤ 4096

@@ -1,10 +1,7 @@
 -- The next line of what closes a report.
 use Rattle.std.proofs.Common.{◌≡◌, ◌≢◌, ℕ, List, [], ◌∷◌, ◌++◌, length, inl, refl, sym, ap, ◌∙◌, arith, append-nil, append_assoc, length-append}
-use Rattle.std.proofs.lemmas.List.{append_cancel_left}
-use Rattle.std.specs.Prelude.{codes}
-use Rattle.ix_report.specs.Feeds.{EndsOnce}
-use Rattle.ix_report.specs.LineText.{tail_line}
-use Rattle.ix_report.proofs.feeds.Lines.{lines_end}
+use Rattle.std.{proofs.lemmas.List.append_cancel_left, specs.Prelude.codes}
+use Rattle.ix_report.{specs.{Feeds.EndsOnce, LineText.tail_line}, proofs.feeds.Lines.lines_end}
 use Rattle.ix_replay.specs.declared.reporting.closing.Next.TheVariants as stage
 use Rattle.ix_replay.specs.report.Telling.{HasTold, Tells, TellsLine, last_world, left_of, log_left, objects_left, processes_left}
 use Rattle.ix_replay.specs.declared.reporting.closing.Closing.{Closing}

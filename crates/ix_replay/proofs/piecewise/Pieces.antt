@@ -1,22 +1,14 @@
 -- One piece more of what closes a report.
 use Rattle.std.proofs.Common.{◌≡◌, ℕ, suc, ◌+◌, ◌-◌, ◌<◌, ◌≤◌, true, List, [], ◌∷◌, ◌++◌, length, drop, Option, Some, None, inl, inr, refl, sym, ap, ◌∙◌, arith}
 use Rattle.std.proofs.Common.{slice_get, append_assoc}
-use Rattle.std.specs.Prelude.{codes}
-use Rattle.std.specs.List.{flat_map}
-use Rattle.std.proofs.lemmas.List.{append-nil}
-use Rattle.std.proofs.lemmas.Option.{slice_get_within}
-use Rattle.std.specs.Option.{option_map_or}
+use Rattle.std.{specs.{Prelude.codes, List.flat_map, Option.option_map_or}, proofs.lemmas.{List.append-nil, Option.slice_get_within}}
 use Rattle.ix_label.specs.declared.form.Form.{Form}
-use Rattle.ix_model.specs.world.World.{Object, Process, at}
-use Rattle.ix_model.specs.history.Views.{shown_of, view_of}
-use Rattle.ix_report.specs.Feeds.{EndsOnce, has_no_feed}
-use Rattle.ix_report.specs.LineText.{audit_line, object_line, process_line, tail_line}
-use Rattle.ix_report.proofs.feeds.Lines.{lines_end}
+use Rattle.ix_model.specs.{world.World.{Object, Process, at}, history.Views.{shown_of, view_of}, declared.audit.AuditLine.AuditLine}
+use Rattle.ix_report.{specs.{Feeds.{EndsOnce, has_no_feed}, LineText.{audit_line, object_line, process_line, tail_line}}, proofs.feeds.Lines.lines_end}
 use Rattle.ix_replay.specs.report.Report.{object_text, process_text, texts_from, objects_text, processes_text, closing_text}
 use Rattle.ix_replay.specs.report.Telling.{IsPiece, Tells, left_of, objects_left, processes_left, log_left, last_world, pieces_of}
 use Rattle.ix_replay.specs.declared.reporting.closing.Next.TheVariants as stage
 use Rattle.ix_replay.specs.declared.reporting.closing.Closing.{Closing}
-use Rattle.ix_model.specs.declared.audit.AuditLine.{AuditLine}
 use Rattle.ix_lanes.proofs.found.Indexed.{rest_is, none_left}
 
 -- one text more was written of those that are left

@@ -1,25 +1,16 @@
 -- What the core shows of an entry that it made.
-use Rattle.std.proofs.Common.{◌≡◌, ℕ, ◌+◌, ◌++◌, ◌∷◌, List, [], length, Option, Some, None, take, refl, sym, ap, ◌∙◌, arith, add-one, append_assoc, append-nil, length-append}
+use Rattle.std.proofs.Common.{◌≡◌, ℕ, ◌+◌, ◌++◌, ◌∷◌, List, [], length, Option, Some, None, take, refl, sym, ap, ◌∙◌, arith, add-one, append_assoc, append-nil}
+use Rattle.std.proofs.Common.{length-append}
 use Rattle.std.specs.Option.{option_map}
-use Rattle.ix_label.specs.declared.form.Form.{Form}
-use Rattle.ix_label.specs.Category.{Categories}
-use Rattle.ix_model.specs.world.World.{World, Process, at}
-use Rattle.ix_model.specs.history.Events.{Event}
-use Rattle.ix_model.specs.history.History.{History, world_of, next}
-use Rattle.ix_model.specs.history.Shown.{AreShown}
+use Rattle.ix_label.specs.{declared.form.Form.Form, Category.Categories}
+use Rattle.ix_model.specs.{world.World.{World, Process, at}, opening.Opening.opening_world, declared.{reply.Reply.Reply, views.ProcView.ProcView}}
+use Rattle.ix_model.specs.history.{Events.Event, History.{History, world_of, next}, Shown.AreShown, Step.{run, step_of}, Views.shown_of}
 use Rattle.ix_model.proofs.words.Runs.{world_of-push}
-use Rattle.ix_report.specs.LineText.{entry_line}
-use Rattle.ix_report.specs.ReplyText.{AreBytesOf}
-use Rattle.ix_core.specs.Stepping.{IsNext}
-use Rattle.ix_model.specs.history.Step.{run, step_of}
-use Rattle.ix_model.specs.opening.Opening.{opening_world}
+use Rattle.ix_report.specs.{LineText.entry_line, ReplyText.AreBytesOf}
+use Rattle.ix_core.specs.Stepping.{IsNext, Shows}
 use Rattle.ix_replay.specs.report.Report.{entries_text, entry_text, lane_name}
-use Rattle.ix_model.specs.declared.reply.Reply.{Reply}
 use Rattle.ix_model.specs.declared.reply.Reply.TheVariants as reply
 use Rattle.ix_model.specs.declared.reply.Answer.TheVariants as answer
-use Rattle.ix_model.specs.declared.views.ProcView.{ProcView}
-use Rattle.ix_core.specs.Stepping.{Shows}
-use Rattle.ix_model.specs.history.Views.{shown_of}
 use Rattle.ix_asking.specs.Runs.{count_in}
 
 -- the bytes at the front of the buffer are those that the call gives

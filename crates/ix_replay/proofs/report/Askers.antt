@@ -1,18 +1,10 @@
 -- What the lanes of a script ask for, one entry after the other.
 use Rattle.std.proofs.Common.{◌≡◌, ℕ, ◌+◌, ◌==◌, ◌<◌, nat_lt, true, List, [], ◌∷◌, Option, Some, None, refl, sym, ap, ◌∙◌, inl, inr, if◌then◌else◌}
-use Rattle.std.specs.List.{list_all}
-use Rattle.std.proofs.lemmas.Bool.{cases_eq, eq-eqb, ne_eqb}
-use Rattle.ix_model.specs.world.World.{World}
-use Rattle.ix_model.specs.history.Step.{step_of}
-use Rattle.ix_model.specs.history.Events.{Event}
-use Rattle.ix_asking.specs.Asking.{Answered, Asking, Done, Ask, heard}
-use Rattle.ix_asking.specs.Lines.{Calls, calls_then, no_calls}
-use Rattle.ix_asking.specs.Runs.{entry_of}
-use Rattle.ix_lanes.specs.asking.Asked.{Names}
-use Rattle.ix_lanes.specs.histories.Serial.{answered}
-use Rattle.ix_lanes.specs.histories.Lanes.{entries_of, replies_from}
-use Rattle.ix_lanes.proofs.serially.LaneSteps.{entries-mine, entries-other, replies-mine, replies-other}
-use Rattle.ix_lanes.proofs.serially.OneEntry.{all_answered, first_seat}
+use Rattle.std.{specs.List.list_all, proofs.lemmas.Bool.{cases_eq, eq-eqb, ne_eqb}}
+use Rattle.ix_model.specs.{world.World.World, history.{Step.step_of, Events.Event}}
+use Rattle.ix_asking.specs.{Asking.{Answered, Asking, Done, Ask, heard}, Lines.{Calls, calls_then, no_calls}, Runs.entry_of}
+use Rattle.ix_lanes.specs.{asking.Asked.Names, histories.{Serial.answered, Lanes.{entries_of, replies_from}}}
+use Rattle.ix_lanes.proofs.serially.{LaneSteps.{entries-mine, entries-other, replies-mine, replies-other}, OneEntry.{all_answered, first_seat}}
 
 -- ---- one lane
 -- the entry that is asked for next

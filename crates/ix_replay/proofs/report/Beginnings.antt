@@ -1,8 +1,6 @@
 -- How the parts of a report begin.
 use Rattle.std.proofs.Common.{◌≡◌, ℕ, zero, suc, ◌/◌, ◌%◌, ◌<◌, ◌==◌, Bool, true, false, not, cond, List, [], ◌∷◌, ◌++◌, refl, sym, ap, ◌∙◌, arith}
-use Rattle.std.specs.List.{list_all}
-use Rattle.std.specs.Fmt.{decimal, digits, digits_onto, digit_glyph}
-use Rattle.std.proofs.lemmas.Bool.{and_parts}
+use Rattle.std.{specs.{List.list_all, Fmt.{decimal, digits, digits_onto, digit_glyph}}, proofs.lemmas.Bool.and_parts}
 
 -- ---- numbers
 -- the bytes begin with one that is less than that

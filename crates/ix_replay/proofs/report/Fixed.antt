@@ -1,28 +1,14 @@
 -- A report fixes its history.
 use Rattle.std.proofs.Common.{◌≡◌, ℕ, ◌+◌, true, List, [], ◌∷◌, ◌++◌, length, codes, Option, refl, sym, ap, ◌∙◌, subst, append_assoc}
-use Rattle.std.specs.List.{list_all}
-use Rattle.std.specs.Fmt.{decimal}
-use Rattle.std.proofs.lemmas.List.{append_cancel_left}
-use Rattle.std.proofs.lemmas.Option.{same_Some}
-use Rattle.ix_label.specs.Category.{Categories}
-use Rattle.ix_model.specs.declared.reply.Reply.{Reply}
-use Rattle.ix_model.specs.world.World.{World}
-use Rattle.ix_model.specs.opening.Opening.{opening_world}
-use Rattle.ix_model.specs.history.Step.{run, step_of}
-use Rattle.ix_model.specs.history.Events.{Event}
-use Rattle.ix_script.specs.lines.Before.{form_told, lanes_of}
-use Rattle.ix_script.specs.scripts.Scripts.{config_of}
+use Rattle.std.{specs.{List.list_all, Fmt.decimal}, proofs.lemmas.{List.append_cancel_left, Option.same_Some}}
+use Rattle.ix_label.specs.{Category.Categories, declared.form.Form.Form}
+use Rattle.ix_model.specs.{declared.reply.Reply.Reply, world.World.World, opening.Opening.opening_world, history.{Step.{run, step_of}, Events.Event}}
+use Rattle.ix_script.specs.{lines.Before.{form_told, lanes_of}, scripts.Scripts.config_of, declared.line.Line.Line}
 use Rattle.ix_text.specs.Names.{is_script_name}
-use Rattle.ix_script.specs.declared.line.Line.{Line}
-use Rattle.ix_report.specs.CallText.{call_text}
-use Rattle.ix_report.specs.LineText.{entry_line, head_line, seen_text}
-use Rattle.ix_report.specs.ReplyText.{reply_text}
-use Rattle.ix_label.specs.declared.form.Form.{Form}
+use Rattle.ix_report.specs.{CallText.call_text, LineText.{entry_line, head_line, seen_text}, ReplyText.reply_text}
 use Rattle.ix_replay.specs.report.Report.{closing_text, entries_text, entry_text, lane_name, report_of}
-use Rattle.ix_lanes.specs.histories.Serial.{answered}
-use Rattle.ix_lanes.specs.histories.Lanes.{Lanes, lane_asks, replies_of}
-use Rattle.ix_replay.proofs.report.Askers.{Askers, Follows, follow, is_next, moved, next_of, seat_low}
-use Rattle.ix_replay.proofs.report.Beginnings.{no_number, no_space, same_word}
+use Rattle.ix_lanes.specs.histories.{Serial.answered, Lanes.{Lanes, lane_asks, replies_of}}
+use Rattle.ix_replay.proofs.{report.Askers.{Askers, Follows, follow, is_next, moved, next_of, seat_low}, report.Beginnings.{no_number, no_space, same_word}}
 use Rattle.ix_replay.proofs.report.LaneNames.{Differ, lane_no_space, lanes_differ}
 
 -- ---- the line of an entry

@@ -1,20 +1,14 @@
 -- The names of a script's lanes.
-use Rattle.std.proofs.Common.{◌≡◌, ℕ, zero, suc, ◌<◌, ◌≤◌, ◌==◌, Bool, true, false, not, List, [], ◌∷◌, ◌++◌, length, fold, if◌then◌else◌, refl, sym, ap, ◌∙◌, arith, inl, inr, length-append}
-use Rattle.std.specs.List.{list_all}
-use Rattle.std.specs.Cmp.Lexicographic.{bytes_decides}
-use Rattle.std.proofs.Math.ListN.{get_or-append}
-use Rattle.std.proofs.Math.Seq.{get_or-append_seam}
-use Rattle.std.proofs.lemmas.Bool.{and_parts, cases_lt, true≢false}
-use Rattle.std.proofs.lemmas.Bool.Decides.{nat_tests}
-use Rattle.std.proofs.lemmas.List.Folds.{list_any_at}
+use Rattle.std.proofs.Common.{◌≡◌, ℕ, zero, suc, ◌<◌, ◌≤◌, ◌==◌, Bool, true, false, not, List, [], ◌∷◌, ◌++◌, length, fold, if◌then◌else◌, refl, sym, ap, ◌∙◌}
+use Rattle.std.proofs.Common.{arith, inl, inr, length-append}
+use Rattle.std.specs.{List.list_all, Cmp.Lexicographic.bytes_decides}
+use Rattle.std.proofs.Math.{ListN.get_or-append, Seq.get_or-append_seam}
+use Rattle.std.proofs.lemmas.{Bool.{and_parts, cases_lt, true≢false, Decides.nat_tests}, List.Folds.list_any_at}
 use Rattle.ix_model.specs.world.Naming.{same_bytes}
-use Rattle.ix_script.specs.lines.Before.{is_known, lanes_after, lanes_of}
-use Rattle.ix_text.specs.Names.{is_reserved, is_script_name, may_stand_in_script_name}
-use Rattle.ix_script.specs.declared.line.Line.{Line}
+use Rattle.ix_script.specs.{lines.Before.{is_known, lanes_after, lanes_of}, declared.line.Line.Line}
+use Rattle.ix_text.{specs.Names.{is_reserved, is_script_name, may_stand_in_script_name}, proofs.Tests.{both, list_all_weaker}}
 use Rattle.ix_script.specs.declared.line.Line.TheVariants as line
-use Rattle.ix_text.proofs.Tests.{both, list_all_weaker}
-use Rattle.ix_replay.specs.report.Report.{lane_name}
-use Rattle.ix_replay.proofs.report.Beginnings.{no_space}
+use Rattle.ix_replay.{specs.report.Report.lane_name, proofs.report.Beginnings.no_space}
 
 -- ---- names differ
 -- no two of the names are the same

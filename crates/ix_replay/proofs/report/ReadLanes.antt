@@ -1,18 +1,10 @@
 -- The lanes of a script that is read have names as scripts have them.
 use Rattle.std.proofs.Common.{◌≡◌, ℕ, Bool, true, false, List, [], ◌∷◌, ◌++◌, Option, Some, None, option_map, fold, if◌then◌else◌, refl, sym, ap, ◌∙◌, subst}
-use Rattle.std.specs.List.{list_all}
-use Rattle.std.proofs.lemmas.Option.{none-some, same_Some}
-use Rattle.std.proofs.lemmas.List.Folds.{list_all-append}
-use Rattle.ix_script.specs.lines.Before.{form_told, is_known, lanes_after, lanes_of}
-use Rattle.ix_script.specs.lines.Faults.{line_fault}
-use Rattle.ix_script.specs.lines.Forms.{form_of, frame_form}
-use Rattle.ix_script.specs.lines.Said.{line_of, version_of}
-use Rattle.ix_script.specs.scripts.Canonical.{line_text, line_words}
-use Rattle.ix_script.specs.scripts.Laws.{LineStays}
-use Rattle.ix_script.specs.scripts.Scripts.{script_of}
-use Rattle.ix_script.specs.texts.Cutting.{is_policy_line, pieces, word_at, words_of}
+use Rattle.std.{specs.List.list_all, proofs.lemmas.{Option.{none-some, same_Some}, List.Folds.list_all-append}}
+use Rattle.ix_script.specs.{lines.Before.{form_told, is_known, lanes_after, lanes_of}, lines.Faults.line_fault, lines.Forms.{form_of, frame_form}}
+use Rattle.ix_script.specs.{lines.Said.{line_of, version_of}, scripts.{Canonical.{line_text, line_words}, Laws.LineStays, Scripts.script_of}}
+use Rattle.ix_script.specs.{texts.Cutting.{is_policy_line, pieces, word_at, words_of}, declared.line.Line.Line}
 use Rattle.ix_text.specs.Names.{is_script_name, name_of}
-use Rattle.ix_script.specs.declared.line.Line.{Line}
 use Rattle.ix_script.specs.declared.line.Line.TheVariants as line
 use Rattle.ix_script.proofs.lines.EachLine.{Along, along}
 use Rattle.ix_label.specs.declared.form.Form.{Form}

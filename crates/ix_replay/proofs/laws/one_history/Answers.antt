@@ -1,5 +1,4 @@
-use Rattle.ix_replay.proofs.report.Fixed.{one_history}
-use Rattle.ix_replay.proofs.report.ReadLanes.{scripts_named}
+use Rattle.ix_replay.proofs.report.{Fixed.one_history, ReadLanes.scripts_named}
 use Rattle.ix_replay.proofs.laws.one_history.Goals as goal
 
 pub returns : goal.returns

@@ -1,9 +1,6 @@
-use Rattle.std.proofs.Common.{◌≡◌, ◌++◌, List, ℕ, ap, ◌∙◌, subst, OnOk}
-use Rattle.std.specs.Option.{option_map}
+use Rattle.std.{proofs.Common.{◌≡◌, ◌++◌, List, ℕ, ap, ◌∙◌, subst, OnOk}, specs.Option.option_map}
 use Rattle.ix_label.specs.declared.form.Form.{Form}
-use Rattle.ix_model.specs.history.Calls.{op_of}
-use Rattle.ix_model.specs.history.Made.{entry}
-use Rattle.ix_model.specs.declared.views.ProcView.{ProcView}
+use Rattle.ix_model.specs.{history.{Calls.op_of, Made.entry}, declared.views.ProcView.ProcView}
 use Rattle.ix_script.specs.lines.Before.{form_told, lanes_of}
 use Rattle.ix_report.specs.LineText.{entry_line}
 use Rattle.ix_replay.proofs.piecewise.Shown.{bytes_of_shown, label_shown, line_of_next}

@@ -1,9 +1,5 @@
 use Rattle.std.proofs.Common.{◌+◌, length, sym, subst}
-use Rattle.ix_model.specs.history.Events.{Event}
-use Rattle.ix_model.specs.history.Calls.{event_of}
-use Rattle.ix_model.specs.history.History.{History, world_of, next}
-use Rattle.ix_model.specs.history.Shown.{AreShown}
-use Rattle.ix_model.specs.declared.reply.Reply.{Reply}
+use Rattle.ix_model.specs.{history.{Events.Event, Calls.event_of, History.{History, world_of, next}, Shown.AreShown}, declared.reply.Reply.Reply}
 use Rattle.ix_model.proofs.clean.Showing.{shown_step}
 use Rattle.ix_replay.proofs.piecewise.Shown.{shown_is}
 use Rattle.ix_replay.proofs.reporting.replay.make.Goals as goal

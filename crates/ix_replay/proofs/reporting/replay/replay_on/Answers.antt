@@ -1,10 +1,5 @@
-use Rattle.std.proofs.Common.{◌≡◌, ◌+◌, List, ℕ, length, take, sym, ◌∙◌, ap, arith, subst}
-use Rattle.std.specs.Option.{option_map}
-use Rattle.ix_model.specs.history.Calls.{event_of}
-use Rattle.ix_model.specs.history.Events.{Event}
-use Rattle.ix_model.specs.history.History.{History, world_of, next}
-use Rattle.ix_model.specs.history.Shown.{AreShown}
-use Rattle.ix_model.specs.declared.reply.Reply.{Reply}
+use Rattle.std.{proofs.Common.{◌≡◌, ◌+◌, List, ℕ, length, take, sym, ◌∙◌, ap, arith, subst}, specs.Option.option_map}
+use Rattle.ix_model.specs.{history.{Calls.event_of, Events.Event, History.{History, world_of, next}, Shown.AreShown}, declared.reply.Reply.Reply}
 use Rattle.ix_model.proofs.clean.Showing.{shown_step}
 use Rattle.ix_lanes.proofs.found.Indexed.{counted_from_one, is_there}
 use Rattle.ix_replay.proofs.Remade.{Remade, remade_all, remade_next, remade_none, remade_room}

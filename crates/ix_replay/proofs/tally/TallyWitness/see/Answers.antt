@@ -1,6 +1,5 @@
 use Rattle.std.proofs.Common.{◌≤◌, ◌∙◌, length, arith}
-use Rattle.ix_model.specs.history.Calls.{op_of}
-use Rattle.ix_model.specs.history.Made.{entry}
+use Rattle.ix_model.specs.history.{Calls.op_of, Made.entry}
 use Rattle.ix_replay.proofs.Summed.{seen_next, seen_small}
 use Rattle.ix_replay.proofs.tally.TallyWitness.see.Goals as goal
 

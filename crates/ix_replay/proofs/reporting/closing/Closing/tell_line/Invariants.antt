@@ -1,6 +1,5 @@
 use Rattle.std.proofs.Common.{◌≡◌, ℕ, List, length}
-use Rattle.ix_replay.specs.report.Telling.{HasTold, pieces_of}
-use Rattle.ix_replay.specs.declared.reporting.closing.Closing.{Closing}
+use Rattle.ix_replay.specs.{report.Telling.{HasTold, pieces_of}, declared.reporting.closing.Closing.Closing}
 use Rattle.ix_replay.proofs.reporting.closing.Closing.tell_line.Given as goal
 
 -- nothing was told yet, or the next line was

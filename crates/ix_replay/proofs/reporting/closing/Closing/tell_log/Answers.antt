@@ -1,7 +1,5 @@
-use Rattle.std.proofs.Common.{◌<◌, length, sym, ◌∙◌, arith}
-use Rattle.std.proofs.lemmas.Option.{slice_get_within}
-use Rattle.ix_replay.specs.report.Telling.{last_world}
-use Rattle.ix_replay.proofs.piecewise.Pieces.{line_told, log_told}
+use Rattle.std.proofs.{Common.{◌<◌, length, sym, ◌∙◌, arith}, lemmas.Option.slice_get_within}
+use Rattle.ix_replay.{specs.report.Telling.last_world, proofs.piecewise.Pieces.{line_told, log_told}}
 use Rattle.ix_replay.proofs.reporting.closing.Closing.tell_log.Goals as goal
 
 pub overflow_add-self : goal.overflow_add-self
