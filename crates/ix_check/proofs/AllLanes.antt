@@ -1,8 +1,6 @@
 -- All items of a list pass a test, as they are gone through.
 use Rattle.std.proofs.Common.{◌≡◌, ℕ, ◌+◌, ◌≤◌, ◌<◌, Bool, true, false, List, length, drop, Some, sym, ap, ◌∙◌, slice_get, slice_index_or}
-use Rattle.std.specs.List.{list_all}
-use Rattle.std.proofs.lemmas.List.{drop_all}
-use Rattle.std.proofs.lemmas.Option.{slice_get-get_or}
+use Rattle.std.{specs.List.list_all, proofs.lemmas.{List.drop_all, Option.slice_get-get_or}}
 use Rattle.ix_lanes.proofs.found.Indexed.{rest_is}
 
 -- the item that an index gives

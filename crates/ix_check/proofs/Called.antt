@@ -2,24 +2,14 @@
 use Rattle.std.proofs.Common.{◌≡◌, ℕ, ◌+◌, Bool, true, false, List, [], ◌∷◌, length, option_map, Option, Some, None, refl, sym, ap, ◌∙◌, arith, slice_get}
 use Rattle.std.proofs.Common.{if◌then◌else◌}
 use Rattle.std.specs.List.{list_all}
-use Rattle.ix_model.specs.world.World.{World}
-use Rattle.ix_model.specs.history.Events.{Event}
-use Rattle.ix_model.specs.history.History.{History}
-use Rattle.ix_script.specs.lines.Before.{lanes_of}
-use Rattle.ix_script.specs.declared.line.Line.{Line}
+use Rattle.ix_model.specs.{world.World.World, history.{Events.Event, History.History}}
+use Rattle.ix_script.specs.{lines.Before.lanes_of, declared.line.Line.Line}
 use Rattle.ix_asking.specs.Asking.{Answered}
 use Rattle.ix_lanes.specs.histories.History.{phase_of}
-use Rattle.ix_judging.specs.Lanes.{State}
-use Rattle.ix_judging.specs.Names.{told_from}
-use Rattle.ix_judging.specs.Plan.{Plan}
-use Rattle.ix_judging.specs.Runs.{asks, entered, reached}
-use Rattle.ix_judging.specs.Walk.{called_by, least_to, on_turn, told_call}
+use Rattle.ix_judging.specs.{Lanes.State, Names.told_from, Plan.Plan, Runs.{asks, entered, reached}, Walk.{called_by, least_to, on_turn, told_call}}
 use Rattle.ix_judging.proofs.Stores.{asking_lane}
-use Rattle.ix_check.specs.Judging.{IsAmong, IsCalled}
-use Rattle.ix_check.specs.Plans.{begun, judged_plan, mark}
-use Rattle.ix_check.specs.Stepping.{LaneAt, is_from, next_call, next_phase}
-use Rattle.ix_check.proofs.LaneCalls.{script_lane}
-use Rattle.ix_check.proofs.LaneTurns.{all_from_is, lane_asks, none_there}
+use Rattle.ix_check.specs.{Judging.{IsAmong, IsCalled}, Plans.{begun, judged_plan, mark}, Stepping.{LaneAt, is_from, next_call, next_phase}}
+use Rattle.ix_check.proofs.{LaneCalls.script_lane, LaneTurns.{all_from_is, lane_asks, none_there}}
 
 -- the place after entries
 pub place_reached : {W E A L T : Type 0} (p : Plan W E A L T) (at : State W L) (events : List E)

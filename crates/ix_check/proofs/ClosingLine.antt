@@ -1,30 +1,17 @@
 -- A closing line, looked at.
-use Rattle.std.proofs.Common.{◌≡◌, ℕ, suc, ◌+◌, ◌-◌, Bool, true, false, List, [], ◌∷◌, ◌++◌, length, drop, refl, sym, ap, ◌∙◌}
-use Rattle.std.proofs.Common.{arith, inl, inr, ◌⊎◌}
-use Rattle.std.proofs.Common.{add-one, if◌then◌else◌}
-use Rattle.std.specs.Prelude.{codes}
-use Rattle.std.specs.List.{flat_map, list_all}
-use Rattle.std.proofs.lemmas.Bool.{and_parts}
-use Rattle.std.proofs.lemmas.List.{append_cancel_left}
+use Rattle.std.proofs.Common.{◌≡◌, ℕ, suc, ◌+◌, ◌-◌, Bool, true, false, List, [], ◌∷◌, ◌++◌, length, drop, refl, sym, ap, ◌∙◌, arith, inl, inr, ◌⊎◌, add-one}
+use Rattle.std.proofs.Common.{if◌then◌else◌}
+use Rattle.std.{specs.{Prelude.codes, List.{flat_map, list_all}}, proofs.lemmas.{Bool.and_parts, List.append_cancel_left}}
 use Rattle.ix_label.specs.declared.form.Form.{Form}
-use Rattle.ix_model.specs.history.History.{History, world_of}
-use Rattle.ix_model.specs.world.Naming.{same_bytes}
-use Rattle.ix_script.specs.lines.Before.{form_told}
-use Rattle.ix_script.specs.declared.line.Line.{Line}
-use Rattle.ix_report.specs.Feeds.{EndsOnce}
-use Rattle.ix_report.specs.LineText.{audit_line, tail_line}
-use Rattle.ix_replay.specs.report.Report.{object_text, process_text, texts_from}
+use Rattle.ix_model.specs.{history.History.{History, world_of}, world.Naming.same_bytes}
+use Rattle.ix_script.specs.{lines.Before.form_told, declared.line.Line.Line}
+use Rattle.ix_report.specs.{Feeds.EndsOnce, LineText.{audit_line, tail_line}}
+use Rattle.ix_replay.specs.{report.Report.{object_text, process_text, texts_from}, declared.reporting.closing.Next.Next}
 use Rattle.ix_replay.specs.report.Telling.{HasTold, TellsLine, left_of, objects_left, pieces_of, processes_left, text_left, pieces_left}
 use Rattle.ix_replay.specs.declared.reporting.closing.Closing as telling
-use Rattle.ix_replay.specs.declared.reporting.closing.Next.{Next}
 use Rattle.ix_replay.specs.declared.reporting.closing.Next.TheVariants as next
-use Rattle.ix_judging.specs.Bytes.{is_line, joined, split}
-use Rattle.ix_judging.specs.Judge.{Text}
-use Rattle.ix_judging.specs.Walk.{Closing, Fails, closes}
-use Rattle.ix_judging.proofs.Split.{split-line}
-use Rattle.ix_check.specs.Judging.{AreLeft, IsClosing}
-use Rattle.ix_check.specs.Plans.{judged_plan}
-use Rattle.ix_check.proofs.Printed.{once_line}
+use Rattle.ix_judging.{specs.{Bytes.{is_line, joined, split}, Judge.Text, Walk.{Closing, Fails, closes}}, proofs.Split.split-line}
+use Rattle.ix_check.{specs.{Judging.{AreLeft, IsClosing}, Plans.judged_plan}, proofs.Printed.once_line}
 
 -- ---- what is left goes by the form, the history and what comes next
 -- the lines of the log from an index on, and the last line

@@ -1,34 +1,20 @@
 -- A text's first line, the passage to the closing lines, and its end.
-use Rattle.std.proofs.Common.{◌≡◌, ℕ, ◌+◌, ◌-◌, ◌≤◌, ◌<◌, ◌^◌, Bool, true, false, List, [], ◌∷◌, length, refl, sym, ap, ◌∙◌, arith}
-use Rattle.std.proofs.Common.{if◌then◌else◌}
+use Rattle.std.proofs.Common.{◌≡◌, ℕ, ◌+◌, ◌-◌, ◌≤◌, ◌<◌, ◌^◌, Bool, true, false, List, [], ◌∷◌, length, refl, sym, ap, ◌∙◌, arith, if◌then◌else◌}
 use Rattle.std.specs.List.{list_all}
-use Rattle.ix_model.specs.history.History.{History, world_of}
-use Rattle.ix_model.specs.world.Naming.{same_bytes}
-use Rattle.ix_model.specs.world.World.{World}
-use Rattle.ix_script.specs.lines.Before.{form_told}
-use Rattle.ix_script.specs.declared.line.Line.{Line}
+use Rattle.ix_model.specs.{history.History.{History, world_of}, world.{Naming.same_bytes, World.World}}
+use Rattle.ix_script.specs.{lines.Before.form_told, declared.line.Line.Line}
 use Rattle.ix_asking.specs.Asking.{Answered}
 use Rattle.ix_report.specs.LineText.{head_line}
-use Rattle.ix_replay.specs.report.Report.{closing_text}
-use Rattle.ix_replay.specs.report.Telling.{left_of, pieces_of, text_left}
-use Rattle.ix_replay.specs.declared.reporting.closing.Closing as telling
-use Rattle.ix_replay.specs.declared.reporting.closing.Next.{Next}
-use Rattle.ix_replay.specs.declared.reporting.closing.Next.TheVariants as next
+use Rattle.ix_replay.specs.{report.{Report.closing_text, Telling.{left_of, pieces_of, text_left}}, declared.reporting.closing.Next.Next}
 use Rattle.ix_replay.proofs.piecewise.Pieces.{closing_is}
-use Rattle.ix_judging.specs.Bytes.{is_line, joined, split}
-use Rattle.ix_judging.specs.Judge as theory
-use Rattle.ix_judging.specs.Judge.{Text}
-use Rattle.ix_judging.specs.Lanes.{State}
+use Rattle.ix_replay.specs.declared.reporting.closing.Closing as telling
+use Rattle.ix_replay.specs.declared.reporting.closing.Next.TheVariants as next
+use Rattle.ix_judging.{specs.Bytes.{is_line, joined, split}, specs.Judge.Text, specs.Lanes.State, proofs.Split.split_lines}
 use Rattle.ix_judging.specs.Walk.{Begins, Entries, Fails, closed, closes, ended, is_over, line_after, makes, told_call, walked}
-use Rattle.ix_judging.proofs.Split.{split_lines}
-use Rattle.ix_check.specs.Judging.{AreLeft, IsAmong, IsClosing, Stands}
-use Rattle.ix_check.specs.Plans.{begun, judged_plan}
-use Rattle.ix_check.specs.Stepping.{LaneAt}
+use Rattle.ix_judging.specs.Judge as theory
+use Rattle.ix_check.{specs.{Judging.{AreLeft, IsAmong, IsClosing, Stands}, Plans.{begun, judged_plan}, Stepping.LaneAt}, proofs.Called.place_is}
+use Rattle.ix_check.{proofs.ClosingLine.{count_is, none_joined, pieces_at}, proofs.Entered.world_is, proofs.Printed.{closing_ends, closing_joined, whole_after}}
 use Rattle.ix_check.specs.declared.stage.Stage.TheVariants as stage
-use Rattle.ix_check.proofs.Called.{place_is}
-use Rattle.ix_check.proofs.ClosingLine.{count_is, none_joined, pieces_at}
-use Rattle.ix_check.proofs.Entered.{world_is}
-use Rattle.ix_check.proofs.Printed.{closing_ends, closing_joined, whole_after}
 
 module _ {L : Type 0} (at_of : L → LaneAt) (s : List Line) (h : History) (lanes : List L) where
   -- ---- the first line

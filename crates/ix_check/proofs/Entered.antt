@@ -1,35 +1,17 @@
 -- A state of the lanes and the machine, once the call that has the turn was made.
-use Rattle.std.proofs.Common.{◌≡◌, ℕ, ◌+◌, List, [], ◌∷◌, ◌++◌, length, Some, refl, sym, ap, ◌∙◌, subst, inl, inr}
-use Rattle.std.proofs.Common.{add-one}
-use Rattle.std.proofs.Common.{slice_get, slice_set}
-use Rattle.std.proofs.lemmas.Bool.{cases_eq}
-use Rattle.std.proofs.lemmas.List.{length-set}
-use Rattle.std.proofs.lemmas.Option.{slice_get_within}
-use Rattle.ix_model.specs.world.World.{World}
-use Rattle.ix_model.specs.opening.Opening.{opening_world}
-use Rattle.ix_model.specs.history.Events.{Event}
-use Rattle.ix_model.specs.history.History.{History, next, with_entry, world_of}
-use Rattle.ix_model.specs.history.Step.{run, step_of}
-use Rattle.ix_script.specs.lines.Before.{form_told, lanes_of}
-use Rattle.ix_script.specs.declared.line.Line.{Line}
+use Rattle.std.proofs.Common.{◌≡◌, ℕ, ◌+◌, List, [], ◌∷◌, ◌++◌, length, Some, refl, sym, ap, ◌∙◌, subst, inl, inr, add-one, slice_get, slice_set}
+use Rattle.std.proofs.lemmas.{Bool.cases_eq, List.length-set, Option.slice_get_within}
+use Rattle.ix_model.specs.{world.World.World, opening.Opening.opening_world}
+use Rattle.ix_model.specs.history.{Events.Event, History.{History, next, with_entry, world_of}, Step.{run, step_of}}
+use Rattle.ix_script.specs.{lines.Before.{form_told, lanes_of}, declared.line.Line.Line}
 use Rattle.ix_asking.specs.Asking.{Answered}
 use Rattle.ix_asking.specs.Asking as asking
-use Rattle.ix_lanes.specs.histories.Lanes.{lane_asks}
-use Rattle.ix_lanes.specs.histories.Serial.{answered}
+use Rattle.ix_lanes.specs.histories.{Lanes.lane_asks, Serial.answered}
 use Rattle.ix_replay.specs.report.Report.{entry_text}
-use Rattle.ix_judging.specs.Lanes.{State}
-use Rattle.ix_judging.specs.Plan.{Plan}
-use Rattle.ix_judging.specs.Runs.{IsRun, IsTurn, entered, reached}
-use Rattle.ix_judging.specs.Walk.{told_call}
-use Rattle.ix_judging.proofs.Scripts.{lawful}
-use Rattle.ix_judging.proofs.Stores.{after_other, after_same, get-set_other, get-set_same, length-after}
-use Rattle.ix_judging.proofs.Turns.{told_turn}
-use Rattle.ix_check.specs.Judging.{IsAmong, IsLaneAt, LanesStand}
-use Rattle.ix_check.specs.Plans.{begun, judged_plan, judged_script}
-use Rattle.ix_check.specs.Stepping.{LaneAt, answered_so}
-use Rattle.ix_check.proofs.Called.{place_is}
-use Rattle.ix_check.proofs.Histories.{is_script}
-use Rattle.ix_check.proofs.LaneCalls.{heard_on}
+use Rattle.ix_judging.specs.{Lanes.State, Plan.Plan, Runs.{IsRun, IsTurn, entered, reached}, Walk.told_call}
+use Rattle.ix_judging.proofs.{Scripts.lawful, Stores.{after_other, after_same, get-set_other, get-set_same, length-after}, Turns.told_turn}
+use Rattle.ix_check.specs.{Judging.{IsAmong, IsLaneAt, LanesStand}, Plans.{begun, judged_plan, judged_script}, Stepping.{LaneAt, answered_so}}
+use Rattle.ix_check.proofs.{Called.place_is, Histories.is_script, LaneCalls.heard_on}
 
 -- ---- one entry more at the end
 module _ {W E A L T : Type 0} (p : Plan W E A L T) where

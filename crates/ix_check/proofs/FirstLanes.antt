@@ -1,14 +1,10 @@
 -- The lanes of a script, one more at a time.
 use Rattle.std.proofs.Common.{◌≡◌, ℕ, zero, suc, ◌<◌, List, [], ◌∷◌, ◌++◌, length, replicate, Some, sym, ap, ◌∙◌, arith, slice_get}
-use Rattle.std.proofs.lemmas.List.{get_or-replicate, length-replicate}
-use Rattle.std.proofs.lemmas.Option.{slice_get-get_or, slice_get_within}
-use Rattle.ix_script.specs.lines.Before.{lanes_of}
-use Rattle.ix_script.specs.declared.line.Line.{Line}
+use Rattle.std.proofs.lemmas.{List.{get_or-replicate, length-replicate}, Option.{slice_get-get_or, slice_get_within}}
+use Rattle.ix_script.specs.{lines.Before.lanes_of, declared.line.Line.Line}
 use Rattle.ix_asking.specs.Asking.{Answered}
-use Rattle.ix_check.specs.Judging.{AreFirst}
-use Rattle.ix_lanes.specs.histories.Lanes.{lane_asks}
-use Rattle.ix_lanes.specs.running.Left.{LaneLeft, asks_left, place_of}
-use Rattle.ix_check.specs.Stepping.{LaneAt, first_at, lane_now}
+use Rattle.ix_check.specs.{Judging.AreFirst, Stepping.{LaneAt, first_at, lane_now}}
+use Rattle.ix_lanes.specs.{histories.Lanes.lane_asks, running.Left.{LaneLeft, asks_left, place_of}}
 
 get-replicate : {A : Type 0} (n : ℕ) (x : A) (k : ℕ) → k < n → slice_get (replicate n x) k ≡ Some x
 get-replicate n x k within = slice_get-get_or (replicate n x) k x (omega (arith, within, length-replicate n x)) ∙ ap Some (get_or-replicate n k x x within)

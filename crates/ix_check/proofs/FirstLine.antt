@@ -1,7 +1,6 @@
 -- The first line of a text, by the place of its line feed.
 use Rattle.std.proofs.Common.{◌≡◌, ℕ, zero, suc, ◌<◌, ◌==◌, Bool, true, false, List, [], ◌∷◌, length, take, refl, ap, arith, slice_index}
-use Rattle.ix_judging.specs.Bytes.{is_empty, is_line, split, with_byte}
-use Rattle.ix_judging.specs.Judge.{Text}
+use Rattle.ix_judging.specs.{Bytes.{is_empty, is_line, split, with_byte}, Judge.Text}
 
 -- whether a place of a text has a line feed
 abbrev pub HasFeed : List ℕ → ℕ → Type 0

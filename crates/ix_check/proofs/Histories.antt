@@ -1,27 +1,16 @@
 -- The good histories of the theory are those of the script.
 use Rattle.std.proofs.Common.{◌≡◌, ℕ, ◌+◌, ◌==◌, ◌&&◌, nat_le, Bool, true, false, List, [], ◌∷◌, length, refl, sym, ap, ◌∙◌, if◌then◌else◌}
 use Rattle.std.specs.Cmp.Lexicographic.{bytes_decides}
-use Rattle.ix_model.specs.world.World.{World}
-use Rattle.ix_model.specs.opening.Opening.{opening_world}
-use Rattle.ix_model.specs.history.Events.{Event}
-use Rattle.ix_model.specs.history.Step.{step_of}
-use Rattle.ix_script.specs.lines.Before.{lanes_of}
-use Rattle.ix_script.specs.scripts.Scripts.{config_of}
-use Rattle.ix_script.specs.declared.line.Line.{Line}
+use Rattle.ix_model.specs.{world.World.World, opening.Opening.opening_world, history.{Events.Event, Step.step_of}}
+use Rattle.ix_script.specs.{lines.Before.lanes_of, scripts.Scripts.config_of, declared.line.Line.Line}
 use Rattle.ix_asking.specs.Asking.{Answered}
 use Rattle.ix_asking.specs.Lines as lines
-use Rattle.ix_lanes.specs.histories.History.{IsHistory, phase_of, phases_never_fall}
-use Rattle.ix_lanes.specs.histories.Lanes.{calls_of, replies_of}
+use Rattle.ix_lanes.specs.histories.{History.{IsHistory, phase_of, phases_never_fall}, Lanes.{calls_of, replies_of}, Serial.answered}
 use Rattle.ix_lanes.specs.histories.Lanes as lanes
-use Rattle.ix_lanes.specs.histories.Serial.{answered}
 use Rattle.ix_replay.specs.report.Fixed.{LanesNamed}
 use Rattle.ix_judging.specs.Asking as asking
-use Rattle.ix_judging.specs.Asking.{IsScript}
-use Rattle.ix_judging.specs.Lanes.{Calls, IsGood, never_falls, replies_from}
-use Rattle.ix_judging.proofs.Scripts.{good_history, history_good}
-use Rattle.ix_check.specs.Plans.{begun, calls_as, judged_plan, judged_script}
-use Rattle.ix_check.proofs.LaneCalls.{script_lane}
-use Rattle.ix_check.proofs.Printed.{names_tell}
+use Rattle.ix_judging.{specs.{Asking.IsScript, Lanes.{Calls, IsGood, never_falls, replies_from}}, proofs.Scripts.{good_history, history_good}}
+use Rattle.ix_check.{specs.Plans.{begun, calls_as, judged_plan, judged_script}, proofs.{LaneCalls.script_lane, Printed.names_tell}}
 
 module _ (s : List Line) where
   pub replies_same : (k place : ℕ) (w : World) (events : List Event)

@@ -1,9 +1,8 @@
 -- The parts of an input, as its lines are gone through.
-use Rattle.std.proofs.Common.{◌≡◌, ℕ, ◌==◌, Bool, true, false, List, [], ◌∷◌, ◌++◌, length, take, drop, refl, sym, ap, ◌∙◌, append_assoc, append-nil, length-append, ◌-◌}
-use Rattle.std.proofs.Common.{arith, if◌then◌else◌}
+use Rattle.std.proofs.Common.{◌≡◌, ℕ, ◌==◌, Bool, true, false, List, [], ◌∷◌, ◌++◌, length, take, drop, refl, sym, ap, ◌∙◌, append_assoc, append-nil, ◌-◌}
+use Rattle.std.proofs.Common.{length-append, arith, if◌then◌else◌}
 use Rattle.std.proofs.lemmas.Bool.{eqb-true}
-use Rattle.ix_judging.specs.Bytes.{is_empty, is_line, joined, split, with_byte, with_feed}
-use Rattle.ix_judging.specs.Judge.{Text}
+use Rattle.ix_judging.specs.{Bytes.{is_empty, is_line, joined, split, with_byte, with_feed}, Judge.Text}
 use Rattle.ix_check.specs.Parts.{before_report, from_report, heads, is_heading, lines_in, report_part, script_part, with_front}
 
 -- ---- lines

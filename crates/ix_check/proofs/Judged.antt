@@ -1,22 +1,14 @@
 -- What is found by the walk is what is answered.
-use Rattle.std.proofs.Common.{◌≡◌, ℕ, List, [], ◌++◌, length, refl, sym, ◌∙◌, subst, inl, inr}
-use Rattle.std.proofs.lemmas.List.{length-replicate}
+use Rattle.std.proofs.{Common.{◌≡◌, ℕ, List, [], ◌++◌, length, refl, sym, ◌∙◌, subst, inl, inr}, lemmas.List.length-replicate}
 use Rattle.ix_model.specs.history.Events.{Event}
-use Rattle.ix_script.specs.lines.Before.{lanes_of}
-use Rattle.ix_script.specs.declared.line.Line.{Line}
+use Rattle.ix_script.specs.{lines.Before.lanes_of, declared.line.Line.Line}
 use Rattle.ix_asking.specs.Asking.{Answered}
 use Rattle.ix_lanes.specs.histories.History.{IsHistory}
-use Rattle.ix_replay.specs.report.Fixed.{LanesNamed}
-use Rattle.ix_replay.specs.report.Report.{report_of}
+use Rattle.ix_replay.specs.report.{Fixed.LanesNamed, Report.report_of}
 use Rattle.ix_judging.specs.Bytes as theory
-use Rattle.ix_judging.specs.Bytes.{JudgesBytes, first_lines, judge_bytes}
-use Rattle.ix_judging.specs.Judge.{No, Verdict, Yes}
-use Rattle.ix_judging.proofs.ByBytes.{bytes_are_judged}
-use Rattle.ix_judging.proofs.Scripts.{lawful}
-use Rattle.ix_check.specs.Plans.{begun, found_in, judged_plan, judged_script}
-use Rattle.ix_check.specs.Verdicts.{BeginsGood, IsGoodReport, IsVerdict, IsWrongAt}
-use Rattle.ix_check.proofs.Histories.{from_good, is_script, to_good}
-use Rattle.ix_check.proofs.Printed.{prints_lines, report_joined}
+use Rattle.ix_judging.{specs.{Bytes.{JudgesBytes, first_lines, judge_bytes}, Judge.{No, Verdict, Yes}}, proofs.{ByBytes.bytes_are_judged, Scripts.lawful}}
+use Rattle.ix_check.specs.{Plans.{begun, found_in, judged_plan, judged_script}, Verdicts.{BeginsGood, IsGoodReport, IsVerdict, IsWrongAt}}
+use Rattle.ix_check.proofs.{Histories.{from_good, is_script, to_good}, Printed.{prints_lines, report_joined}}
 
 module _ (s : List Line) (named : LanesNamed s) where
   -- ---- good reports

@@ -1,33 +1,17 @@
 -- What the lane of a script asks for is what a lane of the theory asks for. All that goes by how a line asks for its calls stands here.
 use Rattle.std.proofs.Common.{◌≡◌, ℕ, zero, suc, ◌*◌, ◌≤◌, Bool, true, false, List, [], ◌∷◌, ◌++◌, length, take, Option, None, refl, sym, ap, subst, arith}
 use Rattle.std.proofs.Common.{cond, if◌then◌else◌}
-use Rattle.std.specs.List.{sum_by}
-use Rattle.std.proofs.lemmas.List.Sums.{sum_by-take-le}
+use Rattle.std.{specs.List.sum_by, proofs.lemmas.List.Sums.sum_by-take-le}
 use Rattle.ix_model.specs.history.Events.{Event}
-use Rattle.ix_asking.specs.Asking.{Answered, Asking, Done, Ask, all_heard, first, followed, heard}
-use Rattle.ix_asking.specs.Lines.{calls_then, no_calls}
-use Rattle.ix_asking.specs.Runs.{entry_of}
-use Rattle.ix_asking.proofs.Every.{AllOf}
-use Rattle.ix_asking.proofs.Few.{Few}
-use Rattle.ix_script.specs.lines.Before.{lanes_of, is_phase}
-use Rattle.ix_script.specs.declared.line.Line.{Line}
-use Rattle.ix_lanes.specs.declared.asking.handed.Handed.{Handed}
-use Rattle.ix_lanes.specs.asking.Asked.{Names, named, no_names}
-use Rattle.ix_script.specs.scripts.Schedule.{Numbered, is_seat, seat_after}
-use Rattle.ix_lanes.specs.asking.LineAsks.{OfLine, line_asks, lines_ask}
-use Rattle.ix_lanes.specs.asking.Ruled.{rules_told}
-use Rattle.ix_lanes.specs.histories.History.{phase_of}
-use Rattle.ix_lanes.specs.histories.Lanes.{calls_of, lane_asks, lines_of_seat}
-use Rattle.ix_lanes.specs.histories.Serial.{header_of}
-use Rattle.ix_lanes.proofs.serially.LineCalls.{all-numbered}
-use Rattle.ix_lanes.proofs.serially.LineFew.{few-of-line}
-use Rattle.ix_judging.specs.Asking.{IsLane}
-use Rattle.ix_judging.specs.Lanes.{with_entry_first}
+use Rattle.ix_asking.specs.{Asking.{Answered, Asking, Done, Ask, all_heard, first, followed, heard}, Lines.{calls_then, no_calls}, Runs.entry_of}
+use Rattle.ix_asking.proofs.{Every.AllOf, Few.Few}
+use Rattle.ix_script.specs.{lines.Before.{lanes_of, is_phase}, declared.line.Line.Line, scripts.Schedule.{Numbered, is_seat, seat_after}}
+use Rattle.ix_lanes.specs.{declared.asking.handed.Handed.Handed, histories.{History.phase_of, Lanes.{calls_of, lane_asks, lines_of_seat}, Serial.header_of}}
+use Rattle.ix_lanes.specs.asking.{Asked.{Names, named, no_names}, LineAsks.{OfLine, line_asks, lines_ask}, Ruled.rules_told}
+use Rattle.ix_lanes.proofs.serially.{LineCalls.all-numbered, LineFew.few-of-line}
+use Rattle.ix_judging.{specs.{Asking.IsLane, Lanes.with_entry_first, Lines.{AsksFew, LinesRise, lines_from}}, proofs.LaneLines.{lines_are, more_room}}
 use Rattle.ix_judging.specs.Lines as theory
-use Rattle.ix_judging.specs.Lines.{AsksFew, LinesRise, lines_from}
-use Rattle.ix_judging.proofs.LaneLines.{lines_are, more_room}
-use Rattle.ix_check.specs.Plans.{calls_as, most_calls}
-use Rattle.ix_check.specs.Stepping.{entry_due}
+use Rattle.ix_check.specs.{Plans.{calls_as, most_calls}, Stepping.entry_due}
 
 -- ---- phases
 take_less : {X : Type 0} (j i : ℕ) (xs : List X) → j ≤ i → take j (take i xs) ≡ take j xs

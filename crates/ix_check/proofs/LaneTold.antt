@@ -1,12 +1,9 @@
 -- The lane that a line names is looked for behind the place.
-use Rattle.std.proofs.Common.{◌≡◌, ◌≢◌, ℕ, suc, ◌+◌, ◌≤◌, ◌&&◌, Bool, true, false, is_some, List, [], ◌∷◌, ◌++◌, length, drop, Option, Some, None, refl, sym, ap, ◌∙◌}
-use Rattle.std.proofs.Common.{slice_get, add-one, append_assoc, Bor, if◌then◌else◌}
-use Rattle.std.specs.Prelude.{MatchOption}
-use Rattle.std.proofs.lemmas.Bool.{eq-eqb}
-use Rattle.std.proofs.lemmas.List.{drop_all}
+use Rattle.std.proofs.Common.{◌≡◌, ◌≢◌, ℕ, suc, ◌+◌, ◌≤◌, ◌&&◌, Bool, true, false, is_some, List, [], ◌∷◌, ◌++◌, length, drop, Option, Some, None, refl, sym}
+use Rattle.std.proofs.Common.{ap, ◌∙◌, slice_get, add-one, append_assoc, Bor, if◌then◌else◌}
+use Rattle.std.{specs.Prelude.MatchOption, proofs.lemmas.{Bool.eq-eqb, List.drop_all}}
 use Rattle.ix_lanes.proofs.found.Indexed.{none_left, rest_is}
-use Rattle.ix_judging.specs.Names.{starts, told_from}
-use Rattle.ix_judging.proofs.NamesTell.{starts_so, starts_with}
+use Rattle.ix_judging.{specs.Names.{starts, told_from}, proofs.NamesTell.{starts_so, starts_with}}
 
 -- ---- fronts
 pub starts-cancel : (front x text : List ℕ) → starts (front ++ x) (front ++ text) ≡ starts x text

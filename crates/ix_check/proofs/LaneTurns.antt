@@ -1,22 +1,15 @@
 -- Whose turn it is, by the lanes that make one call at a time.
-use Rattle.std.proofs.Common.{◌≡◌, ℕ, zero, suc, ◌≤◌, ◌<◌, Bool, true, false, is_none, List, [], ◌∷◌, length, option_map, Option, Some, None, refl, sym, ap, ◌∙◌, subst}
-use Rattle.std.proofs.Common.{arith, inl, inr, slice_get}
-use Rattle.std.specs.List.{list_all}
-use Rattle.std.proofs.lemmas.Bool.{and_parts, and_from, le-leb, leb-true}
-use Rattle.std.proofs.lemmas.Option.{slice_get_within, slice_get_cases}
+use Rattle.std.proofs.Common.{◌≡◌, ℕ, zero, suc, ◌≤◌, ◌<◌, Bool, true, false, is_none, List, [], ◌∷◌, length, option_map, Option, Some, None, refl, sym, ap}
+use Rattle.std.proofs.Common.{◌∙◌, subst, arith, inl, inr, slice_get}
+use Rattle.std.{specs.List.list_all, proofs.lemmas.{Bool.{and_parts, and_from, le-leb, leb-true}, Option.{slice_get_within, slice_get_cases}}}
 use Rattle.ix_model.specs.history.Events.{Event}
 use Rattle.ix_script.specs.declared.line.Line.{Line}
 use Rattle.ix_asking.specs.Asking.{Answered, first}
 use Rattle.ix_lanes.specs.histories.Lanes as histories
 use Rattle.ix_lanes.specs.histories.History.{phase_of}
-use Rattle.ix_judging.specs.Runs.{IsOver, asks, asks_in}
-use Rattle.ix_judging.specs.Walk.{is_over, least_to}
-use Rattle.ix_judging.proofs.Stores.{asking_lane}
-use Rattle.ix_judging.proofs.Turns.{is_over_from, least_below, least_from, over_is}
-use Rattle.ix_check.specs.Judging.{LanesStand}
-use Rattle.ix_check.specs.Plans.{judged_plan}
-use Rattle.ix_check.specs.Stepping.{LaneAt, entry_due, is_from, next_call, next_phase}
-use Rattle.ix_check.proofs.LaneCalls.{next_left}
+use Rattle.ix_judging.specs.{Runs.{IsOver, asks, asks_in}, Walk.{is_over, least_to}}
+use Rattle.ix_judging.proofs.{Stores.asking_lane, Turns.{is_over_from, least_below, least_from, over_is}}
+use Rattle.ix_check.{specs.{Judging.LanesStand, Plans.judged_plan, Stepping.{LaneAt, entry_due, is_from, next_call, next_phase}}, proofs.LaneCalls.next_left}
 
 -- ---- all items
 all_each : {X : Type 0} (p : X → Bool) (xs : List X) → list_all p xs ≡ true → (k : ℕ) (x : X) → slice_get xs k ≡ Some x → p x ≡ true

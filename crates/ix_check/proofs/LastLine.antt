@@ -1,10 +1,8 @@
 -- The line of the entry that a history ends with.
 use Rattle.std.proofs.Common.{◌≡◌, ℕ, ◌+◌, true, false, List, [], ◌∷◌, ◌++◌, length, Result, Ok, Err, OnOk, refl, sym, ap, ◌∙◌, arith, length-append}
 use Rattle.std.specs.Result.{is_err}
-use Rattle.ix_model.specs.history.Events.{Event}
-use Rattle.ix_model.specs.history.History.{History, with_entry, world_of}
-use Rattle.ix_script.specs.lines.Before.{form_told, lanes_of}
-use Rattle.ix_script.specs.declared.line.Line.{Line}
+use Rattle.ix_model.specs.history.{Events.Event, History.{History, with_entry, world_of}}
+use Rattle.ix_script.specs.{lines.Before.{form_told, lanes_of}, declared.line.Line.Line}
 use Rattle.ix_replay.specs.report.Report.{entry_text}
 use Rattle.ix_check.specs.Printing.{IsLastLine}
 

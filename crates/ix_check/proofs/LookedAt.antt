@@ -1,32 +1,18 @@
 -- A line behind the head or an entry, looked at.
-use Rattle.std.proofs.Common.{◌≡◌, ℕ, suc, ◌+◌, ◌≤◌, Bool, true, false, List, [], ◌∷◌, length, Option, Some, refl, sym, ap, ◌∙◌, subst, arith}
-use Rattle.std.proofs.Common.{length-append, slice_get, slice_index_or, slice_set, if◌then◌else◌}
-use Rattle.std.specs.Prelude.{IfSome}
-use Rattle.std.proofs.lemmas.List.{length-replicate}
-use Rattle.std.proofs.lemmas.Option.{slice_get_within}
-use Rattle.ix_model.specs.world.Naming.{same_bytes}
-use Rattle.ix_model.specs.world.World.{World}
-use Rattle.ix_model.specs.history.Cost.{cost_of, cost_of_history}
-use Rattle.ix_model.specs.history.Events.{Event}
-use Rattle.ix_model.specs.history.History.{History, next, with_entry, world_of}
-use Rattle.ix_script.specs.lines.Before.{form_told, lanes_of}
-use Rattle.ix_script.specs.declared.line.Line.{Line}
+use Rattle.std.proofs.Common.{◌≡◌, ℕ, suc, ◌+◌, ◌≤◌, Bool, true, false, List, [], ◌∷◌, length, Option, Some, refl, sym, ap, ◌∙◌, subst, arith, length-append}
+use Rattle.std.proofs.Common.{slice_get, slice_index_or, slice_set, if◌then◌else◌}
+use Rattle.std.{specs.Prelude.IfSome, proofs.lemmas.{List.length-replicate, Option.slice_get_within}}
+use Rattle.ix_model.specs.world.{Naming.same_bytes, World.World}
+use Rattle.ix_model.specs.history.{Cost.{cost_of, cost_of_history}, Events.Event, History.{History, next, with_entry, world_of}}
+use Rattle.ix_script.specs.{lines.Before.{form_told, lanes_of}, declared.line.Line.Line}
 use Rattle.ix_asking.specs.Asking.{Answered}
 use Rattle.ix_lanes.specs.histories.Serial.{answered}
 use Rattle.ix_replay.specs.report.Report.{entry_text}
-use Rattle.ix_judging.specs.Lanes.{State}
-use Rattle.ix_judging.specs.Plan.{Plan}
-use Rattle.ix_judging.specs.Runs.{asks, entered, reached}
-use Rattle.ix_judging.specs.Walk.{Entries, Fails, line_after, makes, told_call}
+use Rattle.ix_judging.specs.{Lanes.State, Plan.Plan, Runs.{asks, entered, reached}, Walk.{Entries, Fails, line_after, makes, told_call}}
 use Rattle.ix_judging.proofs.Stores.{asks_within, length-entered}
-use Rattle.ix_check.specs.Judging.{IsAmong, IsCalled, Stands}
-use Rattle.ix_check.specs.Plans.{begun, judged_plan}
-use Rattle.ix_check.specs.Stepping.{HasRoom, LaneAt, PrintsCall, answered_so, next_call}
+use Rattle.ix_check.specs.{Judging.{IsAmong, IsCalled, Stands}, Plans.{begun, judged_plan}, Stepping.{HasRoom, LaneAt, PrintsCall, answered_so, next_call}}
 use Rattle.ix_check.specs.declared.stage.Stage.TheVariants as stage
-use Rattle.ix_check.proofs.AllLanes.{item_at}
-use Rattle.ix_check.proofs.Entered.{among_after, line_is}
-use Rattle.ix_check.proofs.LaneTurns.{lane_asks}
-use Rattle.ix_check.proofs.Room.{room}
+use Rattle.ix_check.proofs.{AllLanes.item_at, Entered.{among_after, line_is}, LaneTurns.lane_asks, Room.room}
 
 length_reached : {W E A L T : Type 0} (p : Plan W E A L T) (at : State W L) (events : List E)
     → length (reached p at events).lanes ≡ length at.lanes

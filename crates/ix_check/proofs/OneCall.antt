@@ -1,19 +1,12 @@
 -- One call of a lane on a core.
-use Rattle.std.proofs.Common.{◌≡◌, ℕ, suc, ◌+◌, ◌≤◌, List, [], ◌∷◌, ◌++◌, length, Option, Some, None, true, false, is_some, refl, sym, ap, ◌∙◌, arith, append-nil}
-use Rattle.std.specs.Prelude.{IfSome}
-use Rattle.std.proofs.lemmas.List.{append_cancel_left}
-use Rattle.ix_model.specs.world.World.{World}
-use Rattle.ix_model.specs.history.Cost.{cost_of, cost_of_history}
-use Rattle.ix_model.specs.history.Events.{Event}
-use Rattle.ix_model.specs.history.History.{History, next, with_entry, world_of}
-use Rattle.ix_model.specs.history.Made.{Made}
-use Rattle.ix_model.specs.history.Seats.{GoesOn, made_by, made_of, replied}
-use Rattle.ix_model.specs.history.Step.{step_of}
-use Rattle.ix_model.specs.history.Systems.{FullFor}
+use Rattle.std.proofs.Common.{◌≡◌, ℕ, suc, ◌+◌, ◌≤◌, List, [], ◌∷◌, ◌++◌, length, Option, Some, None, true, false, is_some, refl, sym, ap, ◌∙◌, arith}
+use Rattle.std.proofs.Common.{append-nil}
+use Rattle.std.{specs.Prelude.IfSome, proofs.lemmas.List.append_cancel_left}
+use Rattle.ix_model.specs.{world.World.World, history.Cost.{cost_of, cost_of_history}, history.Events.Event, history.Made.Made, history.Step.step_of}
+use Rattle.ix_model.specs.{history.History.{History, next, with_entry, world_of}, history.Seats.{GoesOn, made_by, made_of, replied}, history.Systems.FullFor}
 use Rattle.ix_model.specs.declared.reply.Answer.TheVariants as answer
 use Rattle.ix_asking.specs.Runs.{answer_of}
-use Rattle.ix_lanes.specs.histories.Serial.{answered}
-use Rattle.ix_lanes.proofs.serially.Replied.{made_by-on}
+use Rattle.ix_lanes.{specs.histories.Serial.answered, proofs.serially.Replied.made_by-on}
 use Rattle.ix_core.specs.Stops.{FilledUp}
 use Rattle.ix_check.specs.Stepping.{HasRoom, LaneAt, MakesCall, StopsCall, answered_so, next_call}
 

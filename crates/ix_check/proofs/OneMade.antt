@@ -1,12 +1,9 @@
 -- One call that a lane makes.
 use Rattle.std.proofs.Common.{◌≡◌, ℕ, List, [], ◌∷◌, ◌++◌, length, Option, Some, None, Ok, refl, sym, ap, ◌∙◌, subst, arith}
 use Rattle.std.specs.Prelude.{is_some, true}
-use Rattle.ix_model.specs.history.Made.{Made}
-use Rattle.ix_model.specs.declared.reply.Answer.{Answer}
-use Rattle.ix_asking.specs.Asking.{Asking, Done, Ask, all_heard, came_as, first, heard}
-use Rattle.ix_asking.specs.Runs.{answer_of, answers_of, AsAsked, Turn}
-use Rattle.ix_lanes.specs.asking.Asked.{Names}
-use Rattle.ix_lanes.specs.running.Left.{LaneLeft, asks_left, place_of}
+use Rattle.ix_model.specs.{history.Made.Made, declared.reply.Answer.Answer}
+use Rattle.ix_asking.specs.{Asking.{Asking, Done, Ask, all_heard, came_as, first, heard}, Runs.{answer_of, answers_of, AsAsked, Turn}}
+use Rattle.ix_lanes.specs.{asking.Asked.Names, running.Left.{LaneLeft, asks_left, place_of}}
 use Rattle.ix_check.specs.Stepping.{MakesCall, entry_due, lane_now, next_call}
 
 -- where a call stands next, a turn makes one

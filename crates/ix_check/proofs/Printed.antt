@@ -1,37 +1,18 @@
 -- What a report prints: an entry's line tells of its lane, each line has one line feed, at its end, and the lines are the report's text.
 use Rattle.std.proofs.Common.{◌≡◌, ℕ, zero, suc, ◌+◌, ◌-◌, ◌<◌, ◌==◌, not, Bool, true, false, List, [], ◌∷◌, ◌++◌, length, Some, refl, sym, ap, ◌∙◌, arith}
 use Rattle.std.proofs.Common.{add-one, append_assoc, append-nil, if◌then◌else◌}
-use Rattle.std.specs.Prelude.{codes}
-use Rattle.std.specs.List.{flat_map, list_all}
-use Rattle.std.specs.Fmt.{decimal}
-use Rattle.std.proofs.lemmas.Bool.{and_parts}
-use Rattle.std.proofs.lemmas.Bool.Decides.{nat_tests}
+use Rattle.std.{specs.{Prelude.codes, List.{flat_map, list_all}, Fmt.decimal}, proofs.lemmas.Bool.{and_parts, Decides.nat_tests}}
 use Rattle.ix_label.specs.declared.form.Form.{Form}
-use Rattle.ix_model.specs.world.World.{World}
-use Rattle.ix_model.specs.opening.Opening.{opening_world}
-use Rattle.ix_model.specs.history.Events.{Event}
-use Rattle.ix_model.specs.history.Step.{run, step_of}
-use Rattle.ix_text.specs.Names.{is_reserved, is_script_name, may_stand_in_script_name}
-use Rattle.ix_text.proofs.Tests.{both, list_all_weaker}
-use Rattle.ix_script.specs.lines.Before.{form_told, lanes_of}
-use Rattle.ix_script.specs.scripts.Scripts.{config_of}
-use Rattle.ix_script.specs.declared.line.Line.{Line}
+use Rattle.ix_model.specs.{world.World.World, opening.Opening.opening_world, history.{Events.Event, Step.{run, step_of}}}
+use Rattle.ix_text.{specs.Names.{is_reserved, is_script_name, may_stand_in_script_name}, proofs.Tests.{both, list_all_weaker}}
+use Rattle.ix_script.specs.{lines.Before.{form_told, lanes_of}, scripts.Scripts.config_of, declared.line.Line.Line}
 use Rattle.ix_asking.specs.Asking.{Answered}
-use Rattle.ix_report.specs.Feeds.{EndsOnce, has_no_feed}
-use Rattle.ix_report.specs.LineText.{audit_line, head_line}
-use Rattle.ix_report.proofs.feeds.Lines.{lines_end}
-use Rattle.ix_replay.specs.report.Fixed.{LanesNamed}
-use Rattle.ix_replay.specs.report.Report.{closing_text, entries_text, entry_text, lane_name, objects_text, processes_text, report_of}
-use Rattle.ix_replay.proofs.report.Fixed.{begins}
-use Rattle.ix_replay.proofs.report.LaneNames.{lane_no_space, lanes_differ}
-use Rattle.ix_judging.specs.Bytes.{PrintsLines, is_empty, is_line, joined, split, with_byte, with_feed}
+use Rattle.ix_report.{specs.{Feeds.{EndsOnce, has_no_feed}, LineText.{audit_line, head_line}}, proofs.feeds.Lines.lines_end}
+use Rattle.ix_replay.specs.report.{Fixed.LanesNamed, Report.{closing_text, entries_text, entry_text, lane_name, objects_text, processes_text, report_of}}
+use Rattle.ix_replay.proofs.report.{Fixed.begins, LaneNames.{lane_no_space, lanes_differ}}
+use Rattle.ix_judging.{specs.Bytes.{PrintsLines, is_empty, is_line, joined, split, with_byte, with_feed}, specs.Judge.Text, specs.Lanes.State}
+use Rattle.ix_judging.{specs.Runs.entered, specs.Names.{has_no_space, told_from}, proofs.{NamesTell.found_at, Split.{joined-split, split_lines}}}
 use Rattle.ix_judging.specs.Judge as judge
-use Rattle.ix_judging.specs.Judge.{Text}
-use Rattle.ix_judging.specs.Lanes.{State}
-use Rattle.ix_judging.specs.Runs.{entered}
-use Rattle.ix_judging.specs.Names.{has_no_space, told_from}
-use Rattle.ix_judging.proofs.NamesTell.{found_at}
-use Rattle.ix_judging.proofs.Split.{joined-split, split_lines}
 use Rattle.ix_check.specs.Plans.{begun, judged_plan, mark}
 
 -- ---- an entry's line tells of its lane

@@ -1,25 +1,13 @@
 -- The journal has room for the next call of each lane, as long as the lanes take turns.
 use Rattle.std.proofs.Common.{◌≡◌, ℕ, ◌+◌, ◌≤◌, ◌<◌, List, [], ◌∷◌, ◌++◌, length, Option, Some, sym, ap, ◌∙◌, subst, arith, nat_lt, true}
-use Rattle.std.specs.Prelude.{IfSome}
-use Rattle.std.specs.List.{list_all}
-use Rattle.std.proofs.lemmas.List.{length-replicate}
-use Rattle.ix_model.specs.history.Cost.{cost_of, cost_of_history}
-use Rattle.ix_model.specs.history.Events.{Event}
-use Rattle.ix_script.specs.lines.Before.{lanes_of}
-use Rattle.ix_script.specs.scripts.Need.{need}
-use Rattle.ix_script.specs.scripts.Scripts.{config_of}
-use Rattle.ix_script.specs.declared.line.Line.{Line}
+use Rattle.std.{specs.{Prelude.IfSome, List.list_all}, proofs.lemmas.List.length-replicate}
+use Rattle.ix_model.specs.history.{Cost.{cost_of, cost_of_history}, Events.Event}
+use Rattle.ix_script.specs.{lines.Before.lanes_of, scripts.{Need.need, Scripts.config_of}, declared.line.Line.Line}
 use Rattle.ix_asking.specs.Asking.{Answered}
-use Rattle.ix_lanes.specs.histories.Lanes.{LanesSoFar, calls_of, entries_of, replies_of}
-use Rattle.ix_lanes.proofs.serially.Costs.{cost-push}
-use Rattle.ix_lanes.proofs.serially.Needs.{next_fits}
+use Rattle.ix_lanes.{specs.histories.Lanes.{LanesSoFar, calls_of, entries_of, replies_of}, proofs.serially.{Costs.cost-push, Needs.next_fits}}
 use Rattle.ix_replay.specs.report.Fixed.{LanesNamed}
-use Rattle.ix_judging.specs.Lanes.{Calls, replies_from}
-use Rattle.ix_judging.specs.Runs.{HoldsSoFar, IsRun, asks, reached}
-use Rattle.ix_judging.proofs.GoodRuns.{takes_hold}
-use Rattle.ix_judging.proofs.Scripts.{calls-asked}
-use Rattle.ix_check.specs.Plans.{begun, calls_as, judged_plan, judged_script}
-use Rattle.ix_check.proofs.Histories.{is_script, replies_same, w0}
+use Rattle.ix_judging.{specs.{Lanes.{Calls, replies_from}, Runs.{HoldsSoFar, IsRun, asks, reached}}, proofs.{GoodRuns.takes_hold, Scripts.calls-asked}}
+use Rattle.ix_check.{specs.Plans.{begun, calls_as, judged_plan, judged_script}, proofs.Histories.{is_script, replies_same, w0}}
 
 module _ (s : List Line) (named : LanesNamed s) (events : List Event) (run : IsRun (judged_plan s) (begun s) events) where
   abbrev count : ℕ

@@ -4,16 +4,9 @@ use Rattle.std.proofs.lemmas.Bool.{ne_eqb}
 use Rattle.ix_model.specs.history.History.{History}
 use Rattle.ix_script.specs.declared.line.Line.{Line}
 use Rattle.ix_replay.specs.report.Fixed.{LanesNamed}
-use Rattle.ix_judging.specs.Bytes.{is_empty, is_line, split}
+use Rattle.ix_judging.{specs.{Bytes.{is_empty, is_line, split}, Judge.Text, Walk.{Begins, Closing, Entries, Fails, ended, walked}}, proofs.Split.split-line}
 use Rattle.ix_judging.specs.Judge as theory
-use Rattle.ix_judging.specs.Judge.{Text}
-use Rattle.ix_judging.specs.Walk.{Begins, Closing, Entries, Fails, ended, walked}
-use Rattle.ix_judging.proofs.Split.{split-line}
-use Rattle.ix_check.specs.Judging.{Stands, Walked}
-use Rattle.ix_check.specs.Plans.{begun, found_in, judged_plan}
-use Rattle.ix_check.specs.Stepping.{LaneAt}
-use Rattle.ix_check.specs.Verdicts.{IsVerdict}
-use Rattle.ix_check.specs.declared.stage.Stage.{Stage}
+use Rattle.ix_check.specs.{Judging.{Stands, Walked}, Plans.{begun, found_in, judged_plan}, Stepping.LaneAt, Verdicts.IsVerdict, declared.stage.Stage.Stage}
 use Rattle.ix_check.specs.declared.stage.Stage.TheVariants as stage
 use Rattle.ix_check.proofs.Judged.{judged}
 

@@ -1,5 +1,4 @@
-use Rattle.std.proofs.Common.{length, refl, sym, ap, ◌∙◌, arith, length-append}
-use Rattle.std.proofs.lemmas.List.{drop_all, take_all}
+use Rattle.std.proofs.{Common.{length, refl, sym, ap, ◌∙◌, arith, length-append}, lemmas.List.{drop_all, take_all}}
 use Rattle.ix_check.proofs.InputParts.{cut_there, first_behind, line_behind, lines_none, none_behind, one_line, report_behind}
 use Rattle.ix_check.proofs.input.parts.Goals as goal
 

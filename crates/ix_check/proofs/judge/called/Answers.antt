@@ -1,8 +1,5 @@
-use Rattle.std.proofs.Common.{◌≡◌, ◌+◌, ◌≤◌, ℕ, length, sym, ap, ◌∙◌}
-use Rattle.std.proofs.lemmas.Bool.{ltb-false, ltb-true}
-use Rattle.std.proofs.lemmas.Option.{slice_get_past}
-use Rattle.ix_check.proofs.AllLanes.{item_at}
-use Rattle.ix_check.proofs.Called.{has_turn, lane_over, names_none, no_lane, no_turn}
+use Rattle.std.proofs.{Common.{◌≡◌, ◌+◌, ◌≤◌, ℕ, length, sym, ap, ◌∙◌}, lemmas.{Bool.{ltb-false, ltb-true}, Option.slice_get_past}}
+use Rattle.ix_check.proofs.{AllLanes.item_at, Called.{has_turn, lane_over, names_none, no_lane, no_turn}}
 use Rattle.ix_check.proofs.judge.called.Goals as goal
 
 pub returns-in_default : goal.returns-in_default

@@ -1,6 +1,5 @@
 use Rattle.std.proofs.Common.{refl, sym, ◌∙◌}
-use Rattle.ix_check.specs.Stepping.{is_from, next_phase}
-use Rattle.ix_check.proofs.AllLanes.{fails, none_left, passes}
+use Rattle.ix_check.{specs.Stepping.{is_from, next_phase}, proofs.AllLanes.{fails, none_left, passes}}
 use Rattle.ix_check.proofs.lane.all_from.Goals as goal
 
 pub loop-lane-init : goal.loop-lane-init

@@ -1,6 +1,5 @@
 use Rattle.std.proofs.Common.{is_none, refl, sym, ◌∙◌}
-use Rattle.ix_check.specs.Stepping.{next_call}
-use Rattle.ix_check.proofs.AllLanes.{fails, none_left, passes}
+use Rattle.ix_check.{specs.Stepping.next_call, proofs.AllLanes.{fails, none_left, passes}}
 use Rattle.ix_check.proofs.lane.all_over.Goals as goal
 
 pub loop-lane-init : goal.loop-lane-init

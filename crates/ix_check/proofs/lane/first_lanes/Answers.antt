@@ -1,10 +1,7 @@
-use Rattle.std.proofs.Common.{◌≡◌, [], ◌∷◌, ◌++◌, length, ◌∙◌, sym, ap, subst, arith, rules, length-append}
-use Rattle.std.proofs.lemmas.Option.{slice_get_within}
+use Rattle.std.proofs.{Common.{◌≡◌, [], ◌∷◌, ◌++◌, length, ◌∙◌, sym, ap, subst, arith, rules, length-append}, lemmas.Option.slice_get_within}
 use Rattle.ix_script.specs.lines.Before.{lanes_of}
-use Rattle.ix_lanes.proofs.found.Indexed.{none_mapped}
-use Rattle.ix_lanes.proofs.found.LaneCount.{at_end, lanes_few}
-use Rattle.ix_check.specs.Stepping.{first_at, lane_now}
-use Rattle.ix_check.proofs.FirstLanes.{AreOf, are_first, is_first, one_more}
+use Rattle.ix_lanes.proofs.found.{Indexed.none_mapped, LaneCount.{at_end, lanes_few}}
+use Rattle.ix_check.{specs.Stepping.{first_at, lane_now}, proofs.FirstLanes.{AreOf, are_first, is_first, one_more}}
 use Rattle.ix_check.proofs.lane.first_lanes.Goals as goal
 
 pub returns-in_default : goal.returns-in_default

@@ -1,7 +1,6 @@
 use Rattle.std.proofs.Common.{◌≡◌, ◌≤◌, length}
 use Rattle.ix_script.specs.lines.Before.{lanes_of}
-use Rattle.ix_check.specs.Stepping.{first_at, lane_now}
-use Rattle.ix_check.proofs.FirstLanes.{AreOf}
+use Rattle.ix_check.{specs.Stepping.{first_at, lane_now}, proofs.FirstLanes.AreOf}
 use Rattle.ix_check.proofs.lane.first_lanes.Given as goal
 
 abbrev pub invariant-loop-seat : goal.invariant-loop-seat

@@ -1,9 +1,7 @@
 use Rattle.std.proofs.Common.{◌≡◌, ℕ, arith, ◌∙◌, subst}
-use Rattle.ix_model.specs.history.History.{History}
-use Rattle.ix_model.specs.history.Seats.{GoesOn, made_by}
+use Rattle.ix_model.specs.history.{History.History, Seats.{GoesOn, made_by}}
 use Rattle.ix_model.specs.declared.reply.Answer.TheVariants as answer
-use Rattle.ix_check.specs.Stepping.{StopsCall}
-use Rattle.ix_check.proofs.OneCall.{not_full}
+use Rattle.ix_check.{specs.Stepping.StopsCall, proofs.OneCall.not_full}
 use Rattle.ix_check.proofs.lane.make_call.Goals as goal
 
 pub unreachable-requires : goal.unreachable-requires

@@ -1,6 +1,5 @@
 use Rattle.std.proofs.Common.{refl, ◌∙◌}
-use Rattle.ix_check.proofs.LastLine.{line_made, none_yet}
-use Rattle.ix_check.proofs.OneCall.{call_made}
+use Rattle.ix_check.proofs.{LastLine.{line_made, none_yet}, OneCall.call_made}
 use Rattle.ix_check.proofs.lane.print_call.Goals as goal
 
 pub returns-then-printer-clause-script : goal.returns-then-printer-clause-script

@@ -1,7 +1,6 @@
 use Rattle.std.proofs.Common.{sym, ◌∙◌, arith}
 use Rattle.ix_script.specs.lines.Before.{lanes_of}
-use Rattle.ix_lanes.proofs.found.Indexed.{none_mapped}
-use Rattle.ix_lanes.proofs.found.LaneCount.{lanes_few}
+use Rattle.ix_lanes.proofs.found.{Indexed.none_mapped, LaneCount.lanes_few}
 use Rattle.ix_check.proofs.LaneTold.{lane_here, lane_later, lane_none, lane_past}
 use Rattle.ix_check.proofs.told.seat_named.Goals as goal
 

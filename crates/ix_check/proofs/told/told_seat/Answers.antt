@@ -1,8 +1,7 @@
 use Rattle.std.proofs.Common.{sym, ap, ◌∙◌}
 use Rattle.ix_script.specs.lines.Before.{lanes_of}
 use Rattle.ix_judging.specs.Names.{told_from}
-use Rattle.ix_check.specs.Plans.{mark}
-use Rattle.ix_check.proofs.LaneTold.{told-behind, told-not}
+use Rattle.ix_check.{specs.Plans.mark, proofs.LaneTold.{told-behind, told-not}}
 use Rattle.ix_check.proofs.told.told_seat.Goals as goal
 
 pub returns-in-Some : goal.returns-in-Some

@@ -1,10 +1,6 @@
 use Rattle.std.proofs.Common.{◌≡◌, ◌+◌, length, sym, ap, ◌∙◌, subst, arith}
-use Rattle.ix_judging.specs.Judge.{No}
-use Rattle.ix_judging.specs.Walk.{ended, line_after}
-use Rattle.ix_check.specs.Judging.{Stands, Walked}
-use Rattle.ix_check.specs.Plans.{judged_plan}
-use Rattle.ix_check.specs.declared.stage.Stage.{Stage}
-use Rattle.ix_check.proofs.Ends.{no_end}
+use Rattle.ix_judging.specs.{Judge.No, Walk.{ended, line_after}}
+use Rattle.ix_check.{specs.{Judging.{Stands, Walked}, Plans.judged_plan, declared.stage.Stage.Stage}, proofs.Ends.no_end}
 use Rattle.ix_check.proofs.judge.Judge.end.Goals as goal
 
 pub returns-in-Entries : goal.returns-in-Entries

@@ -1,8 +1,7 @@
 use Rattle.std.proofs.Common.{◌≡◌, ℕ, ◌+◌, true, false, List, [], length, ◌⊎◌, sym, ap, ◌∙◌, subst}
 use Rattle.ix_model.specs.world.Naming.{same_bytes}
 use Rattle.ix_replay.specs.report.Telling.{TellsLine}
-use Rattle.ix_check.specs.Judging.{AreLeft, IsClosing}
-use Rattle.ix_check.proofs.ClosingLine.{right_line, wrong_or_none}
+use Rattle.ix_check.{specs.Judging.{AreLeft, IsClosing}, proofs.ClosingLine.{right_line, wrong_or_none}}
 use Rattle.ix_check.proofs.judge.Judge.look_at_closing.Goals as goal
 
 pub returns-then-not-is_said-clause-walks : goal.returns-then-not-is_said-clause-walks

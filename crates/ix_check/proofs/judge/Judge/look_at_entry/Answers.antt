@@ -1,10 +1,7 @@
-use Rattle.std.proofs.Common.{◌≡◌, ℕ, ◌+◌, List, true, false, not, length, sym, ap, ◌∙◌, subst, arith, slice_set}
-use Rattle.std.proofs.lemmas.Bool.{not-true, not-false}
+use Rattle.std.proofs.{Common.{◌≡◌, ℕ, ◌+◌, List, true, false, not, length, sym, ap, ◌∙◌, subst, arith, slice_set}, lemmas.Bool.{not-true, not-false}}
 use Rattle.ix_model.specs.world.Naming.{same_bytes}
 use Rattle.ix_judging.specs.Walk.{Fails, line_after, makes, told_call}
-use Rattle.ix_check.specs.Judging.{Stands}
-use Rattle.ix_check.specs.declared.stage.Stage.{Stage}
-use Rattle.ix_check.specs.Plans.{judged_plan}
+use Rattle.ix_check.specs.{Judging.Stands, declared.stage.Stage.Stage, Plans.judged_plan}
 use Rattle.ix_check.proofs.LookedAt.{called_in, its_room, its_seat, lane_at, right_line, wrong_line}
 use Rattle.ix_check.proofs.judge.Judge.look_at_entry.Goals as goal
 

@@ -2,11 +2,8 @@ use Rattle.std.proofs.Common.{◌≡◌, ℕ, ◌+◌, ◌≤◌, true, false, i
 use Rattle.std.specs.List.{list_all}
 use Rattle.ix_replay.specs.declared.reporting.closing.Next.TheVariants as next
 use Rattle.ix_judging.specs.Walk.{closes, is_over, line_after}
-use Rattle.ix_check.specs.Judging.{AreLeft, Stands, Walked}
-use Rattle.ix_check.specs.Plans.{judged_plan}
-use Rattle.ix_check.specs.Stepping.{next_call}
-use Rattle.ix_check.proofs.Ends.{closing, closing_left, walk_on}
-use Rattle.ix_check.proofs.LaneTurns.{all_over_is}
+use Rattle.ix_check.specs.{Judging.{AreLeft, Stands, Walked}, Plans.judged_plan, Stepping.next_call}
+use Rattle.ix_check.proofs.{Ends.{closing, closing_left, walk_on}, LaneTurns.all_over_is}
 use Rattle.ix_check.proofs.judge.Judge.look_behind.Goals as goal
 
 pub returns-then-not-all_over-clause-walks : goal.returns-then-not-all_over-clause-walks

@@ -1,9 +1,7 @@
 use Rattle.std.proofs.Common.{◌≡◌, List, refl, sym, ap, ◌∙◌, subst}
 use Rattle.ix_script.specs.declared.line.Line.{Line}
 use Rattle.ix_judging.specs.Walk.{Begins, ended, walked}
-use Rattle.ix_check.specs.Judging.{Stands, verdict_of}
-use Rattle.ix_check.specs.Plans.{begun, judged_plan}
-use Rattle.ix_check.proofs.WholeText.{at_end, at_first, empty_is, line_more, named_of}
+use Rattle.ix_check.{specs.{Judging.{Stands, verdict_of}, Plans.{begun, judged_plan}}, proofs.WholeText.{at_end, at_first, empty_is, line_more, named_of}}
 use Rattle.ix_check.proofs.judge.Judge.text.Goals as goal
 
 pub lines-init : goal.lines-init
