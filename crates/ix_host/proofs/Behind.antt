@@ -1,41 +1,26 @@
 -- A script with a report behind it.
-use Rattle.std.proofs.Common.{◌≡◌, ℕ, ◌+◌, ◌==◌, ◌||◌, Bool, true, false, List, [], ◌∷◌, ◌++◌, length, take, drop, Option, Some, None, refl, sym, ap}
-use Rattle.std.proofs.Common.{◌∙◌, subst, arith, append-nil, append_assoc, if◌then◌else◌, unwrap_or, codes, inl, inr, ◌⊎◌, nat_lt}
-use Rattle.std.specs.Option.{option_or, option_map_or}
-use Rattle.std.proofs.lemmas.Slice.Eq.{bytes_eq-Decides}
-use Rattle.ix_label.specs.declared.form.Form.{Form}
-use Rattle.ix_label.specs.declared.form.Form.TheVariants.{One, Two}
-use Rattle.ix_model.specs.history.Events.{Event}
-use Rattle.ix_model.specs.history.Step.{run}
-use Rattle.ix_model.specs.opening.Opening.{opening_world}
-use Rattle.ix_model.specs.world.Naming.{same_bytes}
+use Rattle.std.proofs.Common.{◌≡◌, ℕ, ◌+◌, ◌==◌, ◌||◌, Bool, true, false, List, [], ◌∷◌, ◌++◌, length, take, drop, Option, Some, None, refl, sym, ap, ◌∙◌, inl}
+use Rattle.std.proofs.Common.{subst, arith, append-nil, append_assoc, if◌then◌else◌, unwrap_or, codes, inr, ◌⊎◌, nat_lt}
+use Rattle.std.{specs.Option.{option_or, option_map_or}, proofs.lemmas.Slice.Eq.bytes_eq-Decides}
+use Rattle.ix_label.specs.declared.form.Form.{Form, TheVariants.{One, Two}}
+use Rattle.ix_model.specs.{history.{Events.Event, Step.run}, opening.Opening.opening_world, world.Naming.same_bytes}
 use Rattle.ix_model.specs.world.Texts as texts
 use Rattle.ix_text.specs.Bytes.{is_empty}
-use Rattle.ix_script.specs.declared.line.Line.{Line}
+use Rattle.ix_script.specs.{declared.line.Line.Line, lines.{Before.{form_told, lanes_of}, Said.{line_of, version_of}}, scripts.Scripts.{config_of, script_of}}
+use Rattle.ix_script.specs.texts.{Cutting.{is_closed, is_policy_line, pieces, word_at, words_of}, Lines.{cut, lines_of}}
 use Rattle.ix_script.specs.declared.line.Line.TheVariants as line
-use Rattle.ix_script.specs.lines.Before.{form_told, lanes_of}
-use Rattle.ix_script.specs.lines.Faults.{body_fault, command_fault, fault_from, fault_of, first_line_fault, form_fault, line_fault, or_next, text_fault, words_fault}
+use Rattle.ix_script.specs.lines.Faults.{body_fault, command_fault, fault_from, fault_of, first_line_fault, form_fault, line_fault, or_next, text_fault}
+use Rattle.ix_script.specs.lines.Faults.{words_fault}
 use Rattle.ix_script.specs.lines.Forms.{counted_of, file_form, form_of, frame_form, group_form, on_fd_of, on_path_of, plain_of, process_form}
-use Rattle.ix_script.specs.lines.Said.{line_of, version_of}
-use Rattle.ix_script.specs.scripts.Scripts.{config_of, script_of}
-use Rattle.ix_script.specs.texts.Cutting.{is_closed, is_policy_line, pieces, word_at, words_of}
-use Rattle.ix_script.specs.texts.Lines.{cut, lines_of}
 use Rattle.ix_report.specs.LineText.{head_line}
-use Rattle.ix_replay.specs.report.Fixed.{ScriptsNamed}
-use Rattle.ix_replay.specs.report.Report.{closing_text, entries_text, report_of}
-use Rattle.ix_judging.specs.Bytes.{is_line, joined, split, with_byte, with_feed}
-use Rattle.ix_judging.specs.Judge.{Yes}
-use Rattle.ix_check.specs.Laws.{PrintedIsGood}
-use Rattle.ix_check.specs.Parts.{before_report, from_report, is_heading, lines_in, report_part, script_part, with_front}
-use Rattle.ix_check.specs.Plans.{found_in}
-use Rattle.ix_check.specs.Verdicts.{verdict_line}
-use Rattle.ix_check.proofs.InputParts.{joined_lines, lines-line}
-use Rattle.ix_host.specs.Laws.{PrintedIsYes}
+use Rattle.ix_replay.specs.report.{Fixed.ScriptsNamed, Report.{closing_text, entries_text, report_of}}
+use Rattle.ix_judging.specs.{Bytes.{is_line, joined, split, with_byte, with_feed}, Judge.Yes}
+use Rattle.ix_check.{specs.Laws.PrintedIsGood, specs.Parts.{before_report, from_report, is_heading, lines_in, report_part, script_part, with_front}}
+use Rattle.ix_check.{specs.Plans.found_in, specs.Verdicts.verdict_line, proofs.InputParts.{joined_lines, lines-line}}
+use Rattle.ix_host.specs.{Laws.PrintedIsYes, run.Outcome.{outcome_for, outcome_in, text_for}}
+use Rattle.ix_host.proofs.comes_to.{Outcomes.{accepted, outcome_accepted, outcome_script}, Seconds.without_fault}
 use Rattle.ix_host.specs.declared.arguments.command.Command.TheVariants as command
 use Rattle.ix_host.specs.run.Outcome as outcome
-use Rattle.ix_host.specs.run.Outcome.{outcome_for, outcome_in, text_for}
-use Rattle.ix_host.proofs.comes_to.Outcomes.{accepted, outcome_accepted, outcome_script}
-use Rattle.ix_host.proofs.comes_to.Seconds.{without_fault}
 
 -- ---- lines
 abbrev feed : List ℕ → List ℕ

@@ -2,8 +2,7 @@
 use Rattle.std.proofs.Common.{suc, List, ap, ◌∙◌, slice_get}
 use Rattle.ix_model.specs.history.Events.{Event}
 use Rattle.ix_iso.proofs.Noninterference.{alike_runs}
-use Rattle.ix_script.specs.lines.Before.{lanes_of}
-use Rattle.ix_script.specs.declared.line.Line.{Line}
+use Rattle.ix_script.specs.{lines.Before.lanes_of, declared.line.Line.Line}
 use Rattle.ix_replay.specs.report.Report.{entry_lines}
 use Rattle.ix_twin.proofs.LinesAlike.{agree_up_to, lines_along}
 use Rattle.ix_host.specs.Noninterference.{HidesLines, world_opened}

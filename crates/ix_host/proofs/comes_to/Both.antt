@@ -3,15 +3,10 @@ use Rattle.std.proofs.Common.{◌≡◌, ℕ, List, ◌++◌, Option, Some, ap, 
 use Rattle.ix_label.specs.Category.{Categories}
 use Rattle.ix_script.specs.declared.line.Line.{Line}
 use Rattle.ix_lanes.specs.histories.Serial.{serial}
-use Rattle.ix_twin.specs.Laws.{TwinLines, TwinsAreCompared}
-use Rattle.ix_twin.specs.Lines.{parting_of, shown_of, twin_text}
-use Rattle.ix_twin.specs.Parts.{first_part}
-use Rattle.ix_host.specs.Compared.{TakesTwins}
-use Rattle.ix_host.specs.Seconds.{second_in}
+use Rattle.ix_twin.specs.{Laws.{TwinLines, TwinsAreCompared}, Lines.{parting_of, shown_of, twin_text}, Parts.first_part}
+use Rattle.ix_host.specs.{Compared.TakesTwins, Seconds.second_in, run.Inputs.script_in}
+use Rattle.ix_host.proofs.comes_to.{Done.{Takes, Tells, takes_done}, Outcomes.done_twins}
 use Rattle.ix_host.specs.declared.arguments.command.Command.TheVariants as command
-use Rattle.ix_host.specs.run.Inputs.{script_in}
-use Rattle.ix_host.proofs.comes_to.Done.{Takes, Tells, takes_done}
-use Rattle.ix_host.proofs.comes_to.Outcomes.{done_twins}
 
 -- What went out is what is found of two scripts.
 takes : TwinsAreCompared → TwinLines → (l : Categories) (s t : List Line) (taken : List ℕ) (after : Option (List ℕ)) → after ≡ Some (taken ++ twin_text l s t)

@@ -1,18 +1,11 @@
 -- What `check` answers where it is done.
 use Rattle.std.proofs.Common.{◌≡◌, ℕ, List, [], ◌++◌, Option, Some, None, refl, ap, ◌∙◌, unwrap_or}
-use Rattle.ix_script.specs.declared.line.Line.{Line}
-use Rattle.ix_script.specs.lines.Before.{lanes_of}
-use Rattle.ix_script.specs.scripts.Scripts.{script_of}
+use Rattle.ix_script.specs.{declared.line.Line.Line, lines.Before.lanes_of, scripts.Scripts.script_of}
 use Rattle.ix_lanes.specs.histories.Serial.{serial}
 use Rattle.ix_replay.specs.report.Fixed.{LanesNamed, ScriptsNamed}
-use Rattle.ix_check.specs.Laws.{TextsAreJudged}
-use Rattle.ix_check.specs.Parts.{report_part, script_part}
-use Rattle.ix_check.specs.Plans.{found_in}
-use Rattle.ix_host.specs.Judged.{TakesVerdict}
+use Rattle.ix_check.specs.{Laws.TextsAreJudged, Parts.{report_part, script_part}, Plans.found_in}
+use Rattle.ix_host.{specs.{Judged.TakesVerdict, run.Inputs.script_in}, proofs.comes_to.{Done.{Takes, Tells, takes_done}, Outcomes.done_answer}}
 use Rattle.ix_host.specs.declared.arguments.command.Command.TheVariants as command
-use Rattle.ix_host.specs.run.Inputs.{script_in}
-use Rattle.ix_host.proofs.comes_to.Done.{Takes, Tells, takes_done}
-use Rattle.ix_host.proofs.comes_to.Outcomes.{done_answer}
 
 -- the lanes of a script that bytes are have names
 named_in : ScriptsNamed → (bytes : List ℕ) → LanesNamed (script_in bytes)

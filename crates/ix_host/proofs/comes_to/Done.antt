@@ -1,14 +1,9 @@
 -- What went out where a command is done, by the text that it calls for.
-use Rattle.std.proofs.Common.{◌≡◌, ℕ, List, ◌++◌, Option, Some, None, sym, ◌∙◌, subst}
-use Rattle.std.specs.Prelude.{IfSome}
+use Rattle.std.{proofs.Common.{◌≡◌, ℕ, List, ◌++◌, Option, Some, None, sym, ◌∙◌, subst}, specs.Prelude.IfSome}
 use Rattle.ix_lanes.specs.histories.Serial.{serial}
-use Rattle.ix_host.specs.command.Command.{usage_line}
-use Rattle.ix_host.specs.declared.arguments.command.Command.{Command}
-use Rattle.ix_host.specs.declared.status.Status.{Status}
+use Rattle.ix_host.specs.{command.Command.usage_line, declared.{arguments.command.Command.Command, status.Status.Status}}
+use Rattle.ix_host.specs.run.{Inputs.{input_of, script_for}, Outcome.{outcome_in, outcome_of, status_of, text_of}, Run.{IsAnswer, WritesFor, called_for}}
 use Rattle.ix_host.specs.declared.status.Status.TheVariants as status
-use Rattle.ix_host.specs.run.Inputs.{input_of, script_for}
-use Rattle.ix_host.specs.run.Outcome.{outcome_in, outcome_of, status_of, text_of}
-use Rattle.ix_host.specs.run.Run.{IsAnswer, WritesFor, called_for}
 use Rattle.ix_host.proofs.comes_to.Outcomes.{status_is}
 
 -- the command and its input call for the answer

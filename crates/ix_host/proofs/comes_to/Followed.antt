@@ -3,11 +3,8 @@ use Rattle.std.proofs.Common.{ℕ, List, ◌++◌, Option, Some, ap, ◌∙◌}
 use Rattle.ix_script.specs.scripts.Scripts.{config_of}
 use Rattle.ix_lanes.specs.histories.Serial.{serial}
 use Rattle.ix_flow.specs.Laws.{LinesAreAccountedFor}
-use Rattle.ix_host.specs.Traced.{TakesTraces}
+use Rattle.ix_host.{specs.{Traced.TakesTraces, run.Inputs.script_in}, proofs.comes_to.{Done.{Takes, Tells, takes_done}, Outcomes.done_traces}}
 use Rattle.ix_host.specs.declared.arguments.command.Command.TheVariants as command
-use Rattle.ix_host.specs.run.Inputs.{script_in}
-use Rattle.ix_host.proofs.comes_to.Done.{Takes, Tells, takes_done}
-use Rattle.ix_host.proofs.comes_to.Outcomes.{done_traces}
 
 -- What went out are the lines of the serial history.
 abbrev pub Traces : List ℕ → List ℕ → Option (List ℕ) → Type 0

@@ -1,20 +1,15 @@
 -- A line never breaks rule 1, that a script isn't too long: this is said of the whole input.
-use Rattle.std.proofs.Common.{◌≡◌, ℕ, ◌+◌, ◌==◌, not, Bool, true, false, List, [], ◌∷◌, ◌++◌, length, Option, Some, None, is_none, refl, sym, ap, ◌∙◌, if◌then◌else◌, unwrap_or, nat_lt}
-use Rattle.std.specs.List.{list_all, list_any}
-use Rattle.std.specs.Option.{option_or, option_map_or}
-use Rattle.std.proofs.lemmas.Bool.{and_parts, not-true}
-use Rattle.ix_script.specs.texts.Cutting.{words_of, word_at, is_skipped, is_policy_line, policy_text}
+use Rattle.std.proofs.Common.{◌≡◌, ℕ, ◌+◌, ◌==◌, not, Bool, true, false, List, [], ◌∷◌, ◌++◌, length, Option, Some, None, is_none, refl, sym, ap, ◌∙◌, nat_lt}
+use Rattle.std.proofs.Common.{if◌then◌else◌, unwrap_or}
+use Rattle.std.{specs.{List.{list_all, list_any}, Option.{option_or, option_map_or}}, proofs.lemmas.Bool.{and_parts, not-true}}
+use Rattle.ix_script.specs.{texts.{Cutting.{words_of, word_at, is_skipped, is_policy_line, policy_text}, Lines.lines_of}, declared.line.Line.Line}
+use Rattle.ix_script.specs.{lines.Kinds.{Kind, Place, place_rules, first_broken, places_fault}, lines.Forms.{form_of, places, has_right_count}}
+use Rattle.ix_script.specs.{lines.Before.{form_told, has_policy, in_body}, lines.Said.{said, version_of, line_of}}
 use Rattle.ix_text.specs.Bytes.{is_empty}
-use Rattle.ix_script.specs.lines.Kinds.{Kind, Place, place_rules, first_broken, places_fault}
-use Rattle.ix_script.specs.lines.Forms.{form_of, places, has_right_count}
-use Rattle.ix_script.specs.lines.Before.{form_told, has_policy, in_body}
-use Rattle.ix_script.specs.lines.Rules.{first_of, is_too_long, is_unprintable, has_empty_word, has_open_quote, is_late, is_outside, is_given_twice}
-use Rattle.ix_script.specs.lines.Rules.{names_unknown, is_above, is_misplaced, exceeds_limits, is_out_of_order, is_one_too_many, lacks_policy}
-use Rattle.ix_script.specs.lines.Said.{said, version_of, line_of}
-use Rattle.ix_script.specs.texts.Lines.{lines_of}
-use Rattle.ix_script.specs.lines.Faults.{text_fault, words_fault, stand_fault, names_fault, said_fault, form_fault, command_fault, policy_fault}
-use Rattle.ix_script.specs.lines.Faults.{first_line_fault, body_fault, line_fault, or_next, fault_from, fault_of}
-use Rattle.ix_script.specs.declared.line.Line.{Line}
+use Rattle.ix_script.specs.lines.Rules.{first_of, is_too_long, is_unprintable, has_empty_word, has_open_quote, is_late, is_outside, is_given_twice, is_above}
+use Rattle.ix_script.specs.lines.Rules.{names_unknown, is_misplaced, exceeds_limits, is_out_of_order, is_one_too_many, lacks_policy}
+use Rattle.ix_script.specs.lines.Faults.{text_fault, words_fault, stand_fault, names_fault, said_fault, form_fault, command_fault, policy_fault, body_fault}
+use Rattle.ix_script.specs.lines.Faults.{first_line_fault, line_fault, or_next, fault_from, fault_of}
 use Rattle.ix_script.specs.declared.line.Line.TheVariants as line
 
 abbrev is_one : Option ℕ → Bool

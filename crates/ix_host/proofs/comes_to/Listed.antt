@@ -1,22 +1,14 @@
 -- What `load` lists, where it is done, and what fault it tells.
-use Rattle.std.proofs.Common.{◌≡◌, ℕ, List, ◌++◌, Option, Some, None, Ok, ap, ◌∙◌, subst}
-use Rattle.std.specs.Prelude.{IfSome}
-use Rattle.ix_image.specs.Laws.{IsImage, WrittenIsRead}
-use Rattle.ix_image.specs.Reading.{image_fault, tree_in}
+use Rattle.std.{proofs.Common.{◌≡◌, ℕ, List, ◌++◌, Option, Some, None, Ok, ap, ◌∙◌, subst}, specs.Prelude.IfSome}
+use Rattle.ix_image.specs.{Laws.{IsImage, WrittenIsRead}, Reading.{image_fault, tree_in}}
 use Rattle.ix_lanes.specs.histories.Serial.{serial}
-use Rattle.ix_host.specs.Loaded.{TakesList}
-use Rattle.ix_host.specs.command.Command.{usage_line}
-use Rattle.ix_host.specs.declared.arguments.command.Command.{Command}
+use Rattle.ix_host.specs.{Loaded.TakesList, command.Command.usage_line, declared.{arguments.command.Command.Command, status.Status.Status}, run.Tasks.IsLoaded}
+use Rattle.ix_host.specs.{run.Inputs.{input_of, script_for}, run.Outcome.{outcome_in, outcome_of, text_of}}
+use Rattle.ix_host.specs.run.Run.{FitsCommand, IsAnswer, WritesFor, called_for, unless_listed}
 use Rattle.ix_host.specs.declared.arguments.command.Command.TheVariants as command
-use Rattle.ix_host.specs.declared.status.Status.{Status}
 use Rattle.ix_host.specs.declared.status.Status.TheVariants as status
 use Rattle.ix_host.specs.declared.task.Task.TheVariants as task
-use Rattle.ix_host.specs.run.Tasks.{IsLoaded}
-use Rattle.ix_host.specs.run.Inputs.{input_of, script_for}
-use Rattle.ix_host.specs.run.Outcome.{outcome_in, outcome_of, text_of}
-use Rattle.ix_host.specs.run.Run.{FitsCommand, IsAnswer, WritesFor, called_for, unless_listed}
-use Rattle.ix_host.proofs.comes_to.Done.{called_by, went_out}
-use Rattle.ix_host.proofs.comes_to.Outcomes.{list_told}
+use Rattle.ix_host.proofs.comes_to.{Done.{called_by, went_out}, Outcomes.list_told}
 
 -- What went out is the list of the tree.
 pub takes_list : WrittenIsRead → (asked : Option Command) (left : Option (List ℕ)) (end : Status) (taken after : Option (List ℕ))

@@ -1,16 +1,13 @@
 -- Where `run` is the one command.
-use Rattle.std.proofs.Common.{◌≡◌, ℕ, ◌<◌, true, false, List, length, Option, Some, None, is_none, refl, subst}
-use Rattle.std.specs.Prelude.{IfSome}
+use Rattle.std.{proofs.Common.{◌≡◌, ℕ, ◌<◌, true, false, List, length, Option, Some, None, is_none, refl, subst}, specs.Prelude.IfSome}
 use Rattle.ix_model.specs.history.Events.{Event}
 use Rattle.ix_script.specs.declared.line.Line.{Line}
 use Rattle.ix_lanes.specs.histories.History.{IsHistory}
-use Rattle.ix_host.specs.declared.arguments.command.Command.{Command}
-use Rattle.ix_host.specs.declared.arguments.command.Command.TheVariants as command
-use Rattle.ix_host.specs.declared.status.Status.{Status}
-use Rattle.ix_host.specs.declared.status.Status.TheVariants as status
-use Rattle.ix_host.specs.command.Command.{command_of, lanes_command_of, only_run}
+use Rattle.ix_host.specs.{declared.{arguments.command.Command.Command, status.Status.Status}, command.Command.{command_of, lanes_command_of, only_run}}
 use Rattle.ix_host.specs.run.Inputs.{IsTooLong, input_max, input_of, reads_source, script_for, script_in, script_max}
 use Rattle.ix_host.specs.run.Run.{FitsCommand, ExistsHistory, ReadsOut}
+use Rattle.ix_host.specs.declared.arguments.command.Command.TheVariants as command
+use Rattle.ix_host.specs.declared.status.Status.TheVariants as status
 
 -- what holds of no command and of `run` holds of the command
 pub lanes_only : (P : Option Command → Type 0) → P None → P (Some command.Run) → (words : List (List ℕ)) → P (lanes_command_of words)

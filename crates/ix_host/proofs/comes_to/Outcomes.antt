@@ -1,43 +1,26 @@
 -- What a command comes to.
-use Rattle.std.proofs.Common.{◌≡◌, ℕ, ◌+◌, ◌-◌, ◌<◌, ◌≤◌, Bool, true, false, List, [], length, drop, Option, Some, None, Ok, refl, sym, ap, ◌∙◌}
-use Rattle.std.proofs.Common.{if◌then◌else◌, unwrap_or, nat_lt, arith, inl, inr, length-drop}
-use Rattle.std.proofs.lemmas.Bool.{cases_Bool, le-ltb, ltb-true}
-use Rattle.std.specs.Option.{option_and_then, option_map, option_or}
-use Rattle.std.specs.Prelude.{IfSome}
-use Rattle.std.specs.Result.{is_err}
-use Rattle.ix_label.specs.declared.form.Form.{Form}
+use Rattle.std.proofs.Common.{◌≡◌, ℕ, ◌+◌, ◌-◌, ◌<◌, ◌≤◌, Bool, true, false, List, [], length, drop, Option, Some, None, Ok, refl, sym, ap, ◌∙◌, if◌then◌else◌}
+use Rattle.std.proofs.Common.{unwrap_or, nat_lt, arith, inl, inr, length-drop}
+use Rattle.std.{proofs.lemmas.Bool.{cases_Bool, le-ltb, ltb-true}, specs.{Option.{option_and_then, option_map, option_or}, Prelude.IfSome, Result.is_err}}
+use Rattle.ix_label.specs.{declared.form.Form.Form, Category.Categories}
 use Rattle.ix_model.specs.history.Events.{Event}
 use Rattle.ix_policy.specs.Policies.{policy}
-use Rattle.ix_script.specs.lines.Before.{form_told}
-use Rattle.ix_script.specs.lines.Faults.{fault_of}
-use Rattle.ix_script.specs.scripts.Scripts.{policy_of, script_of}
-use Rattle.ix_script.specs.declared.line.Line.{Line}
-use Rattle.ix_host.specs.declared.arguments.command.Command.{Command}
+use Rattle.ix_script.specs.{lines.{Before.form_told, Faults.fault_of}, scripts.Scripts.{policy_of, script_of}, declared.line.Line.Line}
+use Rattle.ix_host.specs.{declared.arguments.command.Command.Command, Policies.{policy_refusal, refused_policy}, Traces.traces, Saved.image_left}
+use Rattle.ix_host.specs.{Seconds.{further_down, refusal_in, second_in, second_refusal}, run.Run.{called_for, unless_done, unless_listed}}
+use Rattle.ix_host.specs.report.Rules.{image_line, refusal_line}
 use Rattle.ix_host.specs.declared.arguments.command.Command.TheVariants as command
 use Rattle.ix_host.specs.declared.status.Status.TheVariants as status
-use Rattle.ix_host.specs.Policies.{policy_refusal, refused_policy}
-use Rattle.ix_host.specs.Traces.{traces}
-use Rattle.ix_host.specs.Saved.{image_left}
-use Rattle.ix_check.specs.Parts.{report_part, script_part}
-use Rattle.ix_check.specs.Plans.{found_in}
-use Rattle.ix_check.specs.Verdicts.{verdict_line}
-use Rattle.ix_host.specs.run.Inputs.{IsReadable, IsShortFor, IsTooLong, beside_bytes, check_max, input_max, reads_image, reads_source, script_bytes, script_in, script_max, twin_max}
-use Rattle.ix_host.specs.Seconds.{further_down, refusal_in, second_in, second_refusal}
-use Rattle.ix_image.specs.Image.{longest}
-use Rattle.ix_image.specs.Lines.{list_of}
-use Rattle.ix_image.specs.Reading.{image_fault, tree_in}
-use Rattle.ix_image.specs.Trees.{TreeOf}
-use Rattle.ix_twin.specs.Lines.{twin_text}
-use Rattle.ix_twin.specs.Parts.{first_part, lines_before, second_part}
-use Rattle.ix_label.specs.Category.{Categories}
-use Rattle.ix_host.specs.run.Outcome.{Outcome, outcome_for, outcome_in, outcome_of, refusal_of, refused_by}
-use Rattle.ix_host.specs.run.Outcome.{listed, script_refusal, status_of, text_for, text_of, too_long_for, unless_faulty, unless_refused}
+use Rattle.ix_check.specs.{Parts.{report_part, script_part}, Plans.found_in, Verdicts.verdict_line}
+use Rattle.ix_host.specs.run.Inputs.{IsReadable, IsShortFor, IsTooLong, beside_bytes, check_max, input_max, reads_image, reads_source, script_bytes, script_in}
+use Rattle.ix_host.specs.run.Inputs.{script_max, twin_max}
+use Rattle.ix_image.specs.{Image.longest, Lines.list_of, Reading.{image_fault, tree_in}, Trees.TreeOf}
+use Rattle.ix_twin.specs.{Lines.twin_text, Parts.{first_part, lines_before, second_part}}
+use Rattle.ix_host.specs.run.Outcome.{Outcome, outcome_for, outcome_in, outcome_of, refusal_of, refused_by, listed, script_refusal, status_of, text_for}
+use Rattle.ix_host.specs.run.Outcome.{text_of, too_long_for, unless_faulty, unless_refused}
 use Rattle.ix_host.specs.run.Outcome as outcome
-use Rattle.ix_host.specs.run.Run.{called_for, unless_done, unless_listed}
 use Rattle.ix_replay.specs.report.Report.{report_of}
-use Rattle.ix_host.specs.report.Rules.{image_line, refusal_line}
-use Rattle.ix_host.proofs.comes_to.LaterRules.{not_rule_one}
-use Rattle.ix_host.proofs.comes_to.Seconds.{refused_at_line, some_before, without_fault}
+use Rattle.ix_host.proofs.comes_to.{LaterRules.not_rule_one, Seconds.{refused_at_line, some_before, without_fault}}
 
 -- ---- a script
 -- a command that asks for one script alone

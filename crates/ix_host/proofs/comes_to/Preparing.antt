@@ -1,23 +1,17 @@
 -- What was asked for is done up to the run of lanes.
-use Rattle.std.proofs.Common.{◌≡◌, ℕ, ◌+◌, ◌==◌, ◌<◌, ◌≤◌, Bool, true, false, List, [], length, drop, Option, Some, None, if◌then◌else◌, refl, sym}
-use Rattle.std.proofs.Common.{ap, ◌∙◌, subst, arith, append-nil, replicate, unwrap_or}
-use Rattle.std.specs.Prelude.{IfSome}
-use Rattle.std.proofs.lemmas.Bool.{lt-ltb}
-use Rattle.std.proofs.lemmas.List.{drop_all, length-replicate}
-use Rattle.ix_image.specs.Image.{longest}
-use Rattle.ix_image.specs.Laws.{IsImage}
+use Rattle.std.proofs.Common.{◌≡◌, ℕ, ◌+◌, ◌==◌, ◌<◌, ◌≤◌, Bool, true, false, List, [], length, drop, Option, Some, None, if◌then◌else◌, refl, sym, ap, ◌∙◌}
+use Rattle.std.proofs.Common.{subst, arith, append-nil, replicate, unwrap_or}
+use Rattle.std.{specs.Prelude.IfSome, proofs.lemmas.{Bool.lt-ltb, List.{drop_all, length-replicate}}}
+use Rattle.ix_image.specs.{Image.longest, Laws.IsImage}
 use Rattle.ix_model.specs.history.Events.{Event}
 use Rattle.ix_script.specs.declared.line.Line.{Line}
-use Rattle.ix_host.specs.declared.arguments.command.Command.{Command}
-use Rattle.ix_host.specs.declared.status.Status.{Status}
-use Rattle.ix_host.specs.declared.status.Status.TheVariants as status
-use Rattle.ix_host.specs.declared.task.Task.{Task}
-use Rattle.ix_host.specs.declared.task.Task.TheVariants as task
+use Rattle.ix_host.specs.{declared.{arguments.command.Command.Command, status.Status.Status, task.Task.Task}, run.Run.{Ends, IsEndOf, ReadsOut, WritesFor}}
 use Rattle.ix_host.specs.run.Inputs.{input_max, input_of, reads_image, reads_source, script_bytes, script_in}
 use Rattle.ix_host.specs.run.Outcome.{Outcome, outcome_in, outcome_of, status_of, text_of, too_long_for}
-use Rattle.ix_host.specs.run.Outcome as outcome
-use Rattle.ix_host.specs.run.Run.{Ends, IsEndOf, ReadsOut, WritesFor}
 use Rattle.ix_host.specs.run.Tasks.{IsLoaded, LeadsTo, OnRun, Prepares, TaskReadsOut}
+use Rattle.ix_host.specs.declared.status.Status.TheVariants as status
+use Rattle.ix_host.specs.declared.task.Task.TheVariants as task
+use Rattle.ix_host.specs.run.Outcome as outcome
 use Rattle.ix_host.proofs.comes_to.Outcomes.{outcome_too_long}
 
 -- a run of lanes is no end

@@ -1,11 +1,8 @@
 -- What `save` writes where it is done.
 use Rattle.std.proofs.Common.{ℕ, List, ◌++◌, Option, Some, ap, ◌∙◌}
 use Rattle.ix_lanes.specs.histories.Serial.{serial}
-use Rattle.ix_host.specs.Saved.{TakesImage}
+use Rattle.ix_host.{specs.{Saved.TakesImage, run.Inputs.script_in}, proofs.comes_to.{Done.{Takes, Tells, takes_done}, Outcomes.done_image}}
 use Rattle.ix_host.specs.declared.arguments.command.Command.TheVariants as command
-use Rattle.ix_host.specs.run.Inputs.{script_in}
-use Rattle.ix_host.proofs.comes_to.Done.{Takes, Tells, takes_done}
-use Rattle.ix_host.proofs.comes_to.Outcomes.{done_image}
 
 -- What went out is the image of the tree that is left.
 abbrev pub Image : List ℕ → List ℕ → Option (List ℕ) → Type 0

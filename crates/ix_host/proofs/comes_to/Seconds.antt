@@ -1,32 +1,21 @@
 -- The lines at which a script is refused, and how many stand before the second of two.
-use Rattle.std.proofs.Common.{◌≡◌, ◌==◌, ℕ, ◌+◌, ◌<◌, ◌≤◌, nat_lt, Bool, true, false, List, [], ◌∷◌, ◌++◌, length, take, codes, Option, Some, None}
-use Rattle.std.proofs.Common.{if◌then◌else◌, unwrap_or, is_none, refl, sym, ap, ◌∙◌, arith, length-append, slice_get, subst}
-use Rattle.std.specs.Prelude.{IfSome, option_and_then}
-use Rattle.std.specs.List.{position}
-use Rattle.std.specs.Option.{option_map, option_or}
-use Rattle.std.specs.Result.{is_err}
-use Rattle.std.proofs.lemmas.Bool.{ltb-false}
-use Rattle.std.proofs.lemmas.Option.{none-some, slice_get_within}
+use Rattle.std.proofs.Common.{◌≡◌, ◌==◌, ℕ, ◌+◌, ◌<◌, ◌≤◌, nat_lt, Bool, true, false, List, [], ◌∷◌, ◌++◌, length, take, codes, Option, Some, None, unwrap_or}
+use Rattle.std.proofs.Common.{if◌then◌else◌, is_none, refl, sym, ap, ◌∙◌, arith, length-append, slice_get, subst}
+use Rattle.std.specs.{Prelude.{IfSome, option_and_then}, List.position, Option.{option_map, option_or}, Result.is_err}
+use Rattle.std.proofs.lemmas.{Bool.ltb-false, Option.{none-some, slice_get_within}}
 use Rattle.ix_label.specs.declared.form.Form.{Form}
 use Rattle.ix_policy.specs.Policies.{policy}
-use Rattle.ix_script.specs.lines.Before.{form_told, is_policy}
-use Rattle.ix_script.specs.lines.Faults.{fault_from, fault_of, line_fault, or_next, text_fault, words_fault, first_line_fault, body_fault}
-use Rattle.ix_script.specs.lines.Said.{line_of, version_of}
-use Rattle.ix_script.specs.scripts.Canonical.{canonical_in, line_text}
-use Rattle.ix_script.specs.scripts.Laws.{OneByteMore}
+use Rattle.ix_script.specs.{lines.Before.{form_told, is_policy}, lines.Said.{line_of, version_of}, scripts.Canonical.{canonical_in, line_text}}
+use Rattle.ix_script.specs.{lines.Rules.{is_too_long, is_unprintable, has_empty_word, has_open_quote}, scripts.Laws.OneByteMore, declared.line.Line.Line}
 use Rattle.ix_script.specs.scripts.Scripts.{form_in, lines_said, policy_of, policy_told, script_of}
-use Rattle.ix_script.specs.texts.Lines.{cut, lines_of}
-use Rattle.ix_script.specs.declared.line.Line.{Line}
+use Rattle.ix_script.specs.texts.{Lines.{cut, lines_of}, Cutting.{words_of, is_policy_line}}
+use Rattle.ix_script.specs.lines.Faults.{fault_from, fault_of, line_fault, or_next, text_fault, words_fault, first_line_fault, body_fault}
 use Rattle.ix_script.specs.declared.line.Line.TheVariants as line
 use Rattle.ix_check.specs.Parts.{lines_in}
 use Rattle.ix_judging.specs.Bytes.{joined}
 use Rattle.ix_model.specs.world.Texts.{with_front}
 use Rattle.ix_twin.specs.Parts.{before_divider, first_part, from_divider, lines_before, second_part}
-use Rattle.ix_host.specs.Policies.{policy_refusal, refused_policy}
-use Rattle.ix_host.specs.Seconds.{further_down, refusal_in, second_in, second_refusal}
-use Rattle.ix_host.specs.run.Inputs.{script_in}
-use Rattle.ix_script.specs.texts.Cutting.{words_of, is_policy_line}
-use Rattle.ix_script.specs.lines.Rules.{is_too_long, is_unprintable, has_empty_word, has_open_quote}
+use Rattle.ix_host.specs.{Policies.{policy_refusal, refused_policy}, Seconds.{further_down, refusal_in, second_in, second_refusal}, run.Inputs.script_in}
 
 -- ---- faults
 -- the line of a fault, where some lines stand before

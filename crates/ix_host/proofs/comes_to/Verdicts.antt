@@ -8,21 +8,18 @@ use Rattle.ix_model.specs.history.Events.{Event}
 use Rattle.ix_lanes.specs.histories.Serial.{serial}
 use Rattle.ix_policy.specs.declared.rule.Rule.{Rule}
 use Rattle.ix_script.specs.declared.line.Line.{Line}
-use Rattle.ix_host.specs.declared.arguments.command.Command.{Command}
-use Rattle.ix_host.specs.declared.arguments.command.Command.TheVariants as command
-use Rattle.ix_host.specs.declared.status.Status.{Status}
-use Rattle.ix_host.specs.declared.status.Status.TheVariants as status
+use Rattle.ix_host.specs.{declared.{arguments.command.Command.Command, status.Status.Status, task.Telling.Telling}, run.Tasks.{Prepares, text_told}}
 use Rattle.ix_host.specs.Noninterference.{TakesNoninterferentReport, world_opened}
-use Rattle.ix_host.specs.declared.task.Task.TheVariants as task
-use Rattle.ix_host.specs.declared.task.Telling.{Telling}
 use Rattle.ix_host.specs.run.Inputs.{IsTooLong, input_of, reads_source, script_for, script_in, script_max}
-use Rattle.ix_host.specs.run.Tasks.{Prepares, text_told}
-use Rattle.ix_host.specs.run.Outcome as outcome
 use Rattle.ix_host.specs.run.Outcome.{Outcome, outcome_in, outcome_of, refusal_of, status_of, text_for, text_of}
 use Rattle.ix_host.specs.run.Run.{Ends, FitsCommand, ExistsHistory, IsAnswer, IsEndOf, ReadsOut, WritesFor, WritesLine, called_for}
-use Rattle.ix_host.proofs.Noninterference.{low_lines}
-use Rattle.ix_host.proofs.comes_to.Preparing.{ends_as, unwritten}
-use Rattle.ix_host.proofs.comes_to.Outcomes.{done_text, fault_text, first_rule, made_done, never_usage, no_image, no_script, refusal_text, status_is, usage_called}
+use Rattle.ix_host.specs.declared.arguments.command.Command.TheVariants as command
+use Rattle.ix_host.specs.declared.status.Status.TheVariants as status
+use Rattle.ix_host.specs.declared.task.Task.TheVariants as task
+use Rattle.ix_host.specs.run.Outcome as outcome
+use Rattle.ix_host.proofs.{Noninterference.low_lines, comes_to.Preparing.{ends_as, unwritten}}
+use Rattle.ix_host.proofs.comes_to.Outcomes.{done_text, fault_text, first_rule, made_done, never_usage, no_image, no_script, refusal_text, status_is}
+use Rattle.ix_host.proofs.comes_to.Outcomes.{usage_called}
 
 -- ---- an end with an outcome
 -- the status of an answer is the outcome's

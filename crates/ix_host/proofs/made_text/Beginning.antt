@@ -1,21 +1,12 @@
 -- What every text begins with has no fault, and the lane stands ready after it.
 use Rattle.std.proofs.Common.{◌≡◌, ℕ, ◌+◌, ◌<◌, true, false, List, [], ◌∷◌, ◌++◌, length, replicate, Option, Some, None, refl, sym, ap, ◌∙◌, arith}
-use Rattle.std.specs.Prelude.{codes, unwrap_or}
-use Rattle.std.proofs.lemmas.Option.{none-some}
-use Rattle.ix_label.specs.declared.form.Form.TheVariants.{One}
-use Rattle.ix_label.specs.Category.{Categories, bottom}
-use Rattle.ix_label.specs.Forms.{all_of}
-use Rattle.ix_label.specs.Lattice.{bottom-leq}
-use Rattle.ix_model.specs.world.Privs.{no_privileges}
-use Rattle.ix_model.specs.world.Paths.{path_from}
-use Rattle.ix_script.specs.lines.Before.{form_told}
-use Rattle.ix_script.specs.lines.Said.{line_of}
-use Rattle.ix_script.specs.lines.Faults.{or_next, line_fault, fault_from}
-use Rattle.ix_script.specs.declared.line.Line.{Line}
+use Rattle.std.{specs.Prelude.{codes, unwrap_or}, proofs.lemmas.Option.none-some}
+use Rattle.ix_label.specs.{declared.form.Form.TheVariants.One, Category.{Categories, bottom}, Forms.all_of, Lattice.bottom-leq}
+use Rattle.ix_model.specs.world.{Privs.no_privileges, Paths.path_from}
+use Rattle.ix_script.specs.{lines.{Before.form_told, Said.line_of, Faults.{or_next, line_fault, fault_from}}, declared.line.Line.Line}
 use Rattle.ix_script.specs.declared.line.Line.TheVariants as line
 use Rattle.ix_script.specs.declared.line.What.TheVariants as what
-use Rattle.ix_host.proofs.made_text.Reading.{judging, telling}
-use Rattle.ix_host.proofs.made_text.Labels.{IsWord, bottom_word, star_word}
+use Rattle.ix_host.proofs.{made_text.Reading.{judging, telling}, made_text.Labels.{IsWord, bottom_word, star_word}}
 use Rattle.ix_host.proofs.made_text.Commands.{Ready, IsCommand, ready_next, opens_a, opens_b, opens_c}
 
 -- ---- one line

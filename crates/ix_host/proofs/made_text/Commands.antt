@@ -1,18 +1,13 @@
 -- The commands of the generator: what each says, and that it has no fault in its lane.
-use Rattle.std.proofs.Common.{◌≡◌, ℕ, suc, ◌+◌, ◌<◌, ◌≤◌, ◌%◌, ◌==◌, nat_le, true, false, not, cond, List, [], ◌∷◌, ◌++◌, length, replicate, Some, None, inl, inr, refl, ap, ◌∙◌, arith}
-use Rattle.std.specs.Prelude.{codes}
-use Rattle.std.specs.List.{list_all, flat_map, count_by}
-use Rattle.std.proofs.lemmas.Bool.{cases_Bool, lt-leb}
-use Rattle.std.proofs.lemmas.List.{append-nil}
-use Rattle.std.proofs.lemmas.List.Sums.{fold-append, sum_by-append}
-use Rattle.std.proofs.lemmas.Grind.{flat_map-append}
+use Rattle.std.proofs.Common.{◌≡◌, ℕ, suc, ◌+◌, ◌<◌, ◌≤◌, ◌%◌, ◌==◌, nat_le, true, false, not, cond, List, [], ◌∷◌, ◌++◌, length, replicate, Some, None, inl}
+use Rattle.std.proofs.Common.{inr, refl, ap, ◌∙◌, arith}
+use Rattle.std.specs.{Prelude.codes, List.{list_all, flat_map, count_by}}
+use Rattle.std.proofs.lemmas.{Bool.{cases_Bool, lt-leb}, List.{append-nil, Sums.{fold-append, sum_by-append}}, Grind.flat_map-append}
 use Rattle.ix_model.specs.declared.call.Mode.TheVariants as mode
 use Rattle.ix_label.specs.declared.form.Form.{Form}
 use Rattle.ix_text.specs.Bytes.{is_empty}
 use Rattle.ix_model.specs.world.Paths.{path_from}
-use Rattle.ix_script.specs.lines.Before.{proc_name_told, proc_names, lane_after, lane_now, is_command, commands}
-use Rattle.ix_script.specs.lines.Said.{line_of}
-use Rattle.ix_script.specs.lines.Faults.{line_fault}
+use Rattle.ix_script.specs.lines.{Before.{proc_name_told, proc_names, lane_after, lane_now, is_command, commands}, Said.line_of, Faults.line_fault}
 use Rattle.ix_script.specs.declared.line.Line.{Line}
 use Rattle.ix_script.specs.declared.line.Line.TheVariants as line
 use Rattle.ix_script.specs.declared.line.FdWord.TheVariants as fd

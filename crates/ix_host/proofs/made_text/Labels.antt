@@ -1,17 +1,11 @@
 -- The labels that the beginning names.
-use Rattle.std.proofs.Common.{◌≡◌, ℕ, true, List, Some, None, refl, sym, ◌∙◌}
-use Rattle.std.specs.Prelude.{codes}
-use Rattle.ix_label.specs.declared.form.Form.TheVariants.{One}
-use Rattle.ix_label.specs.Category.{Categories, bottom, leq}
-use Rattle.ix_label.specs.Forms.{greatest, whole_run, all_of, narrow, IsWithin}
-use Rattle.ix_label.specs.Spelling.{spelling}
-use Rattle.ix_label.specs.Faults.{fault_of, first_fault, fault_here, is_due, number_fault, is_bad, number_ahead, number_back, is_not_ascending}
-use Rattle.ix_label.specs.Faults.{is_not_longest, at_dash, at_comma, at_digit, last_number, follower_fault, may_follow}
-use Rattle.ix_label.specs.Laws.{SpelledOrFaulty}
+use Rattle.std.{proofs.Common.{◌≡◌, ℕ, true, List, Some, None, refl, sym, ◌∙◌}, specs.Prelude.codes}
+use Rattle.ix_label.{specs.declared.form.Form.TheVariants.One, specs.Category.{Categories, bottom, leq}, specs.Spelling.spelling, specs.Laws.SpelledOrFaulty}
+use Rattle.ix_label.{specs.Forms.{greatest, whole_run, all_of, narrow, IsWithin}, proofs.Spelled.{spelling-bottom, spelling-all, spelling_injective}}
 use Rattle.ix_label.proofs.Fitting.{within-fits, fits-within, within-label, within-bottom, within-all_of}
-use Rattle.ix_label.proofs.Spelled.{spelling-bottom, spelling-all, spelling_injective}
-use Rattle.ix_text.specs.Labels.{label_in}
-use Rattle.ix_text.proofs.AllLabels.{label_found}
+use Rattle.ix_label.specs.Faults.{fault_of, first_fault, fault_here, is_due, number_fault, is_bad, number_ahead, number_back, is_not_ascending, is_not_longest}
+use Rattle.ix_label.specs.Faults.{at_dash, at_comma, at_digit, last_number, follower_fault, may_follow}
+use Rattle.ix_text.{specs.Labels.label_in, proofs.AllLabels.label_found}
 
 -- a label of form One, and its spelling
 pub record IsWord (word : List ℕ) (s : Categories) : Type 0 where

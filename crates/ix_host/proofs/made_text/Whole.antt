@@ -1,20 +1,12 @@
 -- Each text of the generator has no fault.
 use Rattle.std.proofs.Common.{◌≡◌, ℕ, zero, suc, ◌+◌, ◌≤◌, ◌==◌, true, not, List, [], ◌∷◌, ◌++◌, length, None, refl, ap, ◌∙◌, arith, append_assoc}
-use Rattle.std.specs.Prelude.{codes}
-use Rattle.std.specs.List.{list_all, flat_map, range_with_len}
-use Rattle.std.proofs.lemmas.Bool.{not-true, le-ltb}
-use Rattle.ix_label.specs.declared.form.Form.TheVariants.{One}
-use Rattle.ix_label.specs.Laws.{SpelledOrFaulty}
-use Rattle.ix_script.specs.texts.Lines.{cut, lines_of}
-use Rattle.ix_script.specs.lines.Faults.{fault_from, fault_of}
-use Rattle.ix_script.specs.declared.line.Line.{Line}
+use Rattle.std.{specs.{Prelude.codes, List.{list_all, flat_map, range_with_len}}, proofs.lemmas.Bool.{not-true, le-ltb}}
+use Rattle.ix_label.specs.{declared.form.Form.TheVariants.One, Laws.SpelledOrFaulty}
+use Rattle.ix_script.specs.{texts.Lines.{cut, lines_of}, lines.Faults.{fault_from, fault_of}, declared.line.Line.Line}
 use Rattle.ix_text.proofs.Tests.{both}
-use Rattle.ix_gen.specs.Generated.{beginning, line_at, generated}
-use Rattle.ix_gen.proofs.Lengths.{short_text}
+use Rattle.ix_gen.{specs.Generated.{beginning, line_at, generated}, proofs.Lengths.short_text}
 use Rattle.ix_host.specs.Laws.{Readable}
-use Rattle.ix_host.proofs.made_text.Labels.{low_eight, three, five}
-use Rattle.ix_host.proofs.made_text.Commands.{Ready, ready_next, Numbered, numbered}
-use Rattle.ix_host.proofs.made_text.Beginning.{command_line, begins}
+use Rattle.ix_host.proofs.made_text.{Labels.{low_eight, three, five}, Commands.{Ready, ready_next, Numbered, numbered}, Beginning.{command_line, begins}}
 
 -- ---- cutting
 one_cut : (text rest : List ℕ) → list_all (λ b. not (b == 10)) text ≡ true → cut (text ++ 10 ∷ rest) ≡ text ∷ cut rest

@@ -1,8 +1,7 @@
 -- One read or one write more of a stream that tells its bytes.
-use Rattle.std.proofs.Common.{◌≡◌, ℕ, ◌+◌, ◌-◌, ◌<◌, ◌≤◌, List, ◌++◌, length, take, drop, Option, Some, None, Result, Ok, refl, sym, ap, ◌∙◌, arith}
-use Rattle.std.proofs.Common.{append_assoc, subst, length-append, length-drop, length-take-le, drop-drop}
-use Rattle.std.specs.Prelude.{IfSome}
-use Rattle.std.proofs.Math.Seq.{take-add}
+use Rattle.std.proofs.Common.{◌≡◌, ℕ, ◌+◌, ◌-◌, ◌<◌, ◌≤◌, List, ◌++◌, length, take, drop, Option, Some, None, Result, Ok, refl, sym, ap, ◌∙◌, arith, subst}
+use Rattle.std.proofs.Common.{append_assoc, length-append, length-drop, length-take-le, drop-drop}
+use Rattle.std.{specs.Prelude.IfSome, proofs.Math.Seq.take-add}
 use Rattle.ix_io.specs.Streams.{Reads, ReadsTold, ReadsFirst, Takes}
 use Rattle.ix_host.specs.run.Whole.{IsFront}
 

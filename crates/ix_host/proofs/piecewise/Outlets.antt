@@ -1,7 +1,6 @@
 -- A text that goes out piece by piece.
 use Rattle.std.proofs.Common.{◌≡◌, ℕ, List, [], ◌++◌, Option, Some, None, Result, Ok, Err, is_err, true, refl, sym, ap, ◌∙◌, append_assoc, subst}
-use Rattle.std.specs.Prelude.{IfSome}
-use Rattle.std.proofs.lemmas.List.{append-nil}
+use Rattle.std.{specs.Prelude.IfSome, proofs.lemmas.List.append-nil}
 use Rattle.ix_host.specs.run.Whole.{Sent, Writes, WritesFront}
 
 -- nothing went out yet

@@ -1,25 +1,17 @@
 -- How a report stands that is on its way out: at first, as it grows, and as what waits is written.
-use Rattle.std.proofs.Common.{◌≡◌, ℕ, Bool, true, false, is_some, ◌+◌, List, [], ◌++◌, length, Option, Some, None, Result, Ok, Err, refl, sym, ap, ◌∙◌, append_assoc, subst}
-use Rattle.std.specs.Prelude.{IfSome, OnOk}
-use Rattle.std.proofs.lemmas.List.{append-nil}
+use Rattle.std.proofs.Common.{◌≡◌, ℕ, Bool, true, false, is_some, ◌+◌, List, [], ◌++◌, length, Option, Some, None, Result, Ok, Err, refl, sym, ap, ◌∙◌, subst}
+use Rattle.std.proofs.Common.{append_assoc}
+use Rattle.std.{specs.Prelude.{IfSome, OnOk}, proofs.lemmas.List.append-nil}
 use Rattle.ix_io.specs.Streams.{HasCause, Rose}
-use Rattle.ix_model.specs.history.Events.{Event}
-use Rattle.ix_model.specs.history.History.{History, world_of, with_entry}
-use Rattle.ix_model.specs.opening.Opening.{opening_world}
-use Rattle.ix_script.specs.lines.Before.{form_told, lanes_of}
-use Rattle.ix_script.specs.scripts.Scripts.{config_of}
-use Rattle.ix_script.specs.declared.line.Line.{Line}
+use Rattle.ix_model.specs.{history.{Events.Event, History.{History, world_of, with_entry}}, opening.Opening.opening_world}
+use Rattle.ix_script.specs.{lines.Before.{form_told, lanes_of}, scripts.Scripts.config_of, declared.line.Line.Line}
 use Rattle.ix_report.specs.LineText.{head_line}
-use Rattle.ix_replay.specs.report.Report.{closing_text, entries_text, entry_text, report_of}
-use Rattle.ix_replay.proofs.piecewise.Shown.{history_entries}
+use Rattle.ix_replay.{specs.report.Report.{closing_text, entries_text, entry_text, report_of}, proofs.piecewise.Shown.history_entries}
 use Rattle.ix_host.specs.declared.status.Status.TheVariants as status
 use Rattle.ix_host.specs.declared.streams.outlet.Failure.{Failure}
+use Rattle.ix_host.specs.run.{Run.Ends, Outlet.{FrontIsOut, StandsAt, failed_as}, Teller.told_of, Whole.{Sent, Writes}}
 use Rattle.ix_host.specs.declared.streams.outlet.Failure.TheVariants as failure
 use Rattle.ix_host.specs.run.Outcome as outcome
-use Rattle.ix_host.specs.run.Run.{Ends}
-use Rattle.ix_host.specs.run.Outlet.{FrontIsOut, StandsAt, failed_as}
-use Rattle.ix_host.specs.run.Teller.{told_of}
-use Rattle.ix_host.specs.run.Whole.{Sent, Writes}
 use Rattle.ix_host.proofs.piecewise.Outlets.{sent_all, sent_front, sent_less, sent_more, sent_none}
 
 -- ---- fronts

@@ -1,24 +1,17 @@
 -- Counts among the command words.
-use Rattle.std.proofs.Common.{◌≡◌, ◌≢◌, ℕ, suc, ◌+◌, ◌*◌, ◌-◌, ◌^◌, ◌<◌, ◌≤◌, ◌&&◌, ◌||◌, ◌==◌, nat_le, Bool, true, false, List, [], ◌∷◌, length}
-use Rattle.std.proofs.Common.{Option, Some, None, Ok, Err, refl, sym, ap, ◌∙◌, arith, inl, inr, get_or, if◌then◌else◌, codes}
-use Rattle.std.specs.Prelude.{IfSome}
-use Rattle.std.specs.List.{list_all}
-use Rattle.std.specs.Str.Parse.{ParsesUnsigned}
-use Rattle.std.specs.Option.{option_map}
-use Rattle.std.proofs.lemmas.Bool.{and_from, and_parts, cases_Bool, cases_lt, le-leb}
-use Rattle.std.proofs.lemmas.Bool.Decides.{nat_tests}
+use Rattle.std.proofs.Common.{◌≡◌, ◌≢◌, ℕ, suc, ◌+◌, ◌*◌, ◌-◌, ◌^◌, ◌<◌, ◌≤◌, ◌&&◌, ◌||◌, ◌==◌, nat_le, Bool, true, false, List, [], ◌∷◌, length, Option, Some}
+use Rattle.std.proofs.Common.{None, Ok, Err, refl, sym, ap, ◌∙◌, arith, inl, inr, get_or, if◌then◌else◌, codes}
+use Rattle.std.specs.{Prelude.IfSome, List.list_all, Str.Parse.ParsesUnsigned, Option.option_map}
+use Rattle.std.proofs.{lemmas.Bool.{and_from, and_parts, cases_Bool, cases_lt, le-leb}, lemmas.Bool.Decides.nat_tests}
 use Rattle.std.proofs.lemmas.Str.Parse.{IsDigitsTest, IsNumeralModel, numerals_by_fold, parse_plain}
-use Rattle.ix_model.specs.opening.Valid.{is_within}
-use Rattle.ix_model.specs.world.Naming.{same_bytes}
+use Rattle.ix_model.specs.{opening.Valid.is_within, world.Naming.same_bytes}
 use Rattle.ix_label.specs.Category.{Categories}
 use Rattle.ix_label.specs.declared.form.Form.TheVariants as form
-use Rattle.ix_text.specs.Labels.{label_in}
+use Rattle.ix_text.specs.{Labels.label_in, Bytes.{begins_with, is_digit}}
 use Rattle.ix_script.specs.texts.Words.{is_numeral, number_of, value, value_from}
-use Rattle.ix_text.specs.Bytes.{begins_with, is_digit}
-use Rattle.ix_host.specs.declared.arguments.command.Command.{Command}
-use Rattle.ix_host.specs.declared.arguments.command.Command.TheVariants as command
+use Rattle.ix_host.{specs.declared.arguments.command.Command.Command, proofs.comes_to.OnlyRun.lanes_only}
 use Rattle.ix_host.specs.command.Command.{IsCounted, command_of, count_of, lanes_command_of, left_out, whole_command}
-use Rattle.ix_host.proofs.comes_to.OnlyRun.{lanes_only}
+use Rattle.ix_host.specs.declared.arguments.command.Command.TheVariants as command
 
 -- ---- numbers
 -- the test and the value of decimal digits are std's

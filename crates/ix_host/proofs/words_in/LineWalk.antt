@@ -1,33 +1,21 @@
 -- What clap makes of the command words, a word at a time.
-use Rattle.std.proofs.Common.{◌≡◌, ℕ, ◌==◌, Bool, true, false, List, [], ◌∷◌, length, fold, Option, Some, None, is_some, refl, sym, subst, ap, ap₂}
-use Rattle.std.proofs.Common.{◌∙◌, arith, inl, inr, codes, slice_get, if◌then◌else◌}
-use Rattle.std.proofs.lemmas.Bool.{cases_Bool, eqb-true}
-use Rattle.std.proofs.lemmas.Bool.Decides.{nat_tests}
-use Rattle.std.specs.Option.{option_map_or}
-use Rattle.std.specs.Str.{bytes_eq, chars}
-use Rattle.std.proofs.lemmas.Slice.Eq.{bytes_eq-Decides}
+use Rattle.std.proofs.Common.{◌≡◌, ℕ, ◌==◌, Bool, true, false, List, [], ◌∷◌, length, fold, Option, Some, None, is_some, refl, sym, subst, ap, ap₂, ◌∙◌, arith}
+use Rattle.std.proofs.Common.{inl, inr, codes, slice_get, if◌then◌else◌}
+use Rattle.std.proofs.lemmas.{Bool.{cases_Bool, eqb-true, Decides.nat_tests}, Slice.Eq.bytes_eq-Decides}
+use Rattle.std.specs.{Option.option_map_or, Str.{bytes_eq, chars}, Prelude.option_and_then}
 use Rattle.clap.specs.Words.{App, HasKind, HasMatchesOf, Kinds, Row, Rule, Text, first_of, first_value, found_of, is_simple_and_free, kind_of}
-use Rattle.clap.specs.declared.error.Error.{Error}
-use Rattle.clap.specs.declared.error.kind.ErrorKind.{ErrorKind}
-use Rattle.clap.specs.declared.error.kind.ErrorKind.TheVariants.{OutOfMemory}
-use Rattle.clap.specs.declared.parser.matches.ArgMatches.{ArgMatches}
-use Rattle.clap.proofs.WalkLemmas.{first_value-rows}
-use Rattle.clap.specs.Walk.{Held, Outcome, Step, Walk, after_flag, after_step, arg_by_index, bundle_met, bundle_step, finished, idle, long_or_other}
-use Rattle.clap.specs.Walk.{nothing_held, plain, settled, short_word, short_or_plain, to_positional, trailing, value, walk_from, walked, word_met}
-use Rattle.clap.specs.Simple.{built, entered, matches_of}
-use Rattle.clap.specs.Kinds.{or_else}
-use Rattle.clap.specs.Faults.{bundle_fault, bundle_step_fault, check_fault, defaults_fault, entered_fault, fault_of, flag_word_fault, flags_fault, settle_fault, step_fault, walk_fault, word_fault}
-use Rattle.std.specs.Prelude.{option_and_then}
-use Rattle.clap.specs.Lexer.{long_of, short_of, short_of_rest, strip_byte}
-use Rattle.clap.proofs.OnLiterals.{clap_on_literals}
-use Rattle.ix_host.specs.declared.arguments.command.Command.{Command}
+use Rattle.clap.specs.{declared.{error.{Error.Error, kind.ErrorKind.{ErrorKind, TheVariants.OutOfMemory}}, parser.matches.ArgMatches.ArgMatches}, Kinds.or_else}
+use Rattle.clap.specs.{Simple.{built, entered, matches_of}, Lexer.{long_of, short_of, short_of_rest, strip_byte}}
+use Rattle.clap.proofs.{WalkLemmas.first_value-rows, OnLiterals.clap_on_literals}
+use Rattle.clap.specs.Walk.{Held, Outcome, Step, Walk, after_flag, after_step, arg_by_index, bundle_met, bundle_step, finished, idle, long_or_other, plain}
+use Rattle.clap.specs.Walk.{nothing_held, settled, short_word, short_or_plain, to_positional, trailing, value, walk_from, walked, word_met}
+use Rattle.clap.specs.Faults.{bundle_fault, bundle_step_fault, check_fault, defaults_fault, entered_fault, fault_of, flag_word_fault, flags_fault, settle_fault}
+use Rattle.clap.specs.Faults.{step_fault, walk_fault, word_fault}
+use Rattle.ix_host.{specs.declared.arguments.command.Command.Command, specs.command.Command.{command_of, count_of, left_out, whole_command}}
+use Rattle.ix_host.{specs.command.CommandLine.{command_line, read_values}, proofs.words_in.Dashes.dash_first}
 use Rattle.ix_script.specs.texts.Words.{is_numeral, number_of}
 use Rattle.ix_label.specs.declared.form.Form.TheVariants as form
-use Rattle.ix_text.specs.Bytes.{is_digit}
-use Rattle.ix_text.specs.Labels.{label_in}
-use Rattle.ix_host.proofs.words_in.Dashes.{dash_first}
-use Rattle.ix_host.specs.command.Command.{command_of, count_of, left_out, whole_command}
-use Rattle.ix_host.specs.command.CommandLine.{command_line, read_values}
+use Rattle.ix_text.specs.{Bytes.is_digit, Labels.label_in}
 
 -- ---- what a parse comes to from where a walk stands
 abbrev line : App

@@ -1,6 +1,5 @@
 use Rattle.std.proofs.Common.{◌∙◌, refl, sym}
-use Rattle.ix_check.specs.Plans.{found_in}
-use Rattle.ix_check.specs.Verdicts.{verdict_line}
+use Rattle.ix_check.specs.{Plans.found_in, Verdicts.verdict_line}
 use Rattle.ix_host.specs.run.Outcome as outcome
 use Rattle.ix_host.proofs.checking.check.Goals as goal
 

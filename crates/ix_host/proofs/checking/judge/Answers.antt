@@ -1,11 +1,7 @@
-use Rattle.std.proofs.Common.{◌≡◌, List, subst, sym}
-use Rattle.std.specs.Prelude.{IfOk}
-use Rattle.std.proofs.lemmas.Result.{IfOk-weaker}
+use Rattle.std.{proofs.{Common.{◌≡◌, List, subst, sym}, lemmas.Result.IfOk-weaker}, specs.Prelude.IfOk}
 use Rattle.ix_script.specs.declared.line.Line.{Line}
 use Rattle.ix_replay.specs.report.Fixed.{LanesNamed}
-use Rattle.ix_check.specs.Judging.{verdict_of}
-use Rattle.ix_check.specs.Plans.{found_in}
-use Rattle.ix_check.proofs.Judged.{judged}
+use Rattle.ix_check.{specs.{Judging.verdict_of, Plans.found_in}, proofs.Judged.judged}
 use Rattle.ix_host.proofs.checking.judge.Goals as goal
 
 pub returns : goal.returns

@@ -1,7 +1,5 @@
-use Rattle.std.proofs.Common.{ℕ, ◌<◌, ◌≤◌, Option, length, subst, arith}
-use Rattle.std.specs.Prelude.{IfSome}
-use Rattle.ix_host.specs.Policies.{IsPolicy}
-use Rattle.ix_host.proofs.comes_to.Seconds.{policy_within}
+use Rattle.std.{proofs.Common.{ℕ, ◌<◌, ◌≤◌, Option, length, subst, arith}, specs.Prelude.IfSome}
+use Rattle.ix_host.{specs.Policies.IsPolicy, proofs.comes_to.Seconds.policy_within}
 use Rattle.ix_host.proofs.comparing.compare_with.Goals as goal
 
 pub overflow_add-lines : goal.overflow_add-lines

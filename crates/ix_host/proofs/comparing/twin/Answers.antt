@@ -1,14 +1,7 @@
-use Rattle.std.proofs.Common.{◌≡◌, ◌+◌, ◌∙◌, ℕ, List, Option, Some, sym, ap, subst, arith}
-use Rattle.std.specs.Option.{option_map}
-use Rattle.ix_script.specs.lines.Faults.{fault_of}
-use Rattle.ix_script.specs.scripts.Scripts.{script_of}
-use Rattle.ix_script.specs.declared.line.Line.{Line}
-use Rattle.ix_twin.specs.Lines.{twin_text}
-use Rattle.ix_twin.specs.Parts.{second_part}
-use Rattle.ix_host.specs.Policies.{policy_refusal}
-use Rattle.ix_host.specs.Seconds.{further_down, second_in, second_refusal}
-use Rattle.ix_host.specs.run.Outcome.{unless_refused}
-use Rattle.ix_host.specs.run.Run.{Ends}
+use Rattle.std.{proofs.Common.{◌≡◌, ◌+◌, ◌∙◌, ℕ, List, Option, Some, sym, ap, subst, arith}, specs.Option.option_map}
+use Rattle.ix_script.specs.{lines.Faults.fault_of, scripts.Scripts.script_of, declared.line.Line.Line}
+use Rattle.ix_twin.specs.{Lines.twin_text, Parts.second_part}
+use Rattle.ix_host.specs.{Policies.policy_refusal, Seconds.{further_down, second_in, second_refusal}, run.{Outcome.unless_refused, Run.Ends}}
 use Rattle.ix_host.proofs.comes_to.Seconds.{Within, accepted_second, fault_within, refused_second, script_short}
 use Rattle.ix_host.proofs.comparing.twin.Goals as goal
 

@@ -1,6 +1,5 @@
 use Rattle.std.proofs.Common.{◌∙◌}
-use Rattle.ix_replay.specs.Tallying.{HasSeen}
-use Rattle.ix_replay.proofs.Summed.{seen_none}
+use Rattle.ix_replay.{specs.Tallying.HasSeen, proofs.Summed.seen_none}
 use Rattle.ix_script.specs.scripts.Scripts.{config_of}
 use Rattle.ix_host.proofs.concluding.sum_up_again.Goals as goal
 

@@ -1,8 +1,6 @@
 use Rattle.std.proofs.Common.{◌∙◌, subst, List}
 use Rattle.ix_model.specs.history.Events.{Event}
-use Rattle.ix_replay.specs.Summary.{summary_line}
-use Rattle.ix_replay.specs.Tallying.{HasSeen}
-use Rattle.ix_replay.proofs.Summed.{seen_none}
+use Rattle.ix_replay.{specs.{Summary.summary_line, Tallying.HasSeen}, proofs.Summed.seen_none}
 use Rattle.ix_script.specs.scripts.Scripts.{config_of}
 use Rattle.ix_host.specs.run.Outcome as outcome
 use Rattle.ix_host.specs.run.Run.{Ends}

@@ -1,20 +1,13 @@
-use Rattle.std.proofs.Common.{◌∙◌, subst, sym, ap}
-use Rattle.ix_lanes.proofs.serially.Needs.{whole_fits}
+use Rattle.std.{proofs.Common.{◌∙◌, subst, sym, ap}, specs.Prelude.IfSome}
+use Rattle.ix_lanes.{proofs.serially.Needs.whole_fits, specs.histories.History.IsHistory}
 use Rattle.ix_parallel.proofs.together.Whole.{serial_history}
-use Rattle.ix_lanes.specs.histories.History.{IsHistory}
-use Rattle.ix_host.specs.command.Command.{IsCounted, lanes_command_of, lanes_usage_line}
+use Rattle.ix_host.specs.{command.Command.{IsCounted, lanes_command_of, lanes_usage_line}, run.Inputs.{input_max, reads_source}, run.Whole.TakesFew}
+use Rattle.ix_host.specs.{run.Outcome.{outcome_of, text_of}, run.Run.{FitsCommand, ReadsOut, WritesFor}, run.Tasks.text_told}
 use Rattle.ix_host.specs.declared.status.Status.TheVariants as status
 use Rattle.ix_host.specs.declared.task.Task.TheVariants as task
-use Rattle.ix_host.specs.run.Inputs.{input_max, reads_source}
-use Rattle.ix_host.specs.run.Outcome.{outcome_of, text_of}
-use Rattle.ix_host.specs.run.Run.{FitsCommand, ReadsOut, WritesFor}
-use Rattle.ix_host.specs.run.Whole.{TakesFew}
-use Rattle.ix_host.specs.run.Tasks.{text_told}
-use Rattle.ix_host.proofs.comes_to.Preparing.{run_is_no_end}
+use Rattle.ix_host.proofs.{comes_to.Preparing.run_is_no_end, words_in.Counts.lanes_counted}
 use Rattle.ix_host.proofs.comes_to.OnlyRun.{lanes_input, lanes_long, lanes_max, lanes_read_out, lanes_run, lanes_written, none_reads}
 use Rattle.ix_host.proofs.comes_to.Verdicts.{Verdict, answer_read, memory_written, told_read, told_read_out, verdict_ended, verdict_told}
-use Rattle.ix_host.proofs.words_in.Counts.{lanes_counted}
-use Rattle.std.specs.Prelude.{IfSome}
 use Rattle.ix_host.proofs.lanes.run_lanes.Goals as goal
 
 pub prepare-requires : goal.prepare-requires

@@ -1,5 +1,4 @@
-use Rattle.ix_script.specs.lines.Before.{form_told}
-use Rattle.ix_script.specs.scripts.Scripts.{config_of}
+use Rattle.ix_script.specs.{lines.Before.form_told, scripts.Scripts.config_of}
 use Rattle.ix_host.proofs.laws.labels_in_form.Goals as goal
 
 pub returns : goal.returns

@@ -1,10 +1,7 @@
 use Rattle.std.proofs.Common.{◌≡◌, ◌++◌, List, ℕ, None, true, is_ok, not, refl, sym, ap, ◌∙◌, subst}
 use Rattle.ix_lanes.proofs.found.Oks.{from_ok}
-use Rattle.ix_image.specs.Lines.{list_of}
-use Rattle.ix_image.specs.Telling.{left_of}
-use Rattle.ix_host.specs.run.Outlet.{StandsAt}
-use Rattle.ix_host.proofs.piecewise.Outlets.{sent_none}
-use Rattle.ix_host.proofs.piecewise.Stands.{ends_out, none_is, stands_end, stands_front, stands_silent}
+use Rattle.ix_image.specs.{Lines.list_of, Telling.left_of}
+use Rattle.ix_host.{specs.run.Outlet.StandsAt, proofs.piecewise.{Outlets.sent_none, Stands.{ends_out, none_is, stands_end, stands_front, stands_silent}}}
 use Rattle.ix_host.proofs.listing.tell_list.Goals as goal
 
 pub lines-init : goal.lines-init

@@ -1,6 +1,5 @@
 use Rattle.std.proofs.Common.{◌++◌, None}
-use Rattle.ix_image.specs.Lines.{list_of}
-use Rattle.ix_image.specs.Telling.{left_of, pieces_of}
+use Rattle.ix_image.specs.{Lines.list_of, Telling.{left_of, pieces_of}}
 use Rattle.ix_host.specs.run.Outlet.{StandsAt}
 use Rattle.ix_host.proofs.listing.tell_list.Given as goal
 

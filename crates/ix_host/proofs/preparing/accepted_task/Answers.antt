@@ -1,8 +1,6 @@
 use Rattle.std.proofs.Common.{refl, ap, sym, ◌∙◌}
-use Rattle.ix_host.specs.run.Outcome.{outcome_for, text_for}
+use Rattle.ix_host.{specs.run.Outcome.{outcome_for, text_for}, proofs.comes_to.{Outcomes.{outcome_alone, outcome_twin}, Preparing.ends_as}}
 use Rattle.ix_host.specs.declared.arguments.command.Command.TheVariants as command
-use Rattle.ix_host.proofs.comes_to.Outcomes.{outcome_alone, outcome_twin}
-use Rattle.ix_host.proofs.comes_to.Preparing.{ends_as}
 use Rattle.ix_host.proofs.preparing.accepted_task.Goals as goal
 
 pub returns-in-Run-clause-leads : goal.returns-in-Run-clause-leads

@@ -1,6 +1,5 @@
 use Rattle.std.proofs.Common.{◌∙◌, sym}
-use Rattle.ix_host.proofs.comes_to.Outcomes.{outcome_image}
-use Rattle.ix_host.proofs.comes_to.Preparing.{ends_as, loaded_as}
+use Rattle.ix_host.proofs.comes_to.{Outcomes.outcome_image, Preparing.{ends_as, loaded_as}}
 use Rattle.ix_host.proofs.preparing.input_task.Goals as goal
 
 pub returns-then-reads_image-clause-leads : goal.returns-then-reads_image-clause-leads

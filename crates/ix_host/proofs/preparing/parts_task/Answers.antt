@@ -1,10 +1,7 @@
 use Rattle.std.proofs.Common.{◌≡◌, ◌∙◌, ap, sym, Some}
-use Rattle.ix_script.specs.lines.Faults.{fault_of}
-use Rattle.ix_script.specs.scripts.Scripts.{script_of}
-use Rattle.ix_host.specs.run.Inputs.{beside_bytes, script_bytes, script_in}
-use Rattle.ix_host.specs.run.Outcome.{outcome_for, outcome_in}
-use Rattle.ix_host.proofs.comes_to.Outcomes.{short_for, in_script, outcome_fault, outcome_script}
-use Rattle.ix_host.proofs.comes_to.Preparing.{ends_as, leads_as}
+use Rattle.ix_script.specs.{lines.Faults.fault_of, scripts.Scripts.script_of}
+use Rattle.ix_host.specs.run.{Inputs.{beside_bytes, script_bytes, script_in}, Outcome.{outcome_for, outcome_in}}
+use Rattle.ix_host.proofs.comes_to.{Outcomes.{short_for, in_script, outcome_fault, outcome_script}, Preparing.{ends_as, leads_as}}
 use Rattle.ix_host.proofs.preparing.parts_task.Goals as goal
 
 pub script_task-requires-clause-runnable : goal.script_task-requires-clause-runnable

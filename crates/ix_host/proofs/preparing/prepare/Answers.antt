@@ -1,15 +1,12 @@
-use Rattle.std.proofs.Common.{◌≡◌, ◌∙◌, Some, true, refl, subst, sym, ap}
-use Rattle.std.specs.Prelude.{IfSome}
+use Rattle.std.{proofs.Common.{◌≡◌, ◌∙◌, Some, true, refl, subst, sym, ap}, specs.Prelude.IfSome}
 use Rattle.ix_host.specs.declared.streams.stream.Input.TheVariants as input
-use Rattle.ix_host.specs.run.Inputs.{input_max, input_of, reads_image, reads_source, script_bytes, script_in}
-use Rattle.ix_host.specs.run.Whole.{Gathers}
-use Rattle.ix_host.specs.run.Outcome.{outcome_in}
+use Rattle.ix_host.specs.{run.Inputs.{input_max, input_of, reads_image, reads_source, script_bytes, script_in}, run.Whole.Gathers, run.Outcome.outcome_in}
+use Rattle.ix_host.specs.{run.Tasks.IsLoaded, declared.arguments.command.Command.Command}
 use Rattle.ix_host.specs.run.Outcome as outcome
-use Rattle.ix_host.specs.declared.arguments.command.Command.{Command}
 use Rattle.ix_host.specs.declared.arguments.command.Command.TheVariants as command
-use Rattle.ix_host.specs.run.Tasks.{IsLoaded}
 use Rattle.ix_host.proofs.comes_to.Verdicts.{of_any, of_input}
-use Rattle.ix_host.proofs.comes_to.Preparing.{ends_somewhere, leads_somewhere, long_not_loaded, long_prepared, long_read_out, memory_prepared, usage_prepared, whole_prepared, whole_read_out}
+use Rattle.ix_host.proofs.comes_to.Preparing.{ends_somewhere, leads_somewhere, long_not_loaded, long_prepared, long_read_out, memory_prepared, usage_prepared}
+use Rattle.ix_host.proofs.comes_to.Preparing.{whole_prepared, whole_read_out}
 use Rattle.ix_host.proofs.preparing.prepare.Goals as goal
 
 pub returns-in_default-clause-fault : goal.returns-in_default-clause-fault

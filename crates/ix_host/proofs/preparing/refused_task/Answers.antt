@@ -1,10 +1,7 @@
-use Rattle.std.proofs.Common.{refl, sym, ap, ◌∙◌}
-use Rattle.std.specs.Option.{option_or}
-use Rattle.ix_host.specs.Seconds.{second_refusal}
-use Rattle.ix_host.specs.run.Outcome.{outcome_for, script_refusal, text_for}
+use Rattle.std.{proofs.Common.{refl, sym, ap, ◌∙◌}, specs.Option.option_or}
+use Rattle.ix_host.specs.{Seconds.second_refusal, run.Outcome.{outcome_for, script_refusal, text_for}}
+use Rattle.ix_host.proofs.comes_to.{Outcomes.{outcome_accepted, outcome_refused}, Preparing.ends_as}
 use Rattle.ix_host.specs.run.Outcome as outcome
-use Rattle.ix_host.proofs.comes_to.Outcomes.{outcome_accepted, outcome_refused}
-use Rattle.ix_host.proofs.comes_to.Preparing.{ends_as}
 use Rattle.ix_host.proofs.preparing.refused_task.Goals as goal
 
 pub returns-in-Run-clause-leads : goal.returns-in-Run-clause-leads

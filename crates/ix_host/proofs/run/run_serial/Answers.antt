@@ -1,23 +1,13 @@
-use Rattle.std.proofs.Common.{◌≡◌, ◌∙◌, refl, subst, sym, ap}
+use Rattle.std.{proofs.Common.{◌≡◌, ◌∙◌, refl, subst, sym, ap}, specs.Prelude.IfSome}
 use Rattle.ix_lanes.specs.histories.Serial.{serial}
-use Rattle.ix_host.specs.Noninterference.{TakesNoninterferentReport}
-use Rattle.ix_host.specs.command.Command.{IsCounted, command_of, usage_line}
+use Rattle.ix_host.specs.{Noninterference.TakesNoninterferentReport, command.Command.{IsCounted, command_of, usage_line}, run.Outcome.{outcome_of, text_of}}
+use Rattle.ix_host.specs.{run.Inputs.{input_max, input_of, reads_source, script_for, script_in}, run.Run.{ReadsOut, WritesFor}, run.Whole.TakesFew}
+use Rattle.ix_host.specs.run.Tasks.{text_told}
 use Rattle.ix_host.specs.declared.status.Status.TheVariants as status
 use Rattle.ix_host.specs.declared.task.Task.TheVariants as task
-use Rattle.ix_host.specs.run.Inputs.{input_max, input_of, reads_source, script_for, script_in}
-use Rattle.ix_host.specs.run.Outcome.{outcome_of, text_of}
-use Rattle.ix_host.specs.run.Run.{ReadsOut, WritesFor}
-use Rattle.ix_host.specs.run.Whole.{TakesFew}
-use Rattle.ix_host.specs.run.Tasks.{text_told}
-use Rattle.ix_host.proofs.comes_to.Preparing.{run_is_no_end}
-use Rattle.ix_host.proofs.comes_to.Checked.{takes_verdict}
-use Rattle.ix_host.proofs.comes_to.Both.{takes_twins}
-use Rattle.ix_host.proofs.comes_to.Followed.{takes_traces}
-use Rattle.ix_host.proofs.comes_to.Saved.{takes_image}
-use Rattle.ix_host.proofs.comes_to.Listed.{fault_is, loaded_image, never_run, takes_list}
+use Rattle.ix_host.proofs.{comes_to.Preparing.run_is_no_end, comes_to.Checked.takes_verdict, comes_to.Both.takes_twins, comes_to.Followed.takes_traces}
+use Rattle.ix_host.proofs.{comes_to.Saved.takes_image, comes_to.Listed.{fault_is, loaded_image, never_run, takes_list}, words_in.Counts.command_counted}
 use Rattle.ix_host.proofs.comes_to.Verdicts.{Verdict, answer_read, at_serial, told_read, told_read_out, verdict_ended, verdict_told}
-use Rattle.ix_host.proofs.words_in.Counts.{command_counted}
-use Rattle.std.specs.Prelude.{IfSome}
 use Rattle.ix_host.proofs.run.run_serial.Goals as goal
 
 pub prepare-requires : goal.prepare-requires

@@ -1,12 +1,8 @@
 use Rattle.std.proofs.Common.{◌≡◌, ◌++◌, List, ℕ, None, true, is_ok, not, refl, sym, ap, ◌∙◌, subst}
 use Rattle.ix_lanes.proofs.found.Oks.{from_ok}
 use Rattle.ix_model.specs.history.History.{world_of}
-use Rattle.ix_image.specs.Image.{image_of}
-use Rattle.ix_image.specs.Taken.{tree_on}
-use Rattle.ix_image.specs.Written.{left_of}
-use Rattle.ix_host.specs.run.Outlet.{StandsAt}
-use Rattle.ix_host.proofs.piecewise.Outlets.{sent_none}
-use Rattle.ix_host.proofs.piecewise.Stands.{ends_out, none_is, stands_end, stands_front, stands_silent}
+use Rattle.ix_image.specs.{Image.image_of, Taken.tree_on, Written.left_of}
+use Rattle.ix_host.{specs.run.Outlet.StandsAt, proofs.piecewise.{Outlets.sent_none, Stands.{ends_out, none_is, stands_end, stands_front, stands_silent}}}
 use Rattle.ix_host.proofs.saving.tell_image.Goals as goal
 
 pub pieces-init : goal.pieces-init

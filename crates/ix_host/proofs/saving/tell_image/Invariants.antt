@@ -1,8 +1,6 @@
 use Rattle.std.proofs.Common.{◌++◌, None}
 use Rattle.ix_model.specs.history.History.{world_of}
-use Rattle.ix_image.specs.Image.{image_of}
-use Rattle.ix_image.specs.Taken.{tree_on}
-use Rattle.ix_image.specs.Written.{IsBegun, left_of, pieces_of}
+use Rattle.ix_image.specs.{Image.image_of, Taken.tree_on, Written.{IsBegun, left_of, pieces_of}}
 use Rattle.ix_host.specs.run.Outlet.{StandsAt}
 use Rattle.ix_host.proofs.saving.tell_image.Given as goal
 

@@ -1,5 +1,4 @@
-use Rattle.std.proofs.Common.{rules, ◌≡◌, ◌∙◌, ap₂, codes}
-use Rattle.std.proofs.lemmas.Result.{IfOk-weaker}
+use Rattle.std.proofs.{Common.{rules, ◌≡◌, ◌∙◌, ap₂, codes}, lemmas.Result.IfOk-weaker}
 use Rattle.clap.specs.Words.{app_of, rule_of, with_rule}
 use Rattle.ix_host.specs.command.CommandLine.{bare_line, value}
 use Rattle.ix_host.proofs.arguments.command_line.command_line.Goals as goal

@@ -1,8 +1,6 @@
 use Rattle.std.proofs.Common.{rules, ◌≡◌, ◌∙◌, sym, subst, ap, [], map, string_bytes, true, false}
-use Rattle.clap.specs.Words.{App, HasKind, HasMatchesOf, app_of, fault_of, is_simple_and_free}
-use Rattle.clap.specs.declared.error.kind.ErrorKind.TheVariants.{OutOfMemory}
-use Rattle.ix_host.specs.command.CommandLine.{command_line}
-use Rattle.ix_host.proofs.words_in.LineWalk.{is_free, line_reads, line_refuses}
+use Rattle.clap.specs.{Words.{App, HasKind, HasMatchesOf, app_of, fault_of, is_simple_and_free}, declared.error.kind.ErrorKind.TheVariants.OutOfMemory}
+use Rattle.ix_host.{specs.command.CommandLine.command_line, proofs.words_in.LineWalk.{is_free, line_reads, line_refuses}}
 use Rattle.ix_host.proofs.arguments.command_line.read_command.Goals as goal
 
 pub returns-in-Ok-try_get_matches_from : goal.returns-in-Ok-try_get_matches_from

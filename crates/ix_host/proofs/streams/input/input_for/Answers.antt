@@ -1,7 +1,5 @@
-use Rattle.std.proofs.Common.{Some, subst, sym}
-use Rattle.std.specs.Prelude.{IfSome}
-use Rattle.ix_host.specs.run.Inputs.{input_max}
-use Rattle.ix_host.specs.run.Whole.{Gathers}
+use Rattle.std.{proofs.Common.{Some, subst, sym}, specs.Prelude.IfSome}
+use Rattle.ix_host.specs.run.{Inputs.input_max, Whole.Gathers}
 use Rattle.ix_host.proofs.streams.input.input_for.Goals as goal
 
 pub returns-in-Run-clause-gathers : goal.returns-in-Run-clause-gathers

@@ -1,8 +1,7 @@
 use Rattle.std.proofs.Common.{[], None, sym, subst}
-use Rattle.ix_host.specs.declared.status.Status.{Status}
-use Rattle.ix_host.specs.run.Outcome as outcome
-use Rattle.ix_host.specs.run.Run.{Ends}
+use Rattle.ix_host.specs.{declared.status.Status.Status, run.Run.Ends}
 use Rattle.ix_host.proofs.piecewise.Stands.{ends_done, ends_failed, ends_stopped, stands_failed, stands_whole, stands_written}
+use Rattle.ix_host.specs.run.Outcome as outcome
 use Rattle.ix_host.proofs.streams.outlet.finish.Goals as goal
 
 pub returns-in-Some : goal.returns-in-Some

@@ -1,6 +1,5 @@
 use Rattle.std.proofs.Common.{List, ℕ, None, sym, subst}
-use Rattle.ix_host.specs.run.Outlet.{StandsAt}
-use Rattle.ix_host.proofs.piecewise.Stands.{stands_front}
+use Rattle.ix_host.{specs.run.Outlet.StandsAt, proofs.piecewise.Stands.stands_front}
 use Rattle.ix_host.proofs.streams.outlet.told.Goals as goal
 
 pub returns-in-Ok-clause-stands : goal.returns-in-Ok-clause-stands

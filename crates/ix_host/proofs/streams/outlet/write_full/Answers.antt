@@ -1,6 +1,5 @@
 use Rattle.std.proofs.Common.{◌++◌, List, ℕ, None, sym, subst}
-use Rattle.ix_host.specs.run.Outlet.{StandsAt}
-use Rattle.ix_host.proofs.piecewise.Stands.{stands_failed, stands_written}
+use Rattle.ix_host.{specs.run.Outlet.StandsAt, proofs.piecewise.Stands.{stands_failed, stands_written}}
 use Rattle.ix_host.proofs.streams.outlet.write_full.Goals as goal
 
 pub returns-in-Ok : goal.returns-in-Ok

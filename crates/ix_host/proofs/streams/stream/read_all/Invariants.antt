@@ -1,5 +1,4 @@
-use Rattle.std.proofs.Common.{◌≡◌, ◌-◌, ◌+◌, ◌≤◌, vec_len}
-use Rattle.std.specs.Prelude.{IfSome}
+use Rattle.std.{proofs.Common.{◌≡◌, ◌-◌, ◌+◌, ◌≤◌, vec_len}, specs.Prelude.IfSome}
 use Rattle.ix_host.specs.run.Whole.{IsFront}
 use Rattle.ix_host.proofs.streams.stream.read_all.Given as goal
 

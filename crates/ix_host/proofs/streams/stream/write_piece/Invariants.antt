@@ -1,5 +1,4 @@
-use Rattle.std.proofs.Common.{◌≡◌, ◌-◌, ◌≤◌, ◌++◌, take, length, Some}
-use Rattle.std.specs.Prelude.{IfSome}
+use Rattle.std.{proofs.Common.{◌≡◌, ◌-◌, ◌≤◌, ◌++◌, take, length, Some}, specs.Prelude.IfSome}
 use Rattle.ix_host.proofs.streams.stream.write_piece.Given as goal
 
 abbrev pub invariant-pieces : goal.invariant-pieces

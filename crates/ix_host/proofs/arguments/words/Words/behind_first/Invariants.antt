@@ -1,5 +1,4 @@
-use Rattle.std.proofs.Common.{◌≡◌, ◌++◌}
-use Rattle.std.specs.Prelude.{drop}
+use Rattle.std.{proofs.Common.{◌≡◌, ◌++◌}, specs.Prelude.drop}
 use Rattle.ix_host.proofs.arguments.words.Words.behind_first.Given as goal
 
 abbrev pub invariant-loop-word : goal.invariant-loop-word

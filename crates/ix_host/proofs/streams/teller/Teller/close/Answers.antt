@@ -3,10 +3,8 @@ use Rattle.ix_lanes.proofs.found.Oks.{from_ok}
 use Rattle.ix_model.specs.history.History.{world_of}
 use Rattle.ix_label.specs.declared.form.Form.{Form}
 use Rattle.ix_script.specs.lines.Before.{form_told}
-use Rattle.ix_replay.specs.report.Report.{closing_text}
-use Rattle.ix_replay.specs.report.Telling.{left_of}
-use Rattle.ix_host.specs.declared.streams.outlet.Failure.{Failure}
-use Rattle.ix_host.specs.run.Outlet.{StandsAt}
+use Rattle.ix_replay.specs.report.{Report.closing_text, Telling.left_of}
+use Rattle.ix_host.specs.{declared.streams.outlet.Failure.Failure, run.Outlet.StandsAt}
 use Rattle.ix_host.proofs.piecewise.Stands.{ends_out, none_is, stands_end, stands_front, stands_more, stands_silent}
 use Rattle.ix_host.proofs.streams.teller.Teller.close.Goals as goal
 

@@ -1,8 +1,7 @@
 use Rattle.std.proofs.Common.{◌≡◌, ◌++◌, ℕ, List, Option, length}
 use Rattle.ix_model.specs.history.History.{world_of}
 use Rattle.ix_script.specs.lines.Before.{form_told}
-use Rattle.ix_replay.specs.report.Report.{closing_text}
-use Rattle.ix_replay.specs.report.Telling.{left_of, pieces_of}
+use Rattle.ix_replay.specs.report.{Report.closing_text, Telling.{left_of, pieces_of}}
 use Rattle.ix_host.specs.run.Outlet.{StandsAt}
 use Rattle.ix_host.proofs.streams.teller.Teller.close.Given as goal
 

@@ -1,15 +1,10 @@
 use Rattle.std.proofs.Common.{[], ℕ, ◌++◌, length, List, Option, refl, sym, ap, ◌∙◌, subst}
 use Rattle.ix_model.specs.history.History.{History, world_of}
-use Rattle.ix_script.specs.declared.line.Line.{Line}
-use Rattle.ix_script.specs.lines.Before.{form_told}
-use Rattle.ix_script.specs.scripts.Scripts.{config_of}
+use Rattle.ix_script.specs.{declared.line.Line.Line, lines.Before.form_told, scripts.Scripts.config_of}
 use Rattle.ix_replay.specs.report.Report.{closing_text, report_of}
-use Rattle.ix_host.specs.declared.streams.outlet.Failure.{Failure}
-use Rattle.ix_host.specs.run.Outcome as outcome
-use Rattle.ix_host.specs.run.Run.{Ends}
-use Rattle.ix_host.specs.run.Outlet.{StandsAt}
-use Rattle.ix_host.specs.run.Teller.{told_of}
+use Rattle.ix_host.specs.{declared.streams.outlet.Failure.Failure, run.{Run.Ends, Outlet.StandsAt, Teller.told_of}}
 use Rattle.ix_host.proofs.piecewise.Stands.{ends_out, front_none, report_told, stands_first}
+use Rattle.ix_host.specs.run.Outcome as outcome
 use Rattle.ix_host.proofs.streams.teller.Teller.tell_again.Goals as goal
 
 pub returns-in-Ok : goal.returns-in-Ok

@@ -1,13 +1,8 @@
-use Rattle.std.proofs.Common.{◌≡◌, ◌+◌, ◌++◌, [], List, None, is_some, true, length, refl, sym, ap, ◌∙◌}
-use Rattle.std.proofs.lemmas.List.{append-nil}
-use Rattle.ix_model.specs.history.Calls.{op_of}
-use Rattle.ix_model.specs.history.History.{world_of}
-use Rattle.ix_model.specs.history.Made.{entry}
-use Rattle.ix_script.specs.lines.Before.{form_told, lanes_of}
-use Rattle.ix_script.specs.declared.line.Line.{Line}
+use Rattle.std.proofs.{Common.{◌≡◌, ◌+◌, ◌++◌, [], List, None, is_some, true, length, refl, sym, ap, ◌∙◌}, lemmas.List.append-nil}
+use Rattle.ix_model.specs.history.{Calls.op_of, History.world_of, Made.entry}
+use Rattle.ix_script.specs.{lines.Before.{form_told, lanes_of}, declared.line.Line.Line}
 use Rattle.ix_replay.specs.report.Report.{entry_text}
-use Rattle.ix_host.specs.run.Teller.{told_of}
-use Rattle.ix_host.proofs.piecewise.Stands.{line_comes, line_missed, none_is, on_ok, stands_end, told_next}
+use Rattle.ix_host.{specs.run.Teller.told_of, proofs.piecewise.Stands.{line_comes, line_missed, none_is, on_ok, stands_end, told_next}}
 use Rattle.ix_host.proofs.streams.teller.TellerWitness.see.Goals as goal
 
 pub returns-then-is_some : goal.returns-then-is_some

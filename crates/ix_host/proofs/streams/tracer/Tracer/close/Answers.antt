@@ -1,9 +1,7 @@
 use Rattle.std.proofs.Common.{◌≡◌, ◌++◌, ℕ, List, None, true, is_ok, is_some, not, refl, sym, ap, ◌∙◌, subst}
 use Rattle.ix_lanes.proofs.found.Oks.{from_ok}
-use Rattle.ix_flow.specs.Lines.{Counts, end_line}
-use Rattle.ix_flow.specs.Tracking.{counts_of}
-use Rattle.ix_host.specs.run.Outlet.{StandsAt}
-use Rattle.ix_host.proofs.piecewise.Stands.{ends_out, line_comes, line_missed, none_is, stands_front}
+use Rattle.ix_flow.specs.{Lines.{Counts, end_line}, Tracking.counts_of}
+use Rattle.ix_host.{specs.run.Outlet.StandsAt, proofs.piecewise.Stands.{ends_out, line_comes, line_missed, none_is, stands_front}}
 use Rattle.ix_host.proofs.streams.tracer.Tracer.close.Goals as goal
 
 pub returns-then-is_some-clause-ends : goal.returns-then-is_some-clause-ends

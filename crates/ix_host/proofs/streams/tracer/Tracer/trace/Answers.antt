@@ -1,12 +1,7 @@
 use Rattle.std.proofs.Common.{◌≡◌, [], ℕ, ◌++◌, List, refl, sym, ap, ◌∙◌, subst}
-use Rattle.ix_flow.specs.Lines.{end_line, flow_text}
-use Rattle.ix_flow.specs.Tracking.{counts_of, lines_after, lines_so_far}
-use Rattle.ix_flow.proofs.FlowTexts.{lines_and_end}
-use Rattle.ix_host.specs.Traces.{traces}
+use Rattle.ix_flow.{specs.{Lines.{end_line, flow_text}, Tracking.{counts_of, lines_after, lines_so_far}}, proofs.FlowTexts.lines_and_end}
+use Rattle.ix_host.{specs.{Traces.traces, run.{Outlet.StandsAt, Run.Ends}}, proofs.piecewise.Stands.{ends_out, front_none, stands_first}}
 use Rattle.ix_host.specs.run.Outcome as outcome
-use Rattle.ix_host.specs.run.Outlet.{StandsAt}
-use Rattle.ix_host.specs.run.Run.{Ends}
-use Rattle.ix_host.proofs.piecewise.Stands.{ends_out, front_none, stands_first}
 use Rattle.ix_host.proofs.streams.tracer.Tracer.trace.Goals as goal
 
 pub returns-in-Ok : goal.returns-in-Ok

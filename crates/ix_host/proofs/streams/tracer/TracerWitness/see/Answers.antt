@@ -1,12 +1,7 @@
-use Rattle.std.proofs.Common.{◌≡◌, ◌++◌, [], None, is_some, true, refl, sym, ap, ◌∙◌}
-use Rattle.std.proofs.lemmas.List.{append-nil}
-use Rattle.ix_model.specs.history.Calls.{op_of}
-use Rattle.ix_model.specs.history.Made.{entry}
+use Rattle.std.proofs.{Common.{◌≡◌, ◌++◌, [], None, is_some, true, refl, sym, ap, ◌∙◌}, lemmas.List.append-nil}
+use Rattle.ix_model.specs.history.{Calls.op_of, Made.entry}
 use Rattle.ix_lanes.proofs.found.Oks.{from_ok}
-use Rattle.ix_flow.specs.Following.{IsStep}
-use Rattle.ix_flow.specs.Lines.{lines_of_entry}
-use Rattle.ix_flow.specs.Tracking.{lines_so_far}
-use Rattle.ix_flow.proofs.FlowTexts.{lines_more}
+use Rattle.ix_flow.{specs.{Following.IsStep, Lines.lines_of_entry, Tracking.lines_so_far}, proofs.FlowTexts.lines_more}
 use Rattle.ix_host.proofs.piecewise.Stands.{line_comes, line_missed, no_failure, none_is, on_ok, stands_end}
 use Rattle.ix_host.proofs.streams.tracer.TracerWitness.see.Goals as goal
 
