@@ -1,27 +1,19 @@
 -- Two runs side by side: how they end, and how they go on.
-use Rattle.std.proofs.Common.{◌≡◌, ◌+◌, ◌<◌, ℕ, suc, Bool, true, false, true≢false, not, ◌&&◌, List, [], ◌∷◌, ◌++◌, length, Option, Some, None}
-use Rattle.std.proofs.Common.{if◌then◌else◌, refl, sym, ap, ◌∙◌, arith, inl, inr, append_assoc, append-nil, length-append}
+use Rattle.std.proofs.Common.{◌≡◌, ◌+◌, ◌<◌, ℕ, suc, Bool, true, false, true≢false, not, ◌&&◌, List, [], ◌∷◌, ◌++◌, length, Option, Some, None, if◌then◌else◌}
+use Rattle.std.proofs.Common.{refl, sym, ap, ◌∙◌, arith, inl, inr, append_assoc, append-nil, length-append}
 use Rattle.std.proofs.lemmas.Bool.{cases_Bool}
 use Rattle.ix_label.specs.Category.{Categories}
-use Rattle.ix_model.specs.world.World.{World}
-use Rattle.ix_model.specs.opening.Opening.{opening_world}
-use Rattle.ix_model.specs.history.Events.{Event}
-use Rattle.ix_model.specs.history.History.{next, with_entry, world_of}
-use Rattle.ix_model.specs.history.Step.{run, step_of}
+use Rattle.ix_model.specs.{world.World.World, opening.Opening.opening_world, history.{Events.Event, History.{next, with_entry, world_of}, Step.{run, step_of}}}
 use Rattle.ix_model.proofs.words.Runs.{world_of-push}
-use Rattle.ix_script.specs.lines.Before.{form_told, lanes_of}
-use Rattle.ix_script.specs.declared.line.Line.{Line}
+use Rattle.ix_script.specs.{lines.Before.{form_told, lanes_of}, declared.line.Line.Line}
 use Rattle.ix_lanes.specs.running.Serially.{SerialLeft, entries_left, most_entries}
 use Rattle.ix_replay.specs.report.Report.{entry_text}
 use Rattle.ix_judging.specs.Bytes.{joined}
 use Rattle.ix_serial.proofs.Stepping.{stands_next}
-use Rattle.ix_twin.specs.Lines.{pair_of}
-use Rattle.ix_twin.specs.Parting.{parting}
-use Rattle.ix_twin.specs.Running.{AreAside, Aside, Ends, TurnsOn, first_left, is_shown, next_place, pair_next, pairs_from, pairs_left, parting_left, second_left}
-use Rattle.ix_twin.specs.Tests.{both_agree, crosses, none_crosses}
-use Rattle.ix_twin.specs.Twins.{HaveAgreed, with_entries}
-use Rattle.ix_twin.proofs.Longer.{LastAgree, agree_last, agree_more, clear_more}
-use Rattle.ix_twin.proofs.Parted.{agree_here, here_agrees}
+use Rattle.ix_twin.specs.{Lines.pair_of, Parting.parting, Tests.{both_agree, crosses, none_crosses}, Twins.{HaveAgreed, with_entries}}
+use Rattle.ix_twin.proofs.{Longer.{LastAgree, agree_last, agree_more, clear_more}, Parted.{agree_here, here_agrees}}
+use Rattle.ix_twin.specs.Running.{AreAside, Aside, Ends, TurnsOn, first_left, is_shown, next_place, pair_next, pairs_from, pairs_left, parting_left}
+use Rattle.ix_twin.specs.Running.{second_left}
 
 not_then : {A : Type 0} (b : Bool) (x y : A) → b ≡ false → (if b then x else y) ≡ y
 not_then true x y is = absurd (true≢false is)

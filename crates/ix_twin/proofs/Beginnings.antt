@@ -1,19 +1,11 @@
 -- How two scripts begin.
-use Rattle.std.proofs.Common.{◌≡◌, ℕ, true, true≢false, List, refl, sym}
-use Rattle.std.specs.Bool.{Decides}
-use Rattle.std.proofs.lemmas.Bool.Decides.{Decides-and, Decides-like}
-use Rattle.ix_label.specs.Category.{Categories}
-use Rattle.ix_label.specs.declared.form.Form.{Form}
+use Rattle.std.{proofs.{Common.{◌≡◌, ℕ, true, true≢false, List, refl, sym}, lemmas.Bool.Decides.{Decides-and, Decides-like}}, specs.Bool.Decides}
+use Rattle.ix_label.specs.{Category.Categories, declared.form.Form.Form}
 use Rattle.ix_label.specs.declared.form.Form.TheVariants as form
-use Rattle.ix_model.specs.world.Naming.{same_names}
-use Rattle.ix_model.proofs.tables.Alike.{names_are, names_itself}
+use Rattle.ix_model.{specs.world.Naming.same_names, proofs.tables.Alike.{names_are, names_itself}}
 use Rattle.ix_iso.specs.Configs.{ConfigsOpenAlike}
-use Rattle.ix_script.specs.lines.Before.{form_told, lanes_of}
-use Rattle.ix_script.specs.scripts.Scripts.{config_of}
-use Rattle.ix_script.specs.declared.line.Line.{Line}
-use Rattle.ix_twin.specs.Laws.{BeginningsAreAlike}
-use Rattle.ix_twin.specs.Lines.{BeginAlike, begin_alike, have_same_lanes, same_form}
-use Rattle.ix_twin.proofs.SameConfigs.{configs_decide}
+use Rattle.ix_script.specs.{lines.Before.{form_told, lanes_of}, scripts.Scripts.config_of, declared.line.Line.Line}
+use Rattle.ix_twin.{specs.{Laws.BeginningsAreAlike, Lines.{BeginAlike, begin_alike, have_same_lanes, same_form}}, proofs.SameConfigs.configs_decide}
 
 form_is : (a b : Form) → same_form a b ≡ true → a ≡ b
 form_is form.One form.One h = refl

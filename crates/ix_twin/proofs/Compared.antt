@@ -3,11 +3,8 @@ use Rattle.std.proofs.Common.{◌≡◌, ℕ, Bool, true, false, true≢false, L
 use Rattle.ix_label.specs.Category.{Categories}
 use Rattle.ix_script.specs.declared.line.Line.{Line}
 use Rattle.ix_lanes.specs.histories.Serial.{serial}
-use Rattle.ix_twin.specs.Laws.{TwinsAreCompared}
-use Rattle.ix_twin.specs.Lines.{IsParting, begin_alike, parting_of, shown_of, world_opened}
-use Rattle.ix_twin.specs.Parting.{AreShown, parting, shown_from}
-use Rattle.ix_twin.proofs.Beginnings.{begin_decides}
-use Rattle.ix_twin.proofs.Parted.{runs_are_parted}
+use Rattle.ix_twin.specs.{Laws.TwinsAreCompared, Lines.{IsParting, begin_alike, parting_of, shown_of, world_opened}, Parting.{AreShown, parting, shown_from}}
+use Rattle.ix_twin.proofs.{Beginnings.begin_decides, Parted.runs_are_parted}
 
 module _ (l : Categories) (s t : List Line) where
   abbrev found : Option ℕ

@@ -1,23 +1,16 @@
 -- A comparison of two scripts: its beginning, a turn of it, and its ends.
-use Rattle.std.proofs.Common.{◌≡◌, ◌≤◌, ◌+◌, ℕ, Bool, true, false, List, [], ◌++◌, length, Option, Some, None, if◌then◌else◌, codes, refl, sym, ap, ◌∙◌, arith, append-nil, subst}
+use Rattle.std.proofs.Common.{◌≡◌, ◌≤◌, ◌+◌, ℕ, Bool, true, false, List, [], ◌++◌, length, Option, Some, None, if◌then◌else◌, codes, refl, sym, ap, ◌∙◌, arith}
+use Rattle.std.proofs.Common.{append-nil, subst}
 use Rattle.std.specs.Fmt.{decimal}
 use Rattle.ix_label.specs.Category.{Categories}
 use Rattle.ix_judging.specs.Bytes.{joined}
-use Rattle.ix_model.specs.world.World.{World}
-use Rattle.ix_model.specs.history.History.{History, world_of}
-use Rattle.ix_model.proofs.words.Runs.{world_of-none}
-use Rattle.ix_script.specs.scripts.Scripts.{config_of}
-use Rattle.ix_script.specs.declared.line.Line.{Line}
-use Rattle.ix_lanes.specs.histories.Serial.{first_names, serial, serial_from}
-use Rattle.ix_lanes.specs.running.Serially.{SerialLeft, entries_left}
-use Rattle.ix_serial.proofs.Stepping.{stands_first, stands_last}
-use Rattle.ix_serial.specs.Running.{Stands}
-use Rattle.ix_twin.specs.Lines.{begin_alike, end_line, parting_of, text_of, twin_text, verdict_line}
-use Rattle.ix_twin.specs.Parting.{parting}
+use Rattle.ix_model.{specs.{world.World.World, history.History.{History, world_of}}, proofs.words.Runs.world_of-none}
+use Rattle.ix_script.specs.{scripts.Scripts.config_of, declared.line.Line.Line}
+use Rattle.ix_lanes.specs.{histories.Serial.{first_names, serial, serial_from}, running.Serially.{SerialLeft, entries_left}}
+use Rattle.ix_serial.{proofs.Stepping.{stands_first, stands_last}, specs.Running.Stands}
+use Rattle.ix_twin.specs.{Lines.{begin_alike, end_line, parting_of, text_of, twin_text, verdict_line}, Parting.parting, Tests.none_crosses}
+use Rattle.ix_twin.proofs.{Compared.{parting_alike, parting_other, shown_alike, shown_other}, Shown.{shown_count, shown_text}}
 use Rattle.ix_twin.specs.Running.{all_pairs, AreAside, Aside, Compares, Ends, TurnsOn, first_left, next_place, pairs_from, pairs_left, parting_left}
-use Rattle.ix_twin.specs.Tests.{none_crosses}
-use Rattle.ix_twin.proofs.Compared.{parting_alike, parting_other, shown_alike, shown_other}
-use Rattle.ix_twin.proofs.Shown.{shown_count, shown_text}
 
 -- ---- the beginning
 module _ (l : Categories) (s t : List Line) (f g : SerialLeft) (fs : f.script ≡ s) (gs : g.script ≡ t)

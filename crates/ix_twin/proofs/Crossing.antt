@@ -1,15 +1,9 @@
 -- What crosses a label.
 use Rattle.std.proofs.Common.{◌≡◌, ℕ, zero, suc, true, false, true≢false, not, List, [], ◌∷◌, Option, Some, None, refl, sym, ap, ◌∙◌, ⊎_elim}
-use Rattle.std.specs.Bool.{Decides}
-use Rattle.std.proofs.Math.Bool.{or-true}
-use Rattle.std.proofs.lemmas.Bool.{and_parts, not-true, or_cases}
-use Rattle.std.proofs.lemmas.Bool.Decides.{Decides-and, Decides-not}
+use Rattle.std.{specs.Bool.Decides, proofs.{Math.Bool.or-true, lemmas.Bool.{and_parts, not-true, or_cases, Decides.{Decides-and, Decides-not}}}}
 use Rattle.ix_label.specs.Category.{Categories, leq}
-use Rattle.ix_model.specs.world.World.{Frame, Object, Process, World, at}
-use Rattle.ix_model.specs.history.Events.{Event}
-use Rattle.ix_model.specs.history.Lowering.{Crosses}
+use Rattle.ix_model.specs.{world.World.{Frame, Object, Process, World, at}, history.{Events.Event, Lowering.Crosses, Step.step_of}}
 use Rattle.ix_model.specs.history.Lowering as low
-use Rattle.ix_model.specs.history.Step.{step_of}
 use Rattle.ix_iso.specs.Laws.{NoneCrosses}
 use Rattle.ix_twin.specs.Tests.{crosses, falls_below, none_crosses, some_falls_below}
 

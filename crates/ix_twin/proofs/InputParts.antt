@@ -1,9 +1,8 @@
 -- The parts of an input of two scripts, as its lines are gone through.
-use Rattle.std.proofs.Common.{◌≡◌, ◌≤◌, ◌+◌, ℕ, Bool, true, false, List, [], ◌∷◌, ◌++◌, length, take, drop, refl, sym, ap, ◌∙◌, append_assoc, append-nil, arith, length-append}
-use Rattle.std.proofs.Common.{if◌then◌else◌}
+use Rattle.std.proofs.Common.{◌≡◌, ◌≤◌, ◌+◌, ℕ, Bool, true, false, List, [], ◌∷◌, ◌++◌, length, take, drop, refl, sym, ap, ◌∙◌, append_assoc, append-nil, arith}
+use Rattle.std.proofs.Common.{length-append, if◌then◌else◌}
 use Rattle.ix_judging.specs.Bytes.{is_line, joined, split}
-use Rattle.ix_check.specs.Parts.{lines_in}
-use Rattle.ix_check.proofs.InputParts.{alone, joined_lines, lines-line, lines_alone}
+use Rattle.ix_check.{specs.Parts.lines_in, proofs.InputParts.{alone, joined_lines, lines-line, lines_alone}}
 use Rattle.ix_twin.specs.Parts.{before_divider, behind_line, divides, first_part, from_divider, is_divider, lines_before, second_part, some_line}
 
 -- ---- the dividing line

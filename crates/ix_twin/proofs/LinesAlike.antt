@@ -1,17 +1,8 @@
 -- The lines of low entries are the same in the reports of two runs that agree.
-use Rattle.std.proofs.Common.{◌≡◌, ℕ, zero, suc, ◌+◌, List, [], ◌∷◌, take, Some, ap, ◌∙◌, arith, subst, slice_get}
-use Rattle.std.proofs.Common.{option_map}
-use Rattle.ix_label.specs.declared.form.Form.{Form}
-use Rattle.ix_label.specs.Category.{Categories}
-use Rattle.ix_model.specs.world.World.{World, Process, at}
-use Rattle.ix_model.specs.history.Step.{step_of, run}
-use Rattle.ix_model.specs.history.Events.{Event}
-use Rattle.ix_model.specs.two_runs.TwoRuns.{Alike, Low, Agree}
-use Rattle.ix_iso.specs.Laws.{NoneCrosses}
-use Rattle.ix_iso.proofs.Counts.{shape_frames}
-use Rattle.ix_iso.proofs.Steps.{alike_events}
-use Rattle.ix_iso.proofs.Histories.{shape_events}
-use Rattle.ix_iso.proofs.Lowerings.{low_is_same}
+use Rattle.std.proofs.Common.{◌≡◌, ℕ, zero, suc, ◌+◌, List, [], ◌∷◌, take, Some, ap, ◌∙◌, arith, subst, slice_get, option_map}
+use Rattle.ix_label.specs.{declared.form.Form.Form, Category.Categories}
+use Rattle.ix_model.specs.{world.World.{World, Process, at}, history.{Step.{step_of, run}, Events.Event}, two_runs.TwoRuns.{Alike, Low, Agree}}
+use Rattle.ix_iso.{specs.Laws.NoneCrosses, proofs.{Counts.shape_frames, Steps.alike_events, Histories.shape_events, Lowerings.low_is_same}}
 use Rattle.ix_report.specs.LineText.{entry_line}
 use Rattle.ix_replay.specs.report.Report.{lane_name, entry_text, entry_lines}
 

@@ -2,17 +2,10 @@
 use Rattle.std.proofs.Common.{◌≡◌, ◌+◌, ℕ, Bool, false, ◌&&◌, List, [], ◌∷◌, ◌++◌, length, Option, refl, sym, ap, ◌∙◌, append-nil, slice_get}
 use Rattle.std.specs.Option.{option_map_or}
 use Rattle.ix_label.specs.Category.{Categories}
-use Rattle.ix_model.specs.declared.audit.AuditLine.{AuditLine}
-use Rattle.ix_model.specs.world.World.{World}
-use Rattle.ix_model.specs.history.AuditLog.{lines_added}
-use Rattle.ix_model.specs.history.Events.{Event}
-use Rattle.ix_model.specs.history.History.{History, next, with_entry, world_of}
-use Rattle.ix_model.specs.history.Step.{step_of}
-use Rattle.ix_model.proofs.told.Logs.{logged_run}
-use Rattle.ix_model.proofs.words.Runs.{world_of-push}
-use Rattle.ix_model.specs.history.AuditLog.{audit_log}
-use Rattle.ix_twin.specs.Tests.{crosses, falls_below, lets_down, tells_crossing}
-use Rattle.ix_twin.proofs.Logged.{the_log_tells}
+use Rattle.ix_model.specs.{declared.audit.AuditLine.AuditLine, world.World.World}
+use Rattle.ix_model.specs.history.{AuditLog.{lines_added, audit_log}, Events.Event, History.{History, next, with_entry, world_of}, Step.step_of}
+use Rattle.ix_model.proofs.{told.Logs.logged_run, words.Runs.world_of-push}
+use Rattle.ix_twin.{specs.Tests.{crosses, falls_below, lets_down, tells_crossing}, proofs.Logged.the_log_tells}
 
 -- whether a line tells of something that was let down across a label
 abbrev pub tells : Categories → Option AuditLine → Bool

@@ -1,31 +1,17 @@
 -- The log tells what crosses a label.
 use Rattle.std.proofs.Common.{◌≡◌, ℕ, Bool, true, false, true≢false, not, ◌&&◌, [], ◌∷◌, Option, Some, None, is_some, if◌then◌else◌, refl, sym, ap, ◌∙◌, subst}
-use Rattle.std.specs.Option.{option_map_or}
-use Rattle.std.proofs.lemmas.Bool.{and_parts, not-true, false_from_ne_true}
-use Rattle.std.proofs.lemmas.Bool.Decides.{same_from_decides}
-use Rattle.ix_label.specs.Category.{Categories, bottom, leq}
-use Rattle.ix_label.specs.Lattice.{bottom-leq, leq-trans}
-use Rattle.ix_model.specs.world.Naming.{PathOf}
-use Rattle.ix_model.specs.world.World.{Frame, Object, Process, World, at}
-use Rattle.ix_model.specs.rows.Rows.{change_object, change_process, change_open, put_object, put_open, put_process, add_process}
-use Rattle.ix_model.specs.rows.Auditing.{logged}
-use Rattle.ix_model.specs.rows.OnProcesses.{end_process}
-use Rattle.ix_model.specs.rows.Telling.{told}
-use Rattle.ix_model.specs.history.AuditLog.{label_at, line_of_act, lines_added, object_of_path, of_process}
-use Rattle.ix_model.specs.history.Events.{Op, Event}
+use Rattle.std.{specs.Option.option_map_or, proofs.lemmas.Bool.{and_parts, not-true, false_from_ne_true, Decides.same_from_decides}}
+use Rattle.ix_label.specs.{Category.{Categories, bottom, leq}, Lattice.{bottom-leq, leq-trans}}
+use Rattle.ix_model.specs.{world.{Naming.PathOf, World.{Frame, Object, Process, World, at}}, rows.Auditing.logged, rows.OnProcesses.end_process}
+use Rattle.ix_model.specs.{rows.Rows.{change_object, change_process, change_open, put_object, put_open, put_process, add_process}, rows.Telling.told}
+use Rattle.ix_model.specs.{history.AuditLog.{label_at, line_of_act, lines_added, object_of_path, of_process}, history.Events.{Op, Event}}
+use Rattle.ix_model.specs.{history.Lowering.{Crosses, Lowered}, history.Step.{step, step_of}, declared.audit.AuditLine.AuditLine}
 use Rattle.ix_model.specs.history.Events as op
-use Rattle.ix_model.specs.history.Lowering.{Crosses, Lowered}
 use Rattle.ix_model.specs.history.Lowering as low
-use Rattle.ix_model.specs.history.Step.{step, step_of}
-use Rattle.ix_model.specs.declared.audit.AuditLine.{AuditLine}
-use Rattle.ix_model.proofs.words.Answered.{step_frame}
-use Rattle.ix_model.proofs.words.Keeps.{Holds}
+use Rattle.ix_model.proofs.{words.Answered.step_frame, words.Keeps.Holds, words.Rowwise.{Change, Logging, Lowering, Words, kept_row}}
 use Rattle.ix_model.proofs.words.Lasts.{Lasting, decided, lasting_change, lasting_itself, lasts_decided, lets_nothing_go}
-use Rattle.ix_model.proofs.words.Rowwise.{Change, Logging, Lowering, Words, kept_row}
 use Rattle.ix_iso.proofs.Lowerings.{lowerings_logged}
-use Rattle.ix_twin.specs.Tests.{falls_below, lets_down, tells_crossing}
-use Rattle.ix_twin.specs.TestLaws.{TheLogTellsCrossings}
-use Rattle.ix_twin.proofs.Crossing.{crosses_decides}
+use Rattle.ix_twin.{specs.{Tests.{falls_below, lets_down, tells_crossing}, TestLaws.TheLogTellsCrossings}, proofs.Crossing.crosses_decides}
 
 -- ---- what crosses has its line
 -- a label that isn't at or below L isn't at or below one that is

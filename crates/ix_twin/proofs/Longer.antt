@@ -2,10 +2,7 @@
 use Rattle.std.proofs.Common.{◌≡◌, ◌+◌, ℕ, suc, Bool, true, false, not, ◌&&◌, List, [], ◌∷◌, ◌++◌, length, refl, ap, ◌∙◌, arith, subst}
 use Rattle.std.proofs.Math.Bool.{and-true}
 use Rattle.ix_label.specs.Category.{Categories}
-use Rattle.ix_model.specs.world.World.{World}
-use Rattle.ix_model.specs.history.Events.{Event}
-use Rattle.ix_model.specs.history.Step.{run, step_of}
-use Rattle.ix_model.specs.two_runs.TwoRuns.{Agree, AgreeAt, is_one_kind}
+use Rattle.ix_model.specs.{world.World.World, history.{Events.Event, Step.{run, step_of}}, two_runs.TwoRuns.{Agree, AgreeAt, is_one_kind}}
 use Rattle.ix_twin.specs.Tests.{crosses, none_crosses}
 
 -- what a last entry of each, at a place, is to be, for both to agree

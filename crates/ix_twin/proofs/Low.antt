@@ -1,11 +1,8 @@
 -- Who is low and who is high.
-use Rattle.std.proofs.Common.{◌≡◌, ℕ, true, false, true≢false, not, Option, Some, None, refl, sym, ap, ◌∙◌}
-use Rattle.std.specs.Option.{option_map_or}
-use Rattle.std.specs.Bool.{Decides}
-use Rattle.std.proofs.lemmas.Bool.{not-true}
+use Rattle.std.proofs.{Common.{◌≡◌, ℕ, true, false, true≢false, not, Option, Some, None, refl, sym, ap, ◌∙◌}, lemmas.Bool.not-true}
+use Rattle.std.specs.{Option.option_map_or, Bool.Decides}
 use Rattle.ix_label.specs.Category.{Categories, leq}
-use Rattle.ix_model.specs.world.World.{Frame, Process, at, living}
-use Rattle.ix_model.specs.two_runs.TwoRuns.{IsHigh, IsLow}
+use Rattle.ix_model.specs.{world.World.{Frame, Process, at, living}, two_runs.TwoRuns.{IsHigh, IsLow}}
 use Rattle.ix_twin.specs.Tests.{is_high, is_low}
 
 module _ (l : Categories) (f : Frame) (pid : ℕ) where

@@ -1,22 +1,12 @@
 -- What is found of two runs is where they part, and which places are shown.
-use Rattle.std.proofs.Common.{◌≡◌, ◌⊎◌, ◌≤◌, ◌<◌, ◌+◌, ◌-◌, ℕ, zero, suc, Bool, true, false, true≢false, not, ◌&&◌, List, [], ◌∷◌, length, take}
-use Rattle.std.proofs.Common.{Option, Some, None, IfSome, if◌then◌else◌, refl, sym, ap, ◌∙◌, subst, arith, inl, inr, ⊎_elim, slice_get}
-use Rattle.std.specs.Bool.{Decides}
-use Rattle.std.proofs.lemmas.Bool.{and_from, and_parts, cases_lt}
-use Rattle.std.proofs.lemmas.Option.{slice_get_within}
-use Rattle.std.proofs.lemmas.Bool.Decides.{Decides-and, Decides-not}
+use Rattle.std.proofs.Common.{◌≡◌, ◌⊎◌, ◌≤◌, ◌<◌, ◌+◌, ◌-◌, ℕ, zero, suc, Bool, true, false, true≢false, not, ◌&&◌, List, [], ◌∷◌, length, take, Option, Some}
+use Rattle.std.proofs.Common.{None, IfSome, if◌then◌else◌, refl, sym, ap, ◌∙◌, subst, arith, inl, inr, ⊎_elim, slice_get}
+use Rattle.std.{specs.Bool.Decides, proofs.lemmas.{Bool.{and_from, and_parts, cases_lt, Decides.{Decides-and, Decides-not}}, Option.slice_get_within}}
 use Rattle.ix_label.specs.Category.{Categories}
-use Rattle.ix_model.specs.world.World.{World}
-use Rattle.ix_model.specs.history.Events.{Event}
-use Rattle.ix_model.specs.history.Step.{run, step_of}
-use Rattle.ix_model.specs.two_runs.TwoRuns.{Agree, AgreeAt, IsLow, Low, is_one_kind}
+use Rattle.ix_model.specs.{world.World.World, history.{Events.Event, Step.{run, step_of}}, two_runs.TwoRuns.{Agree, AgreeAt, IsLow, Low, is_one_kind}}
 use Rattle.ix_iso.specs.Laws.{NoneCrosses}
-use Rattle.ix_twin.specs.Parting.{AreShown, IsLeastPart, IsShown, OneHasPlace, PartAt, Rise, parting, shown_from}
-use Rattle.ix_twin.specs.PartingLaws.{RunsAreParted}
-use Rattle.ix_twin.specs.Tests.{agrees, both_agree, crosses, is_low}
-use Rattle.ix_twin.proofs.Crossing.{crosses_decides}
-use Rattle.ix_twin.proofs.Low.{low_decides}
-use Rattle.ix_twin.proofs.SameCalls.{agree_decides}
+use Rattle.ix_twin.{specs.Parting.{AreShown, IsLeastPart, IsShown, OneHasPlace, PartAt, Rise, parting, shown_from}, specs.PartingLaws.RunsAreParted}
+use Rattle.ix_twin.{specs.Tests.{agrees, both_agree, crosses, is_low}, proofs.{Crossing.crosses_decides, Low.low_decides, SameCalls.agree_decides}}
 
 module _ (l : Categories) where
   -- ---- one entry

@@ -1,26 +1,16 @@
 -- Calls that are found to be the same are one, but for what they write and the statuses that they give.
 use Rattle.std.proofs.Common.{◌≡◌, ◌==◌, ℕ, Bool, true, false, true≢false, ◌&&◌, ◌||◌, refl, sym, ap, ◌∙◌, ⊎_elim, subst, rules}
-use Rattle.std.proofs.Math.Bool.{beq}
-use Rattle.std.specs.Bool.{Decides}
-use Rattle.std.proofs.lemmas.Bool.{and_from, and_parts, eqb-true, or_cases}
-use Rattle.std.proofs.Math.Bool.{or-true}
-use Rattle.std.proofs.lemmas.Bool.Decides.{Decides-eqb}
-use Rattle.ix_label.specs.Category.{Categories, same}
-use Rattle.ix_label.specs.Lattice.{same-decides}
-use Rattle.ix_model.specs.world.Naming.{PathOf}
-use Rattle.ix_model.specs.world.World.{Frame}
-use Rattle.ix_model.specs.history.Events.{Op, Event}
+use Rattle.std.{proofs.{Math.Bool.{beq, or-true}, lemmas.Bool.{and_from, and_parts, eqb-true, or_cases, Decides.Decides-eqb}}, specs.Bool.Decides}
+use Rattle.ix_label.specs.{Category.{Categories, same}, Lattice.same-decides}
+use Rattle.ix_model.specs.{world.{Naming.PathOf, World.Frame}, history.Events.{Op, Event}, two_runs.TwoRuns.{AgreeAt, Same, Other, Replaced, Written, Exited}}
+use Rattle.ix_model.specs.declared.{call.{Keep.Keep, Mode.Mode}, privs.PrivSet.PrivSet}
 use Rattle.ix_model.specs.history.Events as op
-use Rattle.ix_model.specs.two_runs.TwoRuns.{AgreeAt, Same, Other, Replaced, Written, Exited}
-use Rattle.ix_model.specs.declared.call.Keep.{Keep}
 use Rattle.ix_model.specs.declared.call.Keep.TheVariants as keep
-use Rattle.ix_model.specs.declared.call.Mode.{Mode}
 use Rattle.ix_model.specs.declared.call.Mode.TheVariants as mode
-use Rattle.ix_model.specs.declared.privs.PrivSet.{PrivSet}
 use Rattle.ix_model.proofs.tables.Alike.{bytes_are, bytes_itself, names_are, names_itself}
-use Rattle.ix_twin.proofs.Low.{high_decides}
-use Rattle.ix_twin.specs.Tests.{agrees, is_high}
-use Rattle.ix_twin.specs.Sameness.{same_but_given, same_entry_but_given, same_given, same_keep, same_mode, same_on_descriptors, same_on_labels, same_on_paths, same_on_processes, same_path, same_privs}
+use Rattle.ix_twin.{proofs.Low.high_decides, specs.Tests.{agrees, is_high}}
+use Rattle.ix_twin.specs.Sameness.{same_but_given, same_entry_but_given, same_given, same_keep, same_mode, same_on_descriptors, same_on_labels, same_on_paths}
+use Rattle.ix_twin.specs.Sameness.{same_on_processes, same_path, same_privs}
 
 -- ---- values
 pub bools_are : (a b : Bool) → beq a b ≡ true → a ≡ b

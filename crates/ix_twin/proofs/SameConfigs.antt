@@ -1,24 +1,13 @@
 -- Configs that are found to differ no further do so.
-use Rattle.std.proofs.Common.{◌≡◌, ℕ, Bool, true, false, true≢false, not, ◌||◌, List, [], ◌∷◌, refl, sym, ap}
-use Rattle.std.specs.Bool.{Decides}
-use Rattle.std.specs.Cmp.Lexicographic.{pointwise}
-use Rattle.std.proofs.Math.Bool.{beq}
-use Rattle.std.proofs.lemmas.Bool.{and_parts}
-use Rattle.std.proofs.lemmas.Bool.Decides.{Decides-and, Decides-eqb, Decides-like}
-use Rattle.std.proofs.lemmas.Slice.Eq.{slice_eq-Decides}
-use Rattle.ix_label.specs.Category.{Categories, leq, same}
-use Rattle.ix_label.specs.Lattice.{same-decides}
+use Rattle.std.proofs.{Common.{◌≡◌, ℕ, Bool, true, false, true≢false, not, ◌||◌, List, [], ◌∷◌, refl, sym, ap}, Math.Bool.beq}
+use Rattle.std.proofs.lemmas.{Bool.{and_parts, Decides.{Decides-and, Decides-eqb, Decides-like}}, Slice.Eq.slice_eq-Decides}
+use Rattle.std.specs.{Bool.Decides, Cmp.Lexicographic.pointwise}
+use Rattle.ix_label.specs.{Category.{Categories, leq, same}, Lattice.same-decides}
 use Rattle.ix_model.specs.world.Naming.{PathOf, same_bytes}
-use Rattle.ix_model.specs.declared.config.Config.{Config}
-use Rattle.ix_model.specs.declared.config.FsSpec.{FsSpec}
-use Rattle.ix_model.specs.declared.config.Limits.{Limits}
-use Rattle.ix_model.specs.declared.config.ObjSpec.{ObjSpec}
-use Rattle.ix_model.specs.declared.config.ProcSpec.{ProcSpec}
-use Rattle.ix_model.specs.declared.privs.PrivSet.{PrivSet}
+use Rattle.ix_model.specs.declared.{config.{Config.Config, FsSpec.FsSpec, Limits.Limits, ObjSpec.ObjSpec, ProcSpec.ProcSpec}, privs.PrivSet.PrivSet}
 use Rattle.ix_model.proofs.tables.Alike.{bytes_are, bytes_itself}
 use Rattle.ix_iso.specs.Configs.{DifferAbove, SameLine, SameLines}
-use Rattle.ix_twin.specs.Configs.{differ_above, same_fs, same_limits, same_object, same_proc}
-use Rattle.ix_twin.specs.Sameness.{same_path, same_privs}
+use Rattle.ix_twin.specs.{Configs.{differ_above, same_fs, same_limits, same_object, same_proc}, Sameness.{same_path, same_privs}}
 use Rattle.ix_twin.proofs.SameCalls.{bools_are, bool_itself, number_itself, path_itself, paths_are, privs_are}
 
 bytes_decides : (a b : List ℕ) → Decides (same_bytes a b) (a ≡ b)

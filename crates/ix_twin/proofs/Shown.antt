@@ -1,19 +1,14 @@
 -- The lines that are shown are those of the places that are found.
-use Rattle.std.proofs.Common.{◌≡◌, ◌+◌, ◌-◌, ℕ, suc, Bool, true, false, not, ◌&&◌, List, [], ◌∷◌, ◌++◌, map, length, slice_index_or, if◌then◌else◌, refl, ap, ap₂, ◌∙◌, arith}
+use Rattle.std.proofs.Common.{◌≡◌, ◌+◌, ◌-◌, ℕ, suc, Bool, true, false, not, ◌&&◌, List, [], ◌∷◌, ◌++◌, map, length, slice_index_or, if◌then◌else◌, refl, ap}
+use Rattle.std.proofs.Common.{ap₂, ◌∙◌, arith}
 use Rattle.std.specs.List.{flat_map}
 use Rattle.ix_label.specs.Category.{Categories}
-use Rattle.ix_model.specs.world.World.{World}
-use Rattle.ix_model.specs.history.Events.{Event}
-use Rattle.ix_model.specs.history.Step.{step_of}
-use Rattle.ix_script.specs.lines.Before.{form_told, lanes_of}
-use Rattle.ix_script.specs.declared.line.Line.{Line}
+use Rattle.ix_model.specs.{world.World.World, history.{Events.Event, Step.step_of}}
+use Rattle.ix_script.specs.{lines.Before.{form_told, lanes_of}, declared.line.Line.Line}
 use Rattle.ix_lanes.specs.histories.Serial.{serial}
 use Rattle.ix_replay.specs.report.Report.{entry_lines, entry_text}
-use Rattle.ix_twin.specs.Lines.{line_at, pair_of, world_opened}
-use Rattle.ix_twin.specs.Parting.{shown_from}
+use Rattle.ix_twin.specs.{Lines.{line_at, pair_of, world_opened}, Parting.shown_from, Running.{all_pairs, pairs_from}, Tests.{both_agree, crosses, is_low}}
 use Rattle.ix_judging.specs.Bytes.{joined}
-use Rattle.ix_twin.specs.Running.{all_pairs, pairs_from}
-use Rattle.ix_twin.specs.Tests.{both_agree, crosses, is_low}
 
 -- a text for each place
 abbrev Texts : Type 0

@@ -1,27 +1,18 @@
 -- What a step of two runs tells of both.
-use Rattle.std.proofs.Common.{◌≡◌, ◌≤◌, ◌+◌, ℕ, codes, append_assoc, Bool, true, false, true≢false, not, ◌&&◌, List, [], ◌∷◌, ◌++◌, length, suc, Result, Ok, Err, refl, sym, ap, ◌∙◌, arith, subst}
+use Rattle.std.proofs.Common.{◌≡◌, ◌≤◌, ◌+◌, ℕ, codes, append_assoc, Bool, true, false, true≢false, not, ◌&&◌, List, [], ◌∷◌, ◌++◌, length, suc, Result, Ok, ap}
+use Rattle.std.proofs.Common.{Err, refl, sym, ◌∙◌, arith, subst}
 use Rattle.std.specs.Prelude.{IfOk, OnOk}
 use Rattle.ix_label.specs.Category.{Categories}
 use Rattle.ix_asking.specs.Asking.{Answered}
 use Rattle.ix_lanes.specs.histories.Serial.{answered}
-use Rattle.ix_model.specs.declared.reply.Reply.{Reply}
-use Rattle.ix_model.specs.world.World.{World}
-use Rattle.ix_model.specs.history.Events.{Event}
-use Rattle.ix_model.specs.history.History.{History, next, with_entry, world_of}
-use Rattle.ix_model.specs.history.Shown.{AreShown}
-use Rattle.ix_model.specs.history.Step.{step_of}
-use Rattle.ix_model.specs.history.Systems.{bytes_in}
-use Rattle.ix_model.specs.opening.Opening.{opening_world}
-use Rattle.ix_model.specs.two_runs.TwoRuns.{Agree, is_one_kind}
+use Rattle.ix_model.specs.{declared.reply.Reply.Reply, world.World.World, opening.Opening.opening_world, two_runs.TwoRuns.{Agree, is_one_kind}}
+use Rattle.ix_model.specs.history.{Events.Event, History.{History, next, with_entry, world_of}, Shown.AreShown, Step.step_of, Systems.bytes_in}
 use Rattle.ix_model.proofs.clean.Showing.{shown_step}
 use Rattle.ix_core.proofs.Seated.{gives_bytes}
 use Rattle.ix_model.specs.declared.reply.Reply.TheVariants as reply
-use Rattle.ix_twin.specs.Lines.{pair_of}
-use Rattle.ix_twin.specs.Running.{heard_as, is_shown}
-use Rattle.ix_twin.specs.Tests.{agrees, crosses, is_low, none_crosses}
+use Rattle.ix_twin.specs.{Lines.pair_of, Running.{heard_as, is_shown}, Tests.{agrees, crosses, is_low, none_crosses}}
 use Rattle.ix_twin.specs.Twins.{HaveAgreed, IsGiven, Twins, with_entries}
-use Rattle.ix_twin.proofs.Longer.{LastAgree, agree_last, agree_more, clear_more}
-use Rattle.ix_twin.proofs.SameCalls.{agree_decides}
+use Rattle.ix_twin.proofs.{Longer.{LastAgree, agree_last, agree_more, clear_more}, SameCalls.agree_decides}
 
 -- runs that agree are of one length
 pub agree_lengths : (l : Categories) (v w : World) (place : ℕ) (es ds : List Event) → Agree l v w place es ds → length ds ≡ length es

@@ -1,15 +1,12 @@
 -- A turn of two runs: an end, or an entry more of each.
 use Rattle.std.proofs.Common.{◌≡◌, ◌<◌, ◌+◌, ℕ, Bool, List, ◌∷◌, length, refl, sym, subst}
 use Rattle.ix_label.specs.Category.{Categories}
-use Rattle.ix_model.specs.declared.reply.Reply.{Reply}
-use Rattle.ix_model.specs.history.History.{next}
+use Rattle.ix_model.specs.{declared.reply.Reply.Reply, history.History.next}
 use Rattle.ix_script.specs.declared.line.Line.{Line}
 use Rattle.ix_lanes.specs.running.Serially.{SerialLeft, entries_left, most_entries}
-use Rattle.ix_twin.specs.Running.{AreAside, Aside, MadeBoth, Makes, Turns, TurnsOn, first_left, second_left}
-use Rattle.ix_twin.specs.Twins.{HaveAgreed, Twins}
-use Rattle.ix_twin.specs.declared.turn.Turn.{Turn}
+use Rattle.ix_twin.{specs.Running.{AreAside, Aside, MadeBoth, Makes, Turns, TurnsOn, first_left, second_left}, specs.Twins.{HaveAgreed, Twins}}
+use Rattle.ix_twin.{specs.declared.turn.Turn.Turn, proofs.Alongside.turns_on}
 use Rattle.ix_twin.specs.declared.turn.Turn.TheVariants as turn
-use Rattle.ix_twin.proofs.Alongside.{turns_on}
 
 -- where no entries were made, the runs end
 pub turns_end : (l : Categories) (s t : List Line) (a b : Aside) (x : Turn) (new : Twins) (first second before after : List ℕ)

@@ -1,25 +1,15 @@
 -- At each place that is shown the lines of both reports are equal.
-use Rattle.std.proofs.Common.{◌≡◌, ◌≤◌, ◌<◌, ◌+◌, ◌-◌, ℕ, zero, suc, List, [], ◌∷◌, length, take, Option, Some, None, IfSome, slice_get}
-use Rattle.std.proofs.Common.{slice_index_or, unwrap_or, refl, sym, ap, ◌∙◌, arith, inl, inr, ⊎_elim, subst}
+use Rattle.std.proofs.Common.{◌≡◌, ◌≤◌, ◌<◌, ◌+◌, ◌-◌, ℕ, zero, suc, List, [], ◌∷◌, length, take, Option, Some, None, IfSome, slice_get, slice_index_or, refl}
+use Rattle.std.proofs.Common.{unwrap_or, sym, ap, ◌∙◌, arith, inl, inr, ⊎_elim, subst}
 use Rattle.std.proofs.lemmas.Option.{slice_get_within}
-use Rattle.ix_label.specs.Category.{Categories}
-use Rattle.ix_label.specs.declared.form.Form.{Form}
-use Rattle.ix_model.specs.world.World.{World}
-use Rattle.ix_model.specs.history.Events.{Event}
-use Rattle.ix_model.specs.history.Step.{run}
-use Rattle.ix_model.specs.two_runs.TwoRuns.{Agree, Low}
-use Rattle.ix_iso.specs.Configs.{ConfigsOpenAlike}
-use Rattle.ix_iso.specs.Laws.{NoneCrosses}
-use Rattle.ix_script.specs.lines.Before.{form_told, lanes_of}
-use Rattle.ix_script.specs.declared.line.Line.{Line}
+use Rattle.ix_label.specs.{Category.Categories, declared.form.Form.Form}
+use Rattle.ix_model.specs.{world.World.World, history.{Events.Event, Step.run}, two_runs.TwoRuns.{Agree, Low}}
+use Rattle.ix_iso.specs.{Configs.ConfigsOpenAlike, Laws.NoneCrosses}
+use Rattle.ix_script.specs.{lines.Before.{form_told, lanes_of}, declared.line.Line.Line}
 use Rattle.ix_lanes.specs.histories.Serial.{serial}
 use Rattle.ix_replay.specs.report.Report.{entry_lines}
-use Rattle.ix_twin.specs.Laws.{TwinLines}
-use Rattle.ix_twin.specs.Lines.{BeginAlike, IsParting, line_at, world_opened}
-use Rattle.ix_twin.specs.Parting.{IsLeastPart, IsShown, PartAt, parting}
-use Rattle.ix_twin.proofs.Beginnings.{beginnings_are_alike}
-use Rattle.ix_twin.proofs.LinesAlike.{lines_along}
-use Rattle.ix_twin.proofs.Parted.{agree_before, least}
+use Rattle.ix_twin.specs.{Laws.TwinLines, Lines.{BeginAlike, IsParting, line_at, world_opened}, Parting.{IsLeastPart, IsShown, PartAt, parting}}
+use Rattle.ix_twin.proofs.{Beginnings.beginnings_are_alike, LinesAlike.lines_along, Parted.{agree_before, least}}
 
 -- what comes before the least place at which two part comes before the place that is found
 before_found : (l : Categories) (v w : World) (events others : List Event) (n : Option ℕ) (place : ℕ) → IsLeastPart l v w events others n → IfSome n (λ k. place < k)

@@ -1,9 +1,6 @@
-use Rattle.std.proofs.Common.{◌≡◌, ◌&&◌, true, sym, ap, ◌∙◌}
-use Rattle.std.proofs.lemmas.Bool.Decides.{same_from_decides}
+use Rattle.std.proofs.{Common.{◌≡◌, ◌&&◌, true, sym, ap, ◌∙◌}, lemmas.Bool.Decides.same_from_decides}
 use Rattle.ix_script.specs.scripts.Scripts.{config_of}
-use Rattle.ix_twin.specs.Configs.{differ_above}
-use Rattle.ix_twin.specs.Lines.{begin_alike, have_same_lanes}
-use Rattle.ix_twin.proofs.SameConfigs.{configs_decide}
+use Rattle.ix_twin.{specs.{Configs.differ_above, Lines.{begin_alike, have_same_lanes}}, proofs.SameConfigs.configs_decide}
 use Rattle.ix_twin.proofs.comparison.begin_alike.Goals as goal
 
 pub returns-then-have_same_lanes : goal.returns-then-have_same_lanes

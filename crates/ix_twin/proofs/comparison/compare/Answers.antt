@@ -1,8 +1,6 @@
-use Rattle.std.proofs.Common.{◌≡◌, ap, subst}
-use Rattle.std.specs.Prelude.{IfOk}
+use Rattle.std.{proofs.Common.{◌≡◌, ap, subst}, specs.Prelude.IfOk}
 use Rattle.ix_label.specs.Category.{Categories}
-use Rattle.ix_twin.specs.Lines.{twin_text}
-use Rattle.ix_twin.specs.Twins.{Twins}
+use Rattle.ix_twin.specs.{Lines.twin_text, Twins.Twins}
 use Rattle.ix_twin.proofs.comparison.compare.Goals as goal
 
 pub returns : goal.returns

@@ -1,7 +1,5 @@
-use Rattle.std.proofs.Common.{◌≡◌, ℕ, List, false, sym, ◌∙◌, subst}
-use Rattle.std.specs.Prelude.{IfOk}
-use Rattle.ix_twin.specs.Lines.{begin_alike}
-use Rattle.ix_twin.proofs.Comparing.{text_unlike}
+use Rattle.std.{proofs.Common.{◌≡◌, ℕ, List, false, sym, ◌∙◌, subst}, specs.Prelude.IfOk}
+use Rattle.ix_twin.{specs.Lines.begin_alike, proofs.Comparing.text_unlike}
 use Rattle.ix_twin.proofs.comparison.compare_runs.Goals as goal
 
 pub returns-then-not-begin_alike : goal.returns-then-not-begin_alike

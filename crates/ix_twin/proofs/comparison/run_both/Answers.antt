@@ -1,9 +1,5 @@
-use Rattle.std.proofs.Common.{◌+◌, ◌++◌, codes, refl, ◌∙◌}
-use Rattle.std.specs.Fmt.{decimal}
-use Rattle.ix_twin.specs.Lines.{end_line}
-use Rattle.ix_twin.proofs.Stepped.{if_ok}
-use Rattle.ix_twin.specs.Running.{Aside}
-use Rattle.ix_twin.proofs.Comparing.{text_apart, text_over}
+use Rattle.std.{proofs.Common.{◌+◌, ◌++◌, codes, refl, ◌∙◌}, specs.Fmt.decimal}
+use Rattle.ix_twin.{specs.{Lines.end_line, Running.Aside}, proofs.{Stepped.if_ok, Comparing.{text_apart, text_over}}}
 use Rattle.ix_twin.proofs.comparison.run_both.Goals as goal
 
 pub turns-init : goal.turns-init

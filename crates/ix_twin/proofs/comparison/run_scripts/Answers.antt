@@ -1,7 +1,5 @@
 use Rattle.std.proofs.Common.{[], sym, subst}
-use Rattle.ix_twin.specs.Running.{Compares}
-use Rattle.ix_twin.specs.Twins.{Twins}
-use Rattle.ix_twin.proofs.Comparing.{compares_first}
+use Rattle.ix_twin.{specs.{Running.Compares, Twins.Twins}, proofs.Comparing.compares_first}
 use Rattle.ix_twin.proofs.comparison.run_scripts.Goals as goal
 
 pub run_both-requires-clause-begun : goal.run_both-requires-clause-begun

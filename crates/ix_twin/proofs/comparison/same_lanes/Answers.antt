@@ -1,5 +1,4 @@
-use Rattle.std.proofs.Common.{◌&&◌, ◌+◌, drop, sym, ap, ◌∙◌}
-use Rattle.std.specs.Cmp.Lexicographic.{pointwise}
+use Rattle.std.{proofs.Common.{◌&&◌, ◌+◌, drop, sym, ap, ◌∙◌}, specs.Cmp.Lexicographic.pointwise}
 use Rattle.ix_model.specs.world.Naming.{same_bytes}
 use Rattle.ix_script.specs.lines.Before.{lanes_of}
 use Rattle.ix_lanes.proofs.found.Indexed.{rest_is}

@@ -1,5 +1,4 @@
-use Rattle.std.proofs.Common.{◌≡◌, drop, length}
-use Rattle.std.specs.Cmp.Lexicographic.{pointwise}
+use Rattle.std.{proofs.Common.{◌≡◌, drop, length}, specs.Cmp.Lexicographic.pointwise}
 use Rattle.ix_twin.specs.Configs.{same_object}
 use Rattle.ix_twin.proofs.configs.same_objects.Given as goal
 

@@ -1,20 +1,11 @@
 use Rattle.std.proofs.Common.{◌≡◌, ◌+◌, ◌++◌, ◌&&◌, [], length, refl, sym, ap, ◌∙◌, append-nil, if◌then◌else◌}
-use Rattle.ix_model.specs.history.Calls.{event_of}
-use Rattle.ix_model.specs.history.History.{next, world_of}
+use Rattle.ix_model.specs.{history.{Calls.event_of, History.{next, world_of}, Events.Event}, opening.Opening.opening_world, two_runs.TwoRuns.IsLow}
 use Rattle.ix_lanes.proofs.phased.InOrder.{entries_next}
 use Rattle.ix_serial.proofs.Stepping.{has_room}
-use Rattle.ix_model.specs.history.Events.{Event}
-use Rattle.ix_model.specs.opening.Opening.{opening_world}
-use Rattle.ix_model.specs.two_runs.TwoRuns.{IsLow}
 use Rattle.ix_iso.specs.Laws.{NoneCrosses}
-use Rattle.ix_twin.specs.Running.{Aside, WereMade, pair_next}
-use Rattle.ix_twin.specs.Tests.{is_low, none_crosses}
-use Rattle.ix_twin.specs.Twins.{Twins}
+use Rattle.ix_twin.specs.{Running.{Aside, WereMade, pair_next}, Tests.{is_low, none_crosses}, Twins.Twins}
 use Rattle.std.proofs.lemmas.Bool.Decides.{same_from_decides}
-use Rattle.ix_twin.proofs.Crossing.{clear_decides}
-use Rattle.ix_twin.proofs.Low.{low_decides}
-use Rattle.ix_twin.proofs.Alongside.{ends_apart, ends_first, ends_over, ends_second}
-use Rattle.ix_twin.proofs.Stepped.{given_as, shown_as}
+use Rattle.ix_twin.proofs.{Crossing.clear_decides, Low.low_decides, Alongside.{ends_apart, ends_first, ends_over, ends_second}, Stepped.{given_as, shown_as}}
 use Rattle.ix_twin.proofs.turn.make_both.Goals.{else-low, else-shown, then-low, then-shown+in_ok-push_pair-in-Same}
 use Rattle.ix_twin.proofs.turn.make_both.Goals as goal
 

@@ -1,14 +1,9 @@
 use Rattle.std.proofs.Common.{◌+◌, ◌++◌, List, length, sym, ap, ◌∙◌}
 use Rattle.ix_asking.specs.Asking.{Answered}
-use Rattle.ix_model.specs.history.Calls.{event_of}
-use Rattle.ix_model.specs.history.Events.{Event}
-use Rattle.ix_model.specs.history.History.{History, world_of}
-use Rattle.ix_script.specs.lines.Before.{form_told, lanes_of}
-use Rattle.ix_script.specs.declared.line.Line.{Line}
+use Rattle.ix_model.specs.history.{Calls.event_of, Events.Event, History.{History, world_of}}
+use Rattle.ix_script.specs.{lines.Before.{form_told, lanes_of}, declared.line.Line.Line}
 use Rattle.ix_replay.specs.report.Report.{entry_text}
-use Rattle.ix_twin.specs.Lines.{pair_of}
-use Rattle.ix_twin.specs.Twins.{Twins}
-use Rattle.ix_twin.proofs.Stepped.{heard_shown, on_ok, pair_pushed}
+use Rattle.ix_twin.{specs.{Lines.pair_of, Twins.Twins}, proofs.Stepped.{heard_shown, on_ok, pair_pushed}}
 use Rattle.ix_twin.proofs.turn.push_pair.Goals as goal
 
 pub push_line-requires : goal.push_line-requires

@@ -1,10 +1,6 @@
 use Rattle.std.proofs.Common.{◌+◌, length, sym, ◌∙◌}
-use Rattle.ix_model.specs.history.History.{world_of}
-use Rattle.ix_model.specs.history.Systems.{bytes_in}
-use Rattle.ix_twin.specs.Running.{Aside}
-use Rattle.ix_twin.proofs.Stepped.{few_shown, heard_shown}
-use Rattle.ix_twin.proofs.Turning.{goes_on, turns_end}
-use Rattle.ix_twin.proofs.turn.take_turn.Goals.{in-Agree, in_default}
+use Rattle.ix_model.specs.history.{History.world_of, Systems.bytes_in}
+use Rattle.ix_twin.{specs.Running.Aside, proofs.{Stepped.{few_shown, heard_shown}, Turning.{goes_on, turns_end}, turn.take_turn.Goals.{in-Agree, in_default}}}
 use Rattle.ix_twin.proofs.turn.take_turn.Goals as goal
 
 pub read_by-requires : goal.read_by-requires

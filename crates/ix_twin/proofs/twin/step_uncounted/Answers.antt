@@ -1,16 +1,9 @@
 use Rattle.std.proofs.Common.{◌≡◌, true, false, not, sym, ap, ◌∙◌, subst}
-use Rattle.ix_model.specs.history.Calls.{event_of}
-use Rattle.ix_model.specs.history.Events.{Event}
-use Rattle.ix_model.specs.history.History.{History, next, world_of}
-use Rattle.ix_model.specs.opening.Opening.{opening_world}
+use Rattle.ix_model.specs.{history.{Calls.event_of, Events.Event, History.{History, next, world_of}}, opening.Opening.opening_world}
 use Rattle.ix_model.specs.two_runs.TwoRuns.{is_one_kind}
 use Rattle.ix_model.proofs.words.Runs.{world_of-push}
-use Rattle.ix_twin.specs.Configs.{differ_above}
-use Rattle.ix_twin.specs.Tests.{agrees, is_low}
-use Rattle.ix_twin.specs.Twins.{HaveAgreed, IsGiven, Twins, with_entries}
-use Rattle.ix_twin.proofs.Crossing.{clear_decides}
-use Rattle.ix_twin.proofs.Low.{low_decides}
-use Rattle.ix_twin.proofs.Stepped.{apart_calls, apart_kinds, both_agreed, clear_with}
+use Rattle.ix_twin.specs.{Configs.differ_above, Tests.{agrees, is_low}, Twins.{HaveAgreed, IsGiven, Twins, with_entries}}
+use Rattle.ix_twin.proofs.{Crossing.clear_decides, Low.low_decides, Stepped.{apart_calls, apart_kinds, both_agreed, clear_with}}
 use Rattle.ix_twin.proofs.twin.step_uncounted.Goals.{else-clear, then-clear}
 use Rattle.ix_twin.proofs.twin.step_uncounted.Goals as goal
 

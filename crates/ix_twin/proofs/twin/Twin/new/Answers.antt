@@ -1,7 +1,6 @@
 use Rattle.std.proofs.Common.{sym, ◌∙◌}
 use Rattle.ix_model.specs.opening.Opening.{opening_world}
-use Rattle.ix_twin.specs.Configs.{differ_above}
-use Rattle.ix_twin.specs.Tests.{none_crosses}
+use Rattle.ix_twin.specs.{Configs.differ_above, Tests.none_crosses}
 use Rattle.ix_twin.proofs.twin.Twin.new.Goals as goal
 
 pub invariant_of-result : goal.invariant_of-result
