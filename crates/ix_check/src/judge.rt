@@ -1,20 +1,13 @@
-ghost use Rattle.std.specs.Prelude.{◌≡◌, ◌≢◌, ℕ, List, [], IfOk, OnOk, length, true, false, ◌⊎◌};
-ghost use Rattle.std.proofs.Common.{option_map};
-ghost use Rattle.ix_model.specs.world.Naming.{same_bytes};
-ghost use Rattle.ix_model.specs.world.World.{World};
-ghost use Rattle.ix_model.specs.history.History.{world_of};
+ghost use Rattle.std.{specs.Prelude.{◌≡◌, ◌≢◌, ℕ, List, [], IfOk, OnOk, length, true, false, ◌⊎◌}, proofs.Common.{option_map}};
+ghost use Rattle.ix_model.specs.{world.{Naming.{same_bytes}, World.{World}}, history.History.{world_of}};
 ghost use Rattle.ix_script.specs.scripts.Scripts.{config_of};
 ghost use Rattle.ix_replay.specs.report.Fixed.{LanesNamed};
 ghost use Rattle.ix_asking.specs.Asking.{Answered};
-ghost use Rattle.ix_judging.specs.Lanes.{State};
-ghost use Rattle.ix_judging.specs.Walk.{closed, closes, ended, makes, told_call, walked};
+ghost use Rattle.ix_judging.specs.{Lanes.{State}, Walk.{closed, closes, ended, makes, told_call, walked}};
 ghost use Rattle.ix_judging.specs.Walk as walk;
-ghost use Rattle.ix_check.specs.Plans.{begun, judged_plan};
-ghost use Rattle.ix_lanes.specs.asking.Ruled.{rules_told};
-ghost use Rattle.ix_lanes.specs.histories.Serial.{header_of};
-ghost use Rattle.ix_check.specs.Stepping.{lane_now};
-ghost use Rattle.ix_check.specs.Judging.{AreLeft, CameTo, IsAmong, IsAt, IsCalled, Walked, verdict_of};
+ghost use Rattle.ix_check.specs.{Plans.{begun, judged_plan}, Stepping.{lane_now}, Judging.{AreLeft, CameTo, IsAmong, IsAt, IsCalled, Walked, verdict_of}};
 ghost use Rattle.ix_check.specs.Verdicts.{IsVerdict};
+ghost use Rattle.ix_lanes.specs.{asking.Ruled.{rules_told}, histories.Serial.{header_of}};
 ghost use Rattle.ix_check.specs.declared.stage.Stage.TheVariants as stage;
 
 use crate::lane::{LaneSteps, all_from, all_over, first_lanes, print_call};

@@ -1,12 +1,8 @@
-ghost use Rattle.std.specs.Prelude.{◌≡◌, true, is_none, is_some, IfOk, OnOk};
-ghost use Rattle.std.proofs.Common.{option_map};
-ghost use Rattle.std.specs.List.{list_all};
+ghost use Rattle.std.{specs.{Prelude.{◌≡◌, true, is_none, is_some, IfOk, OnOk}, List.{list_all}}, proofs.Common.{option_map}};
 ghost use Rattle.ix_model.specs.history.Seats.{made_by};
 ghost use Rattle.ix_core.specs.Seen.{GoesSeen};
-ghost use Rattle.ix_lanes.specs.asking.Ruled.{rules_told};
-ghost use Rattle.ix_lanes.specs.histories.Serial.{header_of};
-ghost use Rattle.ix_check.specs.Judging.{AreFirst};
-ghost use Rattle.ix_check.specs.Stepping.{lane_now, HasRoom, MakesCall, PrintsCall, is_from, next_call, next_phase};
+ghost use Rattle.ix_lanes.specs.{asking.Ruled.{rules_told}, histories.Serial.{header_of}};
+ghost use Rattle.ix_check.specs.{Judging.{AreFirst}, Stepping.{lane_now, HasRoom, MakesCall, PrintsCall, is_from, next_call, next_phase}};
 
 use crate::printer::Printer;
 use ix_asking::make_next;

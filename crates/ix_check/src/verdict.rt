@@ -1,7 +1,5 @@
-ghost use Rattle.std.specs.Prelude.{◌≡◌, ◌++◌, OnOk, codes};
-ghost use Rattle.std.specs.Fmt.{decimal};
-ghost use Rattle.ix_check.specs.Verdicts.{verdict_line};
-ghost use Rattle.ix_check.specs.Judging.{verdict_of};
+ghost use Rattle.std.specs.{Prelude.{◌≡◌, ◌++◌, OnOk, codes}, Fmt.{decimal}};
+ghost use Rattle.ix_check.specs.{Verdicts.{verdict_line}, Judging.{verdict_of}};
 
 use itoa::Buffer;
 use ix_model::NoMemory;

@@ -1,11 +1,8 @@
 //! What is answered of a text that claims to be the report of a script.
-ghost use Rattle.std.specs.Prelude.{◌≡◌, IfOk};
-ghost use Rattle.std.proofs.Common.{option_map};
+ghost use Rattle.std.{specs.Prelude.{◌≡◌, IfOk}, proofs.Common.{option_map}};
 ghost use Rattle.ix_lanes.specs.asking.Ruled.{rules_told};
 ghost use Rattle.ix_replay.specs.report.Fixed.{LanesNamed};
-ghost use Rattle.ix_check.specs.Judging.{verdict_of};
-ghost use Rattle.ix_check.specs.Plans.{found_in};
-ghost use Rattle.ix_check.specs.Verdicts.{verdict_line};
+ghost use Rattle.ix_check.specs.{Judging.{verdict_of}, Plans.{found_in}, Verdicts.{verdict_line}};
 ghost use Rattle.ix_host.specs.run.Outcome as outcome;
 ghost use Rattle.ix_host.specs.run.Run.{Ends};
 

@@ -1,16 +1,11 @@
 //! Two scripts, compared at a label.
-ghost use Rattle.std.specs.Prelude.{◌≡◌, ◌≤◌, length, Some};
-ghost use Rattle.std.proofs.Common.{option_map};
+ghost use Rattle.std.{specs.Prelude.{◌≡◌, ◌≤◌, length, Some}, proofs.Common.{option_map}};
 ghost use Rattle.ix_script.specs.scripts.Scripts.{script_of};
 ghost use Rattle.ix_lanes.specs.asking.Ruled.{rules_told};
-ghost use Rattle.ix_twin.specs.Lines.{twin_text};
-ghost use Rattle.ix_twin.specs.Parts.{lines_before, second_part};
-ghost use Rattle.ix_host.specs.Policies.{policy_refusal};
-ghost use Rattle.ix_host.specs.Seconds.{further_down, second_in, second_refusal};
-ghost use Rattle.ix_host.specs.run.Inputs.{twin_max};
-ghost use Rattle.ix_host.specs.run.Outcome.{unless_refused};
+ghost use Rattle.ix_twin.specs.{Lines.{twin_text}, Parts.{lines_before, second_part}};
+ghost use Rattle.ix_host.specs.{Policies.{policy_refusal}, Seconds.{further_down, second_in, second_refusal}};
+ghost use Rattle.ix_host.specs.run.{Inputs.{twin_max}, Outcome.{unless_refused}, Run.{Ends}};
 ghost use Rattle.ix_host.specs.run.Outcome as outcome;
-ghost use Rattle.ix_host.specs.run.Run.{Ends};
 
 use crate::policies::{ScriptPolicy, policy_of};
 use crate::refusing::refuse;

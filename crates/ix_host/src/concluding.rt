@@ -1,17 +1,11 @@
 //! What is told of the history to which the lanes of a script came.
-ghost use Rattle.std.specs.Prelude.{◌≡◌, ◌≤◌, List};
+ghost use Rattle.std.{specs.Prelude.{◌≡◌, ◌≤◌, List}, proofs.Common.{option_map}};
 ghost use Rattle.ix_model.specs.history.Cost.{cost_of_history};
-ghost use Rattle.std.proofs.Common.{option_map};
-ghost use Rattle.ix_lanes.specs.asking.Ruled.{rules_told};
-ghost use Rattle.ix_lanes.specs.histories.Serial.{serial};
-ghost use Rattle.ix_script.specs.scripts.Need.{need};
-ghost use Rattle.ix_script.specs.scripts.Scripts.{config_of};
-ghost use Rattle.ix_replay.specs.Summary.{summary_line};
-ghost use Rattle.ix_replay.specs.Tallying.{HasSeen};
-ghost use Rattle.ix_script.specs.declared.line.Line.{Line};
+ghost use Rattle.ix_lanes.specs.{asking.Ruled.{rules_told}, histories.Serial.{serial}};
+ghost use Rattle.ix_script.specs.{scripts.{Need.{need}, Scripts.{config_of}}, declared.line.Line.{Line}};
+ghost use Rattle.ix_replay.specs.{Summary.{summary_line}, Tallying.{HasSeen}};
 ghost use Rattle.ix_host.specs.run.Outcome as outcome;
-ghost use Rattle.ix_host.specs.run.Run.{Ends};
-ghost use Rattle.ix_host.specs.run.Tasks.{text_told};
+ghost use Rattle.ix_host.specs.run.{Run.{Ends}, Tasks.{text_told}};
 
 use crate::status::Status;
 use crate::streams::sending::tell;

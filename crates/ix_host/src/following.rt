@@ -1,11 +1,9 @@
 //! Where the bytes came from that the processes of a script read.
-ghost use Rattle.std.specs.Prelude.{◌≡◌, [], IfOk};
-ghost use Rattle.std.proofs.Common.{option_map};
+ghost use Rattle.std.{specs.Prelude.{◌≡◌, [], IfOk}, proofs.Common.{option_map}};
 ghost use Rattle.ix_lanes.specs.asking.Ruled.{rules_told};
 ghost use Rattle.ix_script.specs.scripts.Scripts.{config_of};
-ghost use Rattle.ix_host.specs.Traces.{traces};
+ghost use Rattle.ix_host.specs.{Traces.{traces}, run.Run.{Ends}};
 ghost use Rattle.ix_host.specs.run.Outcome as outcome;
-ghost use Rattle.ix_host.specs.run.Run.{Ends};
 
 use crate::status::Status;
 use crate::streams::outlet::room;

@@ -2,10 +2,8 @@
 ghost use Rattle.std.specs.Prelude.{◌≡◌, ◌<◌, ◌⊎◌, true, is_none, length, IfOk, IfSome};
 ghost use Rattle.ix_io.specs.Streams.{Rose};
 ghost use Rattle.ix_lanes.specs.histories.History.{IsHistory};
-ghost use Rattle.ix_host.specs.Noninterference.{TakesNoninterferentReport};
-ghost use Rattle.ix_host.specs.command.Command.{lanes_command_of, lanes_usage_line, only_run};
-ghost use Rattle.ix_host.specs.run.Inputs.{script_in, script_max};
-ghost use Rattle.ix_host.specs.run.Whole.{TakesFew};
+ghost use Rattle.ix_host.specs.{Noninterference.{TakesNoninterferentReport}, command.Command.{lanes_command_of, lanes_usage_line, only_run}};
+ghost use Rattle.ix_host.specs.run.{Inputs.{script_in, script_max}, Whole.{TakesFew}};
 ghost use Rattle.ix_host.specs.run.Run.{FitsCommand, ExistsHistory, IsAnswer, ReadsOut, WritesFor, WritesLine, called_for, wanted_with};
 
 use crate::arguments::command::Command;

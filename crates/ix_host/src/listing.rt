@@ -1,11 +1,8 @@
 //! The list of the tree of files that bytes are the image of.
 ghost use Rattle.std.specs.Prelude.{◌≡◌};
-ghost use Rattle.ix_image.specs.Laws.{IsImage};
-ghost use Rattle.ix_image.specs.Lines.{list_of};
-ghost use Rattle.ix_image.specs.Reading.{image_fault, tree_in};
-ghost use Rattle.ix_host.specs.run.Outcome.{listed, unless_faulty};
+ghost use Rattle.ix_image.specs.{Laws.{IsImage}, Lines.{list_of}, Reading.{image_fault, tree_in}};
+ghost use Rattle.ix_host.specs.run.{Outcome.{listed, unless_faulty}, Run.{Ends}};
 ghost use Rattle.ix_host.specs.run.Outcome as outcome;
-ghost use Rattle.ix_host.specs.run.Run.{Ends};
 
 use crate::refusing::refuse_image;
 use crate::status::Status;

@@ -3,14 +3,10 @@ ghost use Rattle.std.specs.Prelude.{◌≡◌, ℕ, List, IfSome, Some, None, tr
 ghost use Rattle.ix_io.specs.Streams.{Rose};
 ghost use Rattle.ix_script.specs.scripts.Canonical.{canonical};
 ghost use Rattle.ix_lanes.specs.asking.Ruled.{rules_told};
-ghost use Rattle.ix_host.specs.Policies.{policy_refusal};
-ghost use Rattle.ix_host.specs.command.Command.{IsCounted};
+ghost use Rattle.ix_host.specs.{Policies.{policy_refusal}, command.Command.{IsCounted}, run.Outcome.{outcome_for, outcome_in, text_for}, run.Whole.{TakesFew}};
+ghost use Rattle.ix_host.specs.{run.Tasks.{IsLoaded, IsRunnable, LeadsTo, OnRun, Prepares, TaskReadsOut}, run.Run.{Ends}};
 ghost use Rattle.ix_host.specs.run.Inputs.{IsReadable, IsShortFor, input_max, reads_image, reads_source, beside_bytes, script_bytes, script_in};
-ghost use Rattle.ix_host.specs.run.Outcome.{outcome_for, outcome_in, text_for};
 ghost use Rattle.ix_host.specs.run.Outcome as outcome;
-ghost use Rattle.ix_host.specs.run.Tasks.{IsLoaded, IsRunnable, LeadsTo, OnRun, Prepares, TaskReadsOut};
-ghost use Rattle.ix_host.specs.run.Whole.{TakesFew};
-ghost use Rattle.ix_host.specs.run.Run.{Ends};
 
 use crate::arguments::command::Command;
 use crate::checking::check;

@@ -1,7 +1,6 @@
 //! The one line of a refusal, or of an image's fault.
 ghost use Rattle.ix_host.specs.run.Outcome as outcome;
-ghost use Rattle.ix_host.specs.run.Outcome.{too_long_for};
-ghost use Rattle.ix_host.specs.run.Run.{Ends};
+ghost use Rattle.ix_host.specs.run.{Outcome.{too_long_for}, Run.{Ends}};
 
 use crate::arguments::command::Command;
 use crate::refusals::rules::{image_fault, refusal, too_long_line};

@@ -2,21 +2,14 @@
 ghost use Rattle.std.specs.Prelude.{◌≡◌, ℕ, ◌⊎◌, Some, true, false, is_none, IfSome};
 ghost use Rattle.ix_io.specs.Streams.{Rose};
 ghost use Rattle.ix_lanes.specs.histories.Serial.{serial};
-ghost use Rattle.ix_host.specs.Noninterference.{TakesNoninterferentReport};
-ghost use Rattle.ix_host.specs.command.Command.{command_of, usage_line};
+ghost use Rattle.ix_host.specs.{Noninterference.{TakesNoninterferentReport}, command.Command.{command_of, usage_line}, Judged.{TakesVerdict}};
+ghost use Rattle.ix_host.specs.{Traced.{TakesTraces}, Saved.{TakesImage}, Loaded.{TakesList}, Compared.{TakesTwins}, Seconds.{second_in}, run.Whole.{TakesFew}};
+ghost use Rattle.ix_host.specs.run.Inputs.{IsTooLong, input_max, input_of, reads_source, script_in};
+ghost use Rattle.ix_host.specs.run.Run.{FitsCommand, IsAnswer, ReadsOut, WritesFor, WritesLine, called_for, wanted};
 ghost use Rattle.ix_check.specs.Parts.{report_part, script_part};
-ghost use Rattle.ix_host.specs.Judged.{TakesVerdict};
-ghost use Rattle.ix_host.specs.Traced.{TakesTraces};
-ghost use Rattle.ix_host.specs.Saved.{TakesImage};
-ghost use Rattle.ix_host.specs.Loaded.{TakesList};
 ghost use Rattle.ix_image.specs.Reading.{image_fault};
-ghost use Rattle.ix_host.specs.Compared.{TakesTwins};
-ghost use Rattle.ix_host.specs.Seconds.{second_in};
 ghost use Rattle.ix_label.specs.Category.{Categories};
 ghost use Rattle.ix_twin.specs.Parts.{first_part};
-ghost use Rattle.ix_host.specs.run.Inputs.{IsTooLong, input_max, input_of, reads_source, script_in};
-ghost use Rattle.ix_host.specs.run.Whole.{TakesFew};
-ghost use Rattle.ix_host.specs.run.Run.{FitsCommand, IsAnswer, ReadsOut, WritesFor, WritesLine, called_for, wanted};
 
 use crate::arguments::command::Command;
 use crate::arguments::words::Words;

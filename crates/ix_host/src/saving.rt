@@ -1,14 +1,11 @@
 //! The image of the tree of files that the run of a script leaves.
-ghost use Rattle.std.specs.Prelude.{◌≡◌, ◌≤◌, [], length, IfOk};
-ghost use Rattle.std.proofs.Common.{option_map};
+ghost use Rattle.std.{specs.Prelude.{◌≡◌, ◌≤◌, [], length, IfOk}, proofs.Common.{option_map}};
 ghost use Rattle.ix_model.specs.history.History.{world_of};
-ghost use Rattle.ix_image.specs.Image.{image_of};
-ghost use Rattle.ix_image.specs.Taken.{tree_on};
+ghost use Rattle.ix_image.specs.{Image.{image_of}, Taken.{tree_on}};
 ghost use Rattle.ix_lanes.specs.asking.Ruled.{rules_told};
 ghost use Rattle.ix_script.specs.scripts.Scripts.{config_of};
-ghost use Rattle.ix_host.specs.Saved.{image_left};
+ghost use Rattle.ix_host.specs.{Saved.{image_left}, run.Run.{Ends}};
 ghost use Rattle.ix_host.specs.run.Outcome as outcome;
-ghost use Rattle.ix_host.specs.run.Run.{Ends};
 
 use crate::status::Status;
 use crate::streams::outlet::{finish, room, write_full};

@@ -1,9 +1,6 @@
 ghost use Rattle.std.specs.Prelude.{◌≡◌, ◌+◌, ◌<◌, ◌≤◌, IfOk, OnOk, length};
-ghost use Rattle.ix_script.specs.lines.Before.{lanes_of, proc_name_told};
-ghost use Rattle.ix_script.specs.lines.Roles.{role_of};
-ghost use Rattle.ix_lanes.specs.histories.Indexed.{line_in};
-ghost use Rattle.ix_script.specs.scripts.Schedule.{seat_from, seat_after};
-ghost use Rattle.ix_lanes.specs.histories.Serial.{header_of, numbered};
+ghost use Rattle.ix_script.specs.{lines.{Before.{lanes_of, proc_name_told}, Roles.{role_of}}, scripts.Schedule.{seat_from, seat_after}};
+ghost use Rattle.ix_lanes.specs.histories.{Indexed.{line_in}, Serial.{header_of, numbered}};
 
 use crate::asking::bindings::Bindings;
 use crate::lines::{line_at, role_at};

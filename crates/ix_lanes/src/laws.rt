@@ -1,6 +1,5 @@
 //! What holds of the histories of scripts. These functions do nothing: each states a law, which is proved.
-ghost use Rattle.ix_lanes.specs.histories.Laws.{SerialOne, SerialIsSerial, HistoriesFit, NeedFits, NeedFitsSoFar};
-ghost use Rattle.ix_lanes.specs.running.Laws.{PhasesAreAll};
+ghost use Rattle.ix_lanes.specs.{histories.Laws.{SerialOne, SerialIsSerial, HistoriesFit, NeedFits, NeedFitsSoFar}, running.Laws.{PhasesAreAll}};
 
 /// No script has two serial histories. A history is serial where each entry is of a lane, each lane's entries are those
 /// that its lines make when they are answered as in the run of the history, no lane asks for a further call, and along the

@@ -1,16 +1,10 @@
 //! The one history to which the lanes of a script come.
-ghost use Rattle.std.specs.Prelude.{◌≡◌, ◌<◌, ◌≤◌, List, length, IfOk, IfSome, IfNone};
-ghost use Rattle.std.proofs.Common.{option_map};
+ghost use Rattle.std.{specs.Prelude.{◌≡◌, ◌<◌, ◌≤◌, List, length, IfOk, IfSome, IfNone}, proofs.Common.{option_map}};
 ghost use Rattle.ix_kernel.specs.Systems.{FilledUp};
-ghost use Rattle.ix_lanes.specs.asking.Ruled.{rules_told};
-ghost use Rattle.ix_lanes.specs.histories.Serial.{header_of};
+ghost use Rattle.ix_lanes.specs.{asking.Ruled.{rules_told}, histories.{Serial.{header_of}, History.{IsHistory}}};
 ghost use Rattle.ix_model.specs.history.Events.{Event};
-ghost use Rattle.ix_script.specs.lines.Before.{lanes_of};
-ghost use Rattle.ix_script.specs.scripts.Scripts.{config_of};
-ghost use Rattle.ix_script.specs.declared.line.Line.{Line};
-ghost use Rattle.ix_lanes.specs.histories.History.{IsHistory};
-ghost use Rattle.ix_parallel.specs.Joining.{AllFilled, AllSee, Joined, StandsForAll};
-ghost use Rattle.ix_parallel.specs.Seats.{AreNew, AtPhase};
+ghost use Rattle.ix_script.specs.{lines.Before.{lanes_of}, scripts.Scripts.{config_of}, declared.line.Line.{Line}};
+ghost use Rattle.ix_parallel.specs.{Joining.{AllFilled, AllSee, Joined, StandsForAll}, Seats.{AreNew, AtPhase}};
 
 use crate::phases::run_phases;
 use crate::watch::{Watch, Watched};

@@ -3,8 +3,7 @@ ghost use Rattle.std.specs.Prelude.{◌≡◌, ◌<◌, ◌≤◌, suc, length};
 ghost use Rattle.ix_gate.specs.Gate.{GateState};
 ghost use Rattle.ix_lanes.specs.running.Phases.{lines_before};
 ghost use Rattle.ix_script.specs.scripts.Schedule.{phases};
-ghost use Rattle.ix_parallel.specs.Between.{Between, GetsTo, TellParts};
-ghost use Rattle.ix_parallel.specs.Seats.{AtPhase, Runs};
+ghost use Rattle.ix_parallel.specs.{Between.{Between, GetsTo, TellParts}, Seats.{AtPhase, Runs}};
 
 use crate::meeting::{first_learns, learn_of_first};
 use crate::watch::{Watch, Watched};

@@ -32,8 +32,7 @@ pub struct Watched<'a, R, W> {
 }
 
 impl<'a, R, W> Model for Watched<'a, R, W> {
-    ghost use Rattle.std.specs.Prelude.{◌≡◌};
-    ghost use Rattle.std.specs.Coded.{codes};
+    ghost use Rattle.std.specs.{Prelude.{◌≡◌}, Coded.{codes}};
     ghost use Rattle.ix_label.specs.contracts.label.Label as label_type;
     ghost use Rattle.ix_kernel.specs.Systems.{SystemState};
 

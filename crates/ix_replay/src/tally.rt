@@ -2,10 +2,8 @@
 
 ghost use Rattle.std.specs.Prelude.{◌≡◌, List, IfOk};
 ghost use Rattle.ix_model.specs.history.Calls.{op_of};
-ghost use Rattle.ix_replay.specs.Summary.{summary_line};
-ghost use Rattle.ix_replay.specs.Tallying.{HasSeen, IsSmall, with_reply};
-ghost use Rattle.ix_script.specs.scripts.Scripts.{config_of};
-ghost use Rattle.ix_script.specs.declared.line.Line.{Line};
+ghost use Rattle.ix_replay.specs.{Summary.{summary_line}, Tallying.{HasSeen, IsSmall, with_reply}};
+ghost use Rattle.ix_script.specs.{scripts.Scripts.{config_of}, declared.line.Line.{Line}};
 
 use ix_core::{Core, Witness};
 use ix_model::{Call, NoMemory, Pid, Reply};

@@ -1,13 +1,9 @@
 //! Two scripts, run side by side in the order of their lines.
-ghost use Rattle.std.specs.Prelude.{true, [], ◌≡◌, ℕ, ◌++◌, ◌≤◌, List, Option, Some, None, IfOk, OnOk, codes};
-ghost use Rattle.std.specs.Fmt.{decimal};
-ghost use Rattle.std.proofs.Common.{option_map};
+ghost use Rattle.std.{specs.{Prelude.{true, [], ◌≡◌, ℕ, ◌++◌, ◌≤◌, List, Option, Some, None, IfOk, OnOk, codes}, Fmt.{decimal}}, proofs.Common.{option_map}};
 ghost use Rattle.ix_lanes.specs.asking.Ruled.{rules_told};
 ghost use Rattle.ix_model.specs.world.Naming.{same_bytes, same_names};
-ghost use Rattle.ix_script.specs.lines.Before.{lanes_of};
-ghost use Rattle.ix_script.specs.scripts.Scripts.{config_of};
-ghost use Rattle.ix_twin.specs.Running.{Compares};
-ghost use Rattle.ix_twin.specs.Lines.{begin_alike, end_line, have_same_lanes, same_form, twin_text};
+ghost use Rattle.ix_script.specs.{lines.Before.{lanes_of}, scripts.Scripts.{config_of}};
+ghost use Rattle.ix_twin.specs.{Running.{Compares}, Lines.{begin_alike, end_line, have_same_lanes, same_form, twin_text}};
 
 use crate::side::Side;
 use crate::turn::{Bufs, Turn, push, take_turn};

@@ -1,6 +1,5 @@
 //! Whether two configs differ no further than in what high files hold.
-ghost use Rattle.std.specs.Prelude.{◌≡◌};
-ghost use Rattle.std.specs.Cmp.Lexicographic.{pointwise};
+ghost use Rattle.std.specs.{Prelude.{◌≡◌}, Cmp.Lexicographic.{pointwise}};
 ghost use Rattle.ix_twin.specs.Configs.{differ_above, same_fs, same_limits, same_object, same_proc};
 
 use crate::sameness::same_path;

@@ -1,6 +1,5 @@
 //! What holds of two scripts that are compared at a label. These functions do nothing: each states a law, which is proved.
-ghost use Rattle.ix_twin.specs.PartingLaws.{RunsAreParted};
-ghost use Rattle.ix_twin.specs.Laws.{BeginningsAreAlike, TwinLines, TwinsAreCompared};
+ghost use Rattle.ix_twin.specs.{PartingLaws.{RunsAreParted}, Laws.{BeginningsAreAlike, TwinLines, TwinsAreCompared}};
 ghost use Rattle.ix_twin.specs.TestLaws.{TestsAreExact, TheLogTellsCrossings};
 
 use ix_iso::laws::configs_alike;

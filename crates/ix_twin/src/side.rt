@@ -1,10 +1,7 @@
 //! One of two runs.
-ghost use Rattle.std.specs.Prelude.{◌≡◌, ℕ, None, IfOk};
-ghost use Rattle.std.proofs.Common.{option_map};
+ghost use Rattle.std.{specs.Prelude.{◌≡◌, ℕ, None, IfOk}, proofs.Common.{option_map}};
 ghost use Rattle.ix_model.specs.world.World.{World};
-ghost use Rattle.ix_lanes.specs.asking.Ruled.{rules_told};
-ghost use Rattle.ix_lanes.specs.histories.Serial.{first_names, serial_from};
-ghost use Rattle.ix_lanes.specs.running.Serially.{entries_left};
+ghost use Rattle.ix_lanes.specs.{asking.Ruled.{rules_told}, histories.Serial.{first_names, serial_from}, running.Serially.{entries_left}};
 
 use ix_lanes::SerialCalls;
 use ix_model::NoMemory;

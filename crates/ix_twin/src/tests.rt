@@ -1,9 +1,6 @@
 //! What two runs are asked at each place.
 ghost use Rattle.std.specs.Prelude.{◌≡◌, ◌&&◌, length};
-ghost use Rattle.ix_model.specs.history.Calls.{event_of};
-ghost use Rattle.ix_model.specs.history.Events.{Event};
-ghost use Rattle.ix_model.specs.history.History.{History, next, with_entry, world_of};
-ghost use Rattle.ix_model.specs.two_runs.TwoRuns.{is_one_kind};
+ghost use Rattle.ix_model.specs.{history.{Calls.{event_of}, Events.{Event}, History.{History, next, with_entry, world_of}}, two_runs.TwoRuns.{is_one_kind}};
 ghost use Rattle.ix_twin.specs.Tests.{agrees, crosses, falls_below, is_high, is_low, lets_down};
 
 use crate::sameness::{same_but_given, same_given};

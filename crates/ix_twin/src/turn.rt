@@ -1,14 +1,10 @@
 //! A turn of two runs side by side.
 ghost use Rattle.std.specs.Prelude.{◌≡◌, ◌++◌, ◌+◌, IfOk, OnOk, length};
-ghost use Rattle.ix_model.specs.history.Calls.{event_of};
-ghost use Rattle.ix_model.specs.history.History.{History, world_of};
-ghost use Rattle.ix_model.specs.history.Shown.{AreShown};
+ghost use Rattle.ix_model.specs.history.{Calls.{event_of}, History.{History, world_of}, Shown.{AreShown}, Systems.{bytes_in}};
 ghost use Rattle.ix_core.specs.Stepping.{IsNext};
-ghost use Rattle.ix_model.specs.history.Systems.{bytes_in};
 ghost use Rattle.ix_script.specs.lines.Before.{form_told, lanes_of};
 ghost use Rattle.ix_replay.specs.report.Report.{entry_text};
-ghost use Rattle.ix_twin.specs.Running.{AreAside, Makes, Turns, WereMade, pair_next};
-ghost use Rattle.ix_twin.specs.Twins.{Twins};
+ghost use Rattle.ix_twin.specs.{Running.{AreAside, Makes, Turns, WereMade, pair_next}, Twins.{Twins}};
 
 use crate::side::Side;
 use crate::twin::{Twin, TwinStep};

@@ -1,15 +1,9 @@
 ghost use Rattle.std.specs.Prelude.{◌<◌, ◌≡◌, ◌↔◌, ◌==◌, ◌&&◌, ◌||◌, not, true, [], IfOk, IsTrue, length, slice_get};
 ghost use Rattle.ix_label.specs.Category.{leq};
-ghost use Rattle.ix_model.specs.history.Calls.{event_of};
-ghost use Rattle.ix_model.specs.history.Cost.{cost_of, cost_of_history};
-ghost use Rattle.ix_model.specs.history.History.{History, next, with_entry, world_of};
-ghost use Rattle.ix_model.specs.history.Step.{put_front};
-ghost use Rattle.ix_model.specs.opening.Valid.{is_valid};
-ghost use Rattle.ix_model.specs.two_runs.TwoRuns.{is_one_kind};
+ghost use Rattle.ix_model.specs.{history.Calls.{event_of}, history.Cost.{cost_of, cost_of_history}, history.History.{History, next, with_entry, world_of}};
+ghost use Rattle.ix_model.specs.{history.Step.{put_front}, opening.Valid.{is_valid}, two_runs.TwoRuns.{is_one_kind}};
 ghost use Rattle.ix_iso.specs.Configs.{DifferAbove};
-ghost use Rattle.ix_twin.specs.Configs.{differ_above};
-ghost use Rattle.ix_twin.specs.Tests.{agrees, crosses, is_high, is_low};
-ghost use Rattle.ix_twin.specs.Twins.{HasRoomFor, HaveAgreed, IsGiven, StepsTo, Twins};
+ghost use Rattle.ix_twin.specs.{Configs.{differ_above}, Tests.{agrees, crosses, is_high, is_low}, Twins.{HasRoomFor, HaveAgreed, IsGiven, StepsTo, Twins}};
 
 use crate::configs::differ_above;
 use crate::tests::{agrees, has_crossed, is_low, is_one_kind};
@@ -51,13 +45,10 @@ pub struct Twin {
 }
 
 impl Model for Twin {
-    ghost use Rattle.std.specs.Prelude.{◌≡◌};
-    ghost use Rattle.std.specs.Coded.{codes};
+    ghost use Rattle.std.specs.{Prelude.{◌≡◌}, Coded.{codes}};
     ghost use Rattle.ix_label.specs.contracts.label.Label as label_type;
     ghost use Rattle.ix_model.specs.opening.Opening.{opening_world};
-    ghost use Rattle.ix_twin.specs.Configs.{differ_above};
-    ghost use Rattle.ix_twin.specs.Tests.{none_crosses};
-    ghost use Rattle.ix_twin.specs.Twins.{Twins};
+    ghost use Rattle.ix_twin.specs.{Configs.{differ_above}, Tests.{none_crosses}, Twins.{Twins}};
 
     ghost Value = { Twins };
 

@@ -1,10 +1,9 @@
 //! The command words as clap reads them: a command, and a count.
 ghost use Rattle.std.specs.Prelude.{◌≡◌, IfOk, codes, map, string_bytes};
 ghost use Rattle.clap.specs.Words.{app_of, first_value, found_of};
-ghost use Rattle.ix_host.specs.command.Command.{command_of, count_of, counted_command, named_command};
+ghost use Rattle.ix_host.specs.command.{Command.{command_of, count_of, counted_command, named_command}, CommandLine.{command_line, read_values}};
 ghost use Rattle.ix_model.specs.opening.Valid.{is_within};
 ghost use Rattle.ix_text.specs.Bytes.{begins_with};
-ghost use Rattle.ix_host.specs.command.CommandLine.{command_line, read_values};
 
 use crate::arguments::command::Command;
 use clap::error::ErrorKind;

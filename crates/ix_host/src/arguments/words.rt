@@ -1,7 +1,5 @@
-ghost use Rattle.std.specs.Prelude.{◌≡◌, ◌++◌, ◌∷◌, [], OnOk, OnErr, IfOk, drop, map, slice_get, string_bytes};
-ghost use Rattle.std.specs.Option.{option_copied};
-ghost use Rattle.ix_host.specs.command.Command.{command_of};
-ghost use Rattle.ix_host.specs.command.Given.{words_of};
+ghost use Rattle.std.specs.{Prelude.{◌≡◌, ◌++◌, ◌∷◌, [], OnOk, OnErr, IfOk, drop, map, slice_get, string_bytes}, Option.{option_copied}};
+ghost use Rattle.ix_host.specs.command.{Command.{command_of}, Given.{words_of}};
 
 use crate::arguments::command::Command;
 use crate::arguments::command_line::read_command;

@@ -2,9 +2,7 @@
 ghost use Rattle.std.specs.Prelude.{◌≡◌, Some, IfSome, true, false};
 ghost use Rattle.ix_gen.specs.Generated.{generated};
 ghost use Rattle.ix_io.specs.Streams.{Rose};
-ghost use Rattle.ix_host.specs.command.Command.{IsCounted};
-ghost use Rattle.ix_host.specs.run.Inputs.{input_max, input_of, reads_source};
-ghost use Rattle.ix_host.specs.run.Whole.{Gathers, IsInput, IsReadFor, TakesFew};
+ghost use Rattle.ix_host.specs.{command.Command.{IsCounted}, run.{Inputs.{input_max, input_of, reads_source}, Whole.{Gathers, IsInput, IsReadFor, TakesFew}}};
 
 use crate::arguments::command::Command;
 use crate::laws::readable;

@@ -1,9 +1,7 @@
 //! Lines on their way out.
-ghost use Rattle.std.specs.Prelude.{◌≡◌, ℕ, ◌++◌, [], List, Option, None, IfOk, OnOk, true};
-ghost use Rattle.std.proofs.Common.{is_ok};
+ghost use Rattle.std.{specs.Prelude.{◌≡◌, ℕ, ◌++◌, [], List, Option, None, IfOk, OnOk, true}, proofs.Common.{is_ok}};
 ghost use Rattle.ix_host.specs.run.Outcome as outcome;
-ghost use Rattle.ix_host.specs.run.Run.{Ends};
-ghost use Rattle.ix_host.specs.run.Outlet.{StandsAt, failed_as};
+ghost use Rattle.ix_host.specs.run.{Run.{Ends}, Outlet.{StandsAt, failed_as}};
 
 use crate::status::Status;
 use crate::streams::stream::{write_all, write_piece};

@@ -1,6 +1,5 @@
 ghost use Rattle.std.specs.Prelude.{◌≡◌};
-ghost use Rattle.ix_host.specs.run.Outcome.{Outcome, status_of, text_of};
-ghost use Rattle.ix_host.specs.run.Run.{Ends};
+ghost use Rattle.ix_host.specs.run.{Outcome.{Outcome, status_of, text_of}, Run.{Ends}};
 
 use crate::status::Status;
 use crate::streams::stream::write_all;

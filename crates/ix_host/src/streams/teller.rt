@@ -1,18 +1,12 @@
 //! A report on its way out.
-ghost use Rattle.std.specs.Prelude.{◌≡◌, ℕ, ◌≤◌, ◌++◌, List, Option, None, IfOk, length};
-ghost use Rattle.ix_model.specs.history.Cost.{cost_of_history};
-ghost use Rattle.ix_model.specs.history.History.{world_of};
-ghost use Rattle.std.proofs.Common.{option_map};
-ghost use Rattle.ix_lanes.specs.asking.Ruled.{rules_told};
-ghost use Rattle.ix_lanes.specs.histories.Serial.{serial};
-ghost use Rattle.ix_script.specs.lines.Before.{form_told};
-ghost use Rattle.ix_script.specs.scripts.Need.{need};
-ghost use Rattle.ix_script.specs.scripts.Scripts.{config_of};
+ghost use Rattle.std.{specs.Prelude.{◌≡◌, ℕ, ◌≤◌, ◌++◌, List, Option, None, IfOk, length}, proofs.Common.{option_map}};
+ghost use Rattle.ix_model.specs.history.{Cost.{cost_of_history}, History.{world_of}};
+ghost use Rattle.ix_lanes.specs.{asking.Ruled.{rules_told}, histories.Serial.{serial}};
+ghost use Rattle.ix_script.specs.{lines.Before.{form_told}, scripts.{Need.{need}, Scripts.{config_of}}};
 ghost use Rattle.ix_report.specs.LineText.{head_line};
 ghost use Rattle.ix_replay.specs.report.Report.{closing_text, report_of};
 ghost use Rattle.ix_host.specs.run.Outcome as outcome;
-ghost use Rattle.ix_host.specs.run.Run.{Ends};
-ghost use Rattle.ix_host.specs.run.Outlet.{StandsAt};
+ghost use Rattle.ix_host.specs.run.{Run.{Ends}, Outlet.{StandsAt}};
 
 use crate::status::Status;
 use crate::streams::outlet::{Failure, finish, room, told, write_full};

@@ -1,15 +1,11 @@
 //! Where bytes came from, on its way out.
-ghost use Rattle.std.specs.Prelude.{◌≡◌, ℕ, [], ◌++◌, List, Option, None};
-ghost use Rattle.std.proofs.Common.{option_map};
+ghost use Rattle.std.{specs.Prelude.{◌≡◌, ℕ, [], ◌++◌, List, Option, None}, proofs.Common.{option_map}};
 ghost use Rattle.ix_model.specs.history.History.{History};
-ghost use Rattle.ix_flow.specs.Tracking.{AreTracks, counts_of};
-ghost use Rattle.ix_flow.specs.Lines.{end_line};
+ghost use Rattle.ix_flow.specs.{Tracking.{AreTracks, counts_of}, Lines.{end_line}};
 ghost use Rattle.ix_lanes.specs.asking.Ruled.{rules_told};
 ghost use Rattle.ix_script.specs.scripts.Scripts.{config_of};
-ghost use Rattle.ix_host.specs.Traces.{traces};
+ghost use Rattle.ix_host.specs.{Traces.{traces}, run.{Run.{Ends}, Outlet.{StandsAt}}};
 ghost use Rattle.ix_host.specs.run.Outcome as outcome;
-ghost use Rattle.ix_host.specs.run.Run.{Ends};
-ghost use Rattle.ix_host.specs.run.Outlet.{StandsAt};
 
 use crate::status::Status;
 use crate::streams::outlet::{Failure, finish, told};

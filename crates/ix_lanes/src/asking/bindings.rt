@@ -15,10 +15,8 @@ pub struct Bindings<N> {
 }
 
 impl<N> Model for Bindings<N> {
-    ghost use Rattle.std.specs.Ordering.{nat_cmp};
-    ghost use Rattle.std.specs.Cmp.Lexicographic.{slice_cmp};
+    ghost use Rattle.std.specs.{Ordering.{nat_cmp}, Cmp.Lexicographic.{slice_cmp}, Coded.{coded_ℕ, coded_list}};
     ghost use Rattle.std.specs.FinMap as map;
-    ghost use Rattle.std.specs.Coded.{coded_ℕ, coded_list};
     ghost use Rattle.ix_lanes.specs.asking.Pairs.{pairs_of};
 
     ghost Value = { map.FinMap (slice_cmp nat_cmp) N };

@@ -1,5 +1,4 @@
-ghost use Rattle.std.specs.Prelude.{◌≡◌, ◌≤◌, take, true};
-ghost use Rattle.std.specs.Option.{option_map};
+ghost use Rattle.std.specs.{Prelude.{◌≡◌, ◌≤◌, take, true}, Option.{option_map}};
 ghost use Rattle.ix_model.specs.history.Calls.{event_of};
 ghost use Rattle.ix_lanes.specs.asking.Asked.{asked, both_bound, bound, named, number_in, written};
 ghost use Rattle.ix_script.specs.lines.Before.{listed, listed_two};

@@ -1,8 +1,7 @@
 ghost use Rattle.std.specs.Prelude.{◌≡◌, OnOk, true};
 ghost use Rattle.std.specs.FinMap as map;
 ghost use Rattle.ix_script.specs.lines.Before.{listed};
-ghost use Rattle.ix_lanes.specs.asking.Asked.{fd_of, keep_of, no_names, pid_of};
-ghost use Rattle.ix_lanes.specs.asking.Places.{given, has_all, has_places, KeepsNames, KeepsPlaces, standing};
+ghost use Rattle.ix_lanes.specs.asking.{Asked.{fd_of, keep_of, no_names, pid_of}, Places.{given, has_all, has_places, KeepsNames, KeepsPlaces, standing}};
 
 use crate::asking::bindings::Bindings;
 use ix_model::{Fd, Keep, NoMemory, Pid};

@@ -1,10 +1,6 @@
-ghost use Rattle.std.specs.Prelude.{◌≡◌, ◌≤◌, false};
-ghost use Rattle.std.proofs.Common.{option_map};
-ghost use Rattle.ix_script.specs.lines.Roles.{role_of};
-ghost use Rattle.ix_lanes.specs.asking.LineAsks.{line_asks};
-ghost use Rattle.ix_lanes.specs.asking.Places.{standing};
-ghost use Rattle.ix_lanes.specs.running.Left.{Holds, IsPending, is_over, part_left, part_most};
-ghost use Rattle.ix_script.specs.lines.Before.{is_phase};
+ghost use Rattle.std.{specs.Prelude.{◌≡◌, ◌≤◌, false}, proofs.Common.{option_map}};
+ghost use Rattle.ix_script.specs.lines.{Roles.{role_of}, Before.{is_phase}};
+ghost use Rattle.ix_lanes.specs.{asking.{LineAsks.{line_asks}, Places.{standing}}, running.Left.{Holds, IsPending, is_over, part_left, part_most}};
 
 use crate::asking::bindings::Bindings;
 use crate::asking::calls::put_written;

@@ -1,8 +1,7 @@
 ghost use Rattle.std.specs.Prelude.{◌≡◌, ◌<◌, ◌≤◌, ℕ, IfNone, IfSome, length};
 ghost use Rattle.ix_asking.specs.Asking.{Came, IsDue, came_as, first, heard};
 ghost use Rattle.ix_script.specs.declared.line.Line.{Line};
-ghost use Rattle.ix_lanes.specs.asking.Asked.{Names, Numbers};
-ghost use Rattle.ix_lanes.specs.running.Left.{IsHeard, part_left};
+ghost use Rattle.ix_lanes.specs.{asking.Asked.{Names, Numbers}, running.Left.{IsHeard, part_left}};
 
 use crate::asking::handed::{Handed, handed_in, who_in};
 use crate::running::part::Part;

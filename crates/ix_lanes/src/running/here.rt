@@ -1,12 +1,6 @@
-ghost use Rattle.std.specs.Prelude.{◌≡◌, ℕ, ◌+◌, ◌≤◌, ◌<◌, true, false, length};
-ghost use Rattle.std.proofs.Common.{option_map};
-ghost use Rattle.ix_lanes.specs.asking.LineAsks.{lines_ask};
-ghost use Rattle.ix_lanes.specs.asking.Places.{KeepsPlaces, standing};
-ghost use Rattle.ix_lanes.specs.asking.Ruled.{rules_told};
-ghost use Rattle.ix_lanes.specs.histories.Serial.{header_of};
-ghost use Rattle.ix_lanes.specs.running.Fields.{all_placed};
-ghost use Rattle.ix_lanes.specs.running.Left.{IsHere, left_from, part_most};
-ghost use Rattle.ix_lanes.specs.running.Phases.{lane_among, lane_between};
+ghost use Rattle.std.{specs.Prelude.{◌≡◌, ℕ, ◌+◌, ◌≤◌, ◌<◌, true, false, length}, proofs.Common.{option_map}};
+ghost use Rattle.ix_lanes.specs.{asking.{LineAsks.{lines_ask}, Places.{KeepsPlaces, standing}, Ruled.{rules_told}}, histories.Serial.{header_of}};
+ghost use Rattle.ix_lanes.specs.{running.Fields.{all_placed}, running.Left.{IsHere, left_from, part_most}, running.Phases.{lane_among, lane_between}};
 ghost use Rattle.ix_lanes.specs.running.Stretches.{IsAmong, stands_in, steps_to};
 
 use crate::asking::bindings::Bindings;

@@ -1,12 +1,7 @@
-ghost use Rattle.std.specs.Prelude.{◌≡◌, ◌≤◌, ◌<◌, true, length, take, IfOk, OnOk};
-ghost use Rattle.std.proofs.Common.{option_map};
-ghost use Rattle.ix_script.specs.lines.Before.{lanes_of};
-ghost use Rattle.ix_script.specs.scripts.Schedule.{stretch_lines};
-ghost use Rattle.ix_lanes.specs.asking.Asked.{no_names};
-ghost use Rattle.ix_lanes.specs.asking.Places.{KeepsPlaces, standing};
-ghost use Rattle.ix_lanes.specs.asking.Ruled.{rules_told};
-ghost use Rattle.ix_lanes.specs.running.Fields.{all_placed};
-ghost use Rattle.ix_lanes.specs.running.Phases.{lane_among, seat_at};
+ghost use Rattle.std.{specs.Prelude.{◌≡◌, ◌≤◌, ◌<◌, true, length, take, IfOk, OnOk}, proofs.Common.{option_map}};
+ghost use Rattle.ix_script.specs.{lines.Before.{lanes_of}, scripts.Schedule.{stretch_lines}};
+ghost use Rattle.ix_lanes.specs.asking.{Asked.{no_names}, Places.{KeepsPlaces, standing}, Ruled.{rules_told}};
+ghost use Rattle.ix_lanes.specs.running.{Fields.{all_placed}, Phases.{lane_among, seat_at}};
 
 use crate::asking::bindings::Bindings;
 use crate::asking::calls::{bind, call_of};
@@ -76,13 +71,9 @@ pub struct LaneCalls<'a> {
 }
 
 impl<'a> Model for LaneCalls<'a> {
-    ghost use Rattle.std.specs.Coded.{codes};
+    ghost use Rattle.std.{specs.Coded.{codes}, proofs.Common.{option_map}};
     ghost use Rattle.ix_label.specs.contracts.label.Label as label_type;
-    ghost use Rattle.ix_lanes.specs.asking.Asked.{names_code};
-    ghost use Rattle.std.proofs.Common.{option_map};
-    ghost use Rattle.ix_lanes.specs.asking.Places.{KeepsPlaces, standing};
-    ghost use Rattle.ix_lanes.specs.running.Fields.{AreFields};
-    ghost use Rattle.ix_lanes.specs.running.Left.{IsHere, LaneLeft};
+    ghost use Rattle.ix_lanes.specs.{asking.{Asked.{names_code}, Places.{KeepsPlaces, standing}}, running.{Fields.{AreFields}, Left.{IsHere, LaneLeft}}};
 
     ghost Value = { LaneLeft };
 
@@ -95,20 +86,13 @@ impl<'a> Model for LaneCalls<'a> {
 }
 
 impl<'a> LaneCalls<'a> {
-    ghost use Rattle.ix_lanes.specs.histories.Lanes.{lane_asks};
-    ghost use Rattle.std.specs.Prelude.{◌≡◌, ◌≤◌, ◌<◌, true, length, IfOk};
-    ghost use Rattle.std.proofs.Common.{option_map};
-    ghost use Rattle.ix_script.specs.lines.Before.{lanes_of};
-    ghost use Rattle.ix_lanes.specs.asking.Asked.{no_names};
-    ghost use Rattle.ix_lanes.specs.asking.LineAsks.{lines_ask};
-    ghost use Rattle.ix_lanes.specs.asking.Ruled.{rules_told};
-    ghost use Rattle.ix_lanes.specs.histories.Serial.{header_of};
-    ghost use Rattle.ix_asking.specs.Asking.{Done, came_as, first};
-    ghost use Rattle.ix_asking.specs.Steps.{next_of};
-    ghost use Rattle.ix_lanes.specs.declared.running.part.Part.TheVariants as part;
-    ghost use Rattle.ix_lanes.specs.running.Left.{asks_left, is_done, names_done, next_phase, place_of};
-    ghost use Rattle.ix_lanes.specs.running.Phases.{lane_between, lines_before};
+    ghost use Rattle.ix_lanes.specs.{histories.{Lanes.{lane_asks}, Serial.{header_of}}, asking.{Asked.{no_names}, LineAsks.{lines_ask}, Ruled.{rules_told}}};
+    ghost use Rattle.ix_lanes.specs.{running.Left.{asks_left, is_done, names_done, next_phase, place_of}, running.Phases.{lane_between, lines_before}};
     ghost use Rattle.ix_lanes.specs.running.Stretches.{TellsPart};
+    ghost use Rattle.std.{specs.Prelude.{◌≡◌, ◌≤◌, ◌<◌, true, length, IfOk}, proofs.Common.{option_map}};
+    ghost use Rattle.ix_script.specs.lines.Before.{lanes_of};
+    ghost use Rattle.ix_asking.specs.{Asking.{Done, came_as, first}, Steps.{next_of}};
+    ghost use Rattle.ix_lanes.specs.declared.running.part.Part.TheVariants as part;
 
     /// The lane of a number before its first line, by the script's header and its policy, if it has one. It asks for nothing yet. It takes
     /// all the memory that its calls need.
@@ -242,8 +226,7 @@ impl<'a> LaneCalls<'a> {
 }
 
 impl Asks for LaneCalls<'_> {
-    ghost use Rattle.ix_lanes.specs.asking.Asked.{Names};
-    ghost use Rattle.ix_lanes.specs.running.Left.{LanePlace, asks_left, most_left, place_of};
+    ghost use Rattle.ix_lanes.specs.{asking.Asked.{Names}, running.Left.{LanePlace, asks_left, most_left, place_of}};
 
     type Came = ();
 

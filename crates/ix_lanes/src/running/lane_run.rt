@@ -23,10 +23,7 @@ pub struct LaneRun<'a> {
 impl<'a> Model for LaneRun<'a> {
     ghost use Rattle.std.specs.Coded.{codes};
     ghost use Rattle.ix_label.specs.contracts.label.Label as label_type;
-    ghost use Rattle.ix_lanes.specs.asking.Asked.{names_code};
-    ghost use Rattle.ix_lanes.specs.running.Fields.{IsRun};
-    ghost use Rattle.ix_lanes.specs.running.Left.{asks_left, is_done, names_done};
-    ghost use Rattle.ix_lanes.specs.running.Runs.{Ran};
+    ghost use Rattle.ix_lanes.specs.{asking.Asked.{names_code}, running.{Fields.{IsRun}, Left.{asks_left, is_done, names_done}, Runs.{Ran}}};
 
     ghost Value = { Ran };
 
@@ -38,18 +35,12 @@ impl<'a> Model for LaneRun<'a> {
 }
 
 impl<'a> LaneRun<'a> {
-    ghost use Rattle.std.specs.Prelude.{◌≡◌, ◌+◌, ◌<◌, suc, true, [], length, IfOk, IfSome, IfNone};
+    ghost use Rattle.std.{specs.Prelude.{◌≡◌, ◌+◌, ◌<◌, suc, true, [], length, IfOk, IfSome, IfNone}, proofs.Common.{option_map}};
     ghost use mathlib.Core.List.{IsPrefix};
     ghost use Rattle.ix_model.specs.history.Systems.{one_more};
-    ghost use Rattle.ix_script.specs.lines.Before.{lanes_of};
-    ghost use Rattle.std.proofs.Common.{option_map};
-    ghost use Rattle.ix_lanes.specs.asking.Asked.{no_names};
-    ghost use Rattle.ix_lanes.specs.asking.Ruled.{rules_told};
-    ghost use Rattle.ix_script.specs.scripts.Schedule.{phases};
-    ghost use Rattle.ix_lanes.specs.histories.Serial.{header_of};
-    ghost use Rattle.ix_lanes.specs.running.Phases.{lines_before};
-    ghost use Rattle.ix_lanes.specs.running.Runs.{CutOff, StandsFor};
-    ghost use Rattle.ix_lanes.specs.running.Stretches.{HasNone, TellsPart};
+    ghost use Rattle.ix_script.specs.{lines.Before.{lanes_of}, scripts.Schedule.{phases}};
+    ghost use Rattle.ix_lanes.specs.{asking.{Asked.{no_names}, Ruled.{rules_told}}, histories.Serial.{header_of}};
+    ghost use Rattle.ix_lanes.specs.running.{Phases.{lines_before}, Runs.{CutOff, StandsFor}, Stretches.{HasNone, TellsPart}};
 
     /// A run of the lane of a number, which has done no phase, by the script's header and its policy, if it has one. It takes all the memory
     /// that the run needs.

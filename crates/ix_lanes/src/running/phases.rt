@@ -1,9 +1,6 @@
 ghost use Rattle.std.specs.Prelude.{◌≡◌, ◌<◌, suc, drop, length};
-ghost use Rattle.ix_lanes.specs.histories.Indexed.{line_in};
-ghost use Rattle.ix_script.specs.lines.Before.{is_phase};
-ghost use Rattle.ix_lanes.specs.running.Phases.{lines_before};
-ghost use Rattle.ix_lanes.specs.running.Stretches.{AreLeft, TellsPart};
-ghost use Rattle.ix_script.specs.scripts.Schedule.{stretches_of};
+ghost use Rattle.ix_lanes.specs.{histories.Indexed.{line_in}, running.{Phases.{lines_before}, Stretches.{AreLeft, TellsPart}}};
+ghost use Rattle.ix_script.specs.{lines.Before.{is_phase}, scripts.Schedule.{stretches_of}};
 
 use crate::lines::role_at;
 use ix_script::laws::lanes_are_stretches;

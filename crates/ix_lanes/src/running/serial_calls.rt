@@ -1,18 +1,11 @@
 ghost use Rattle.std.specs.Prelude.{◌≡◌, ◌+◌, ◌<◌, ◌≤◌, ℕ, true, map, take, length, IfOk, None, if◌then◌else◌};
 ghost use Rattle.std.proofs.Common.{option_map};
-ghost use Rattle.ix_script.specs.lines.Before.{lanes_of};
-ghost use Rattle.ix_script.specs.lines.Roles.{role_of};
+ghost use Rattle.ix_script.specs.{lines.{Before.{lanes_of}, Roles.{role_of}}, scripts.Schedule.{seat_after}};
 ghost use Rattle.ix_model.specs.history.Calls.{event_of};
 ghost use Rattle.ix_asking.specs.Steps.{next_of};
-ghost use Rattle.ix_lanes.specs.asking.Places.{standing};
-ghost use Rattle.ix_lanes.specs.asking.Ruled.{rules_told};
-ghost use Rattle.ix_lanes.specs.histories.Indexed.{line_in};
-ghost use Rattle.ix_script.specs.scripts.Schedule.{seat_after};
-ghost use Rattle.ix_lanes.specs.histories.Serial.{first_names, header_of};
+ghost use Rattle.ix_lanes.specs.{asking.{Places.{standing}, Ruled.{rules_told}}, histories.{Indexed.{line_in}, Serial.{first_names, header_of}}};
+ghost use Rattle.ix_lanes.specs.running.{Left.{part_most}, Phases.{seat_at}, Serially.{ArePlaced, IsWithin, LeavesLines, entry_next, role_begins}};
 ghost use Rattle.ix_lanes.specs.declared.running.part.Part.TheVariants as part;
-ghost use Rattle.ix_lanes.specs.running.Left.{part_most};
-ghost use Rattle.ix_lanes.specs.running.Phases.{seat_at};
-ghost use Rattle.ix_lanes.specs.running.Serially.{ArePlaced, IsWithin, LeavesLines, entry_next, role_begins};
 
 use crate::asking::bindings::Bindings;
 use crate::asking::calls::{bind, call_of};
@@ -143,13 +136,9 @@ pub struct SerialCalls<'a> {
 }
 
 impl<'a> Model for SerialCalls<'a> {
-    ghost use Rattle.std.specs.Prelude.{map};
-    ghost use Rattle.std.specs.Coded.{codes};
+    ghost use Rattle.std.{specs.{Prelude.{map}, Coded.{codes}}, proofs.Common.{option_map}};
     ghost use Rattle.ix_label.specs.contracts.label.Label as label_type;
-    ghost use Rattle.ix_lanes.specs.asking.Asked.{names_code};
-    ghost use Rattle.std.proofs.Common.{option_map};
-    ghost use Rattle.ix_lanes.specs.asking.Places.{standing};
-    ghost use Rattle.ix_lanes.specs.running.Serially.{AreTables, IsWithin, SerialLeft};
+    ghost use Rattle.ix_lanes.specs.{asking.{Asked.{names_code}, Places.{standing}}, running.Serially.{AreTables, IsWithin, SerialLeft}};
 
     ghost Value = { SerialLeft };
 
@@ -164,12 +153,8 @@ impl<'a> Model for SerialCalls<'a> {
 impl<'a> SerialCalls<'a> {
     ghost use Rattle.std.specs.Prelude.{◌≡◌, ◌∷◌, ◌+◌, ◌<◌, ◌≤◌, ℕ, [], None, Some, IfOk, is_some, length, true};
     ghost use Rattle.std.proofs.Common.{option_map};
-    ghost use Rattle.ix_model.specs.history.Calls.{event_of};
-    ghost use Rattle.ix_model.specs.history.Events.{Event};
-    ghost use Rattle.ix_model.specs.history.Step.{step_of};
-    ghost use Rattle.ix_model.specs.world.World.{World};
-    ghost use Rattle.ix_lanes.specs.asking.Ruled.{rules_told};
-    ghost use Rattle.ix_lanes.specs.histories.Serial.{answered, first_names, serial_from};
+    ghost use Rattle.ix_model.specs.{history.{Calls.{event_of}, Events.{Event}, Step.{step_of}}, world.World.{World}};
+    ghost use Rattle.ix_lanes.specs.{asking.Ruled.{rules_told}, histories.Serial.{answered, first_names, serial_from}};
     ghost use Rattle.ix_lanes.specs.running.Serially.{entries_left, most_entries, next_entry};
 
     /// The run of a script before its first call, by the script's policy, if it has one. It takes all the memory that its calls need.

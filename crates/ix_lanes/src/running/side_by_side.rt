@@ -1,5 +1,4 @@
-ghost use Rattle.std.specs.Prelude.{◌≡◌, ◌≤◌, All, Option};
-ghost use Rattle.std.specs.Option.{option_or};
+ghost use Rattle.std.specs.{Prelude.{◌≡◌, ◌≤◌, All, Option}, Option.{option_or}};
 ghost use denote.Param.Send.{IsSync};
 ghost use Rattle.ix_model.specs.declared.reply.Answer.{Answer};
 ghost use Rattle.ix_lanes.specs.running.SideBySide.{AllRun, IsReady, RunsPhase};

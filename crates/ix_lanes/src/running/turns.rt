@@ -1,7 +1,5 @@
 ghost use Rattle.std.specs.Prelude.{◌≡◌, ◌<◌, ℕ, Option, Some, true, length};
-ghost use Rattle.ix_script.specs.lines.Before.{lanes_of};
-ghost use Rattle.ix_script.specs.lines.Roles.{role_of};
-ghost use Rattle.ix_script.specs.scripts.Schedule.{seat_after};
+ghost use Rattle.ix_script.specs.{lines.{Before.{lanes_of}, Roles.{role_of}}, scripts.Schedule.{seat_after}};
 ghost use Rattle.ix_lanes.specs.histories.Indexed.{line_in};
 
 use crate::lanes::seat_past;

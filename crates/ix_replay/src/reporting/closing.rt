@@ -1,7 +1,6 @@
 ghost use Rattle.std.specs.Prelude.{◌≡◌, ◌≢◌, ◌<◌, [], false, true, length, OnOk};
 ghost use Rattle.ix_model.specs.history.History.{world_of};
-ghost use Rattle.ix_replay.specs.report.Report.{closing_text};
-ghost use Rattle.ix_replay.specs.report.Telling.{Tells, TellsLine, left_of, pieces_of};
+ghost use Rattle.ix_replay.specs.report.{Report.{closing_text}, Telling.{Tells, TellsLine, left_of, pieces_of}};
 ghost use Rattle.ix_replay.specs.declared.reporting.closing.Next.TheVariants as next;
 
 use crate::reporting::pieces::{push_heading, push_object, push_process};

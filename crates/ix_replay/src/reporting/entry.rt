@@ -1,12 +1,7 @@
-ghost use Rattle.std.specs.Prelude.{◌≡◌, ℕ, ◌++◌, ◌+◌, OnOk, length};
-ghost use Rattle.std.specs.Option.{option_map};
-ghost use Rattle.ix_model.specs.history.Calls.{op_of};
-ghost use Rattle.ix_model.specs.history.History.{History, world_of};
-ghost use Rattle.ix_model.specs.history.Made.{entry};
-ghost use Rattle.ix_model.specs.history.Shown.{AreShown};
+ghost use Rattle.std.specs.{Prelude.{◌≡◌, ℕ, ◌++◌, ◌+◌, OnOk, length}, Option.{option_map}};
+ghost use Rattle.ix_model.specs.history.{Calls.{op_of}, History.{History, world_of}, Made.{entry}, Shown.{AreShown}};
 ghost use Rattle.ix_script.specs.lines.Before.{form_told, lanes_of};
-ghost use Rattle.ix_report.specs.LineText.{entry_line};
-ghost use Rattle.ix_report.specs.ReplyText.{AreBytesOf};
+ghost use Rattle.ix_report.specs.{LineText.{entry_line}, ReplyText.{AreBytesOf}};
 ghost use Rattle.ix_core.specs.Stepping.{IsNext};
 ghost use Rattle.ix_replay.specs.report.Report.{entry_text, lane_name};
 

@@ -1,9 +1,6 @@
 ghost use Rattle.std.specs.Prelude.{◌≡◌, ◌+◌, ◌<◌, ◌≤◌, [], OnErr, OnOk, take};
-ghost use Rattle.ix_model.specs.history.Calls.{event_of};
-ghost use Rattle.ix_model.specs.history.Cost.{cost_of, cost_of_history};
-ghost use Rattle.ix_model.specs.history.History.{next, with_entry};
-ghost use Rattle.ix_script.specs.scripts.Need.{need};
-ghost use Rattle.ix_script.specs.scripts.Scripts.{config_of};
+ghost use Rattle.ix_model.specs.history.{Calls.{event_of}, Cost.{cost_of, cost_of_history}, History.{next, with_entry}};
+ghost use Rattle.ix_script.specs.scripts.{Need.{need}, Scripts.{config_of}};
 ghost use Rattle.ix_core.specs.Seen.{KnowsOn};
 ghost use Rattle.ix_asking.specs.Runs.{count_in};
 
