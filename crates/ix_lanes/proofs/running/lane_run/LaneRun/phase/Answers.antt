@@ -5,7 +5,7 @@ use Rattle.ix_asking.specs.{Asking.{Asking, Next, came_as, first, next}, Runs.{a
 use Rattle.ix_lanes.specs.{asking.Asked.Names, running.Left.{LanePlace, asks_left, is_done, names_done}, running.Phases.lines_before, running.Stretches.HasNone}
 use Rattle.ix_lanes.specs.running.Runs.{CutOff, Ran, StandsFor}
 use Rattle.ix_lanes.proofs.{phased.Lefts.{came_done, stops_due}, phased.PhaseLines.{before-few, before-grows, phases-few}}
-use Rattle.ix_lanes.proofs.{phased.PhaseRuns.{cut_next, goes_on, ran, stands_next}, phased.TakingPart.{idle_asks, next_none, none_next, stands_over}}
+use Rattle.ix_lanes.proofs.{phased.PhaseRuns.{cut_next, goes_on, ran, stands_next, next_asks}, phased.TakingPart.{idle_asks, next_none, none_next, stands_over}}
 use Rattle.ix_lanes.proofs.running.lane_run.LaneRun.phase.Goals as goal
 
 pub ask_to-requires-clause-within : goal.ask_to-requires-clause-within
