@@ -28,16 +28,17 @@ fn step<W: Witness>(
     ensures fewer { result ≡ true → most_entries calls.new < most_entries calls.old }
     ensures over { result ≡ false → core.new.events ≡ serial calls.old.script }
 {
-    let Some(entry) = calls.next() else {
+    // An entry and an answer are wide: they are looked at where they lie.
+    let Some(entry) = &calls.next() else {
         return false;
     };
     let (seat, line, pid) = (entry.seat, entry.line, entry.pid);
-    let Answer::Given(reply) = core.call(seat, line, pid, &entry.call, buf) else {
+    let Answer::Given(reply) = &core.call(seat, line, pid, &entry.call, buf) else {
         unreachable!()
     };
-    let bytes = read_by(&reply, buf);
-    witness.see(core, line, pid, seat, &entry.call, &reply, bytes);
-    calls.hear(&reply, bytes);
+    let bytes = read_by(reply, buf);
+    witness.see(core, line, pid, seat, &entry.call, reply, bytes);
+    calls.hear(reply, bytes);
     true
 }
 
