@@ -32,11 +32,11 @@ fn push_line(
     call: &Call<'_>,
     reply: &Reply,
     bytes: &[u8],
-    caller: Option<ProcView>,
+    caller: &Option<ProcView>,
 ) -> Result<(), NoMemory>
     requires { AreBytesOf reply.now bytes.now }
     ensures { (seat : ℕ) → OnOk result (out.new.items ≡ out.old.items
-        ++ entry_line form place lane.now (entry seat line pid (op_of call.now)) reply.now bytes.now (option_map (λ v. v.label) caller)) }
+        ++ entry_line form place lane.now (entry seat line pid (op_of call.now)) reply.now bytes.now (option_map (λ v. v.label) caller.now)) }
 {
     match caller {
         Some(view) => {
@@ -79,6 +79,6 @@ pub fn push_entry(
         call,
         reply,
         bytes,
-        caller,
+        &caller,
     )
 }
