@@ -34,7 +34,7 @@ use Rattle.ix_core.specs.Marking.{way_of, spot_in, sizes_of, AreReady, AreKnown,
 use Rattle.ix_core.specs.Marking.{other_process, other_object, other_entry, unless_object, unless_entry, unless_closed, has_exited, refreshed}
 use Rattle.ix_core.specs.Marking.{or_refreshed}
 use Rattle.ix_core.proofs.Living.{lives_on}
-use Rattle.ix_core.proofs.Unmoved.{known_still}
+use Rattle.ix_core.proofs.Unmoved.{known_still, self_still}
 
 abbrev Mark : Type 0
 Mark = Option marked.Spot
@@ -371,6 +371,33 @@ told_known law m w place pid o ready k h =
     let r = (step w place pid o).reply in
     record {
       spots = λ q d v. known_spot m w.frame pid o r q d v k h ∙ ap (λ (g : Frame). left w.frame g pid o r q d v (seen (spot_of m q d v))) still;
+      ready = subst (λ (g : Frame). AreReady m g) still ready;
+      raised = omega arith;
+    }
+
+-- a look at the own label refreshes none, and touches none
+own_refreshes : (v : Way) (d : ℕ) (r : Reply) → refreshes (way_of v) d op.SelfLabel r ≡ false
+own_refreshes way.Reading d r = refl
+own_refreshes way.Writing d r = refl
+
+own_spot : (m : Known) (f : Frame) (pid : ℕ) (r : Reply) (q d : ℕ) (v : Way) → seen (spot_of m q d v) ≡ left f f pid op.SelfLabel r q d v (seen (spot_of m q d v))
+own_spot m f pid r q d v =
+    let here = seen (spot_of m q d v) in
+    let stays = laws.unless (λ x. touches f (call_by pid op.SelfLabel) f q (Some x.object) (Some x.entry)) here in
+    unless_never (λ x. touches f (call_by pid op.SelfLabel) f q (Some x.object) (Some x.entry)) (λ x. touches_nothing f pid op.SelfLabel q (Some x.object) (Some x.entry)) here
+    ∙ ap (λ b. if b then None else stays) (sym (and_no (pid == q) _ refl))
+    ∙ ap (λ b. if b then spot_behind f q d else if pid == q && closes d op.SelfLabel r then None else stays) (sym (and_no (pid == q) (refreshes (way_of v) d op.SelfLabel r) (own_refreshes v d r)))
+
+pub told_own : (m : Known) (w : World) (place pid : ℕ) (o : Op) → AreReady m w.frame → o ≡ op.SelfLabel → AreTold m m w place pid o
+told_own m w place pid o ready own = subst (λ (c : Op). AreTold m m w place pid c) (sym own) told
+  where
+    still : w.frame ≡ (step w place pid op.SelfLabel).world.frame
+    still = sym (self_still w place pid)
+
+    told : AreTold m m w place pid op.SelfLabel
+    told = record {
+      spots = λ q d v. own_spot m w.frame pid (step w place pid op.SelfLabel).reply q d v
+          ∙ ap (λ (g : Frame). left w.frame g pid op.SelfLabel (step w place pid op.SelfLabel).reply q d v (seen (spot_of m q d v))) still;
       ready = subst (λ (g : Frame). AreReady m g) still ready;
       raised = omega arith;
     }
