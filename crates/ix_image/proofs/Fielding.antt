@@ -49,8 +49,8 @@ pub record Took (bytes text rest : List ℕ) : Type 0 where
   pub parts : bytes ≡ text ++ rest
   pub are_bytes : AreBytes rest
 
-pub took_both : (a x b y c : List ℕ) → Took a x b → Took b y c → Took a (x ++ y) c
-took_both a x b y c p q = record { parts = p.parts ∙ ap (λ (t : List ℕ). x ++ t) q.parts ∙ sym (append_assoc x y c); are_bytes = q.are_bytes }
+pub took_both : {a x b y c : List ℕ} → Took a x b → Took b y c → Took a (x ++ y) c
+took_both {a} {x} {b} {y} {c} p q = record { parts = p.parts ∙ ap (λ (t : List ℕ). x ++ t) q.parts ∙ sym (append_assoc x y c); are_bytes = q.are_bytes }
 
 -- A reader and a writer are of one field: what is read was written, and what may be written is read.
 pub record OneField {A : Type 0} (read : List ℕ → Read A) (write : A → List ℕ) (may : A → Type 0) : Type 0 where
@@ -65,9 +65,9 @@ pub record Stepped {A B : Type 0} (bytes : List ℕ) (write : A → List ℕ) (m
   pub allowed : may value
   pub next : f (value, rest) ≡ Ok y
 
-pub stepped : {A B : Type 0} (read : List ℕ → Read A) (write : A → List ℕ) (may : A → Type 0) (bytes : List ℕ) (f : A × List ℕ → Result B Fault) (y : B)
-    → OneField read write may → AreBytes bytes → (read bytes >>= f) ≡ Ok y → Stepped bytes write may f y
-stepped read write may bytes f y one are e =
+pub stepped : {A B : Type 0} {read : List ℕ → Read A} {write : A → List ℕ} {may : A → Type 0} → OneField read write may → (bytes : List ℕ) (f : A × List ℕ → Result B Fault) (y : B)
+    → AreBytes bytes → (read bytes >>= f) ≡ Ok y → Stepped bytes write may f y
+stepped {A} {B} {read} {write} {may} one bytes f y are e =
     let a = bind_ok (read bytes) f y e in
     let t = one.takes bytes a.0.0 a.0.1 are a.1 in
     record { value = a.0.0; rest = a.0.1; took = t.0; allowed = t.1; next = a.2 }
@@ -111,7 +111,7 @@ word_field = record { takes = takes; again = again }
   where
     takes : (bytes : List ℕ) (n : ℕ) (rest : List ℕ) → AreBytes bytes → word_at bytes ≡ Ok (n, rest) → Took bytes (four n) rest × (n < 2 ^ 32)
     takes bytes n rest are e =
-        let s = stepped (bytes_at 4) (λ x. x) (λ x. length x ≡ 4) bytes (λ x. Ok (from_be_bytes w32 x.0, x.1)) (n, rest) (bytes_field 4) are e in
+        let s = stepped (bytes_field 4) bytes (λ x. Ok (from_be_bytes w32 x.0, x.1)) (n, rest) are e in
         let front = took-bytes bytes s.value s.rest are s.took in
         let back : four (from_be_bytes w32 s.value) ≡ s.value = be_bytes_4 s.value _ s.allowed front refl in
         let below : from_be_bytes w32 s.value < 2 ^ 32 = omega (arith, front 0, front 1, front 2, front 3) in
@@ -128,7 +128,7 @@ number_field test low = record { takes = takes; again = again }
   where
     takes : (bytes : List ℕ) (n : ℕ) (rest : List ℕ) → AreBytes bytes → number_at test bytes ≡ Ok (n, rest) → Took bytes (four n) rest × (test n ≡ true)
     takes bytes n rest are e =
-        let s = stepped word_at four (λ n. n < 2 ^ 32) bytes (λ x. cond (test x.0) (Ok x) (Err (breaks 3 bytes))) (n, rest) word_field are e in
+        let s = stepped word_field bytes (λ x. cond (test x.0) (Ok x) (Err (breaks 3 bytes))) (n, rest) are e in
         let g = guard_ok (test s.value) (breaks 3 bytes) (s.value, s.rest) (n, rest) s.next in
         subst (λ (p : ℕ × List ℕ). Took bytes (four p.0) p.1 × (test p.0 ≡ true)) g.1 (s.took, g.0)
 
@@ -181,7 +181,7 @@ label_field = record { takes = takes; again = again }
   where
     takes : (bytes : List ℕ) (s : Categories) (rest : List ℕ) → AreBytes bytes → label_at bytes ≡ Ok (s, rest) → Took bytes (label_bytes s) rest × IsLabel s
     takes bytes s rest are e =
-        let t = stepped (bytes_at 64) (λ x. x) (λ x. length x ≡ 64) bytes (λ x. Ok (label_in x.0, x.1)) (s, rest) (bytes_field 64) are e in
+        let t = stepped (bytes_field 64) bytes (λ x. Ok (label_in x.0, x.1)) (s, rest) are e in
         let front = took-bytes bytes t.value t.rest are t.took in
         let whole : Took bytes (label_bytes (label_in t.value)) t.rest = subst (λ (x : List ℕ). Took bytes x t.rest) (sym (bytes_back t.value t.allowed front)) t.took in
         subst (λ (p : Categories × List ℕ). Took bytes (label_bytes p.0) p.1 × IsLabel p.0) (ok_is (label_in t.value, t.rest) (s, rest) t.next) (whole, is_label_in t.value t.allowed)
@@ -196,7 +196,7 @@ label_below_field ceiling = record { takes = takes; again = again }
   where
     takes : (bytes : List ℕ) (s : Categories) (rest : List ℕ) → AreBytes bytes → label_below_at ceiling bytes ≡ Ok (s, rest) → Took bytes (label_bytes s) rest × (IsLabel s × (leq s ceiling ≡ true))
     takes bytes s rest are e =
-        let t = stepped label_at label_bytes IsLabel bytes (λ x. cond (leq x.0 ceiling) (Ok x) (Err (breaks 6 bytes))) (s, rest) label_field are e in
+        let t = stepped label_field bytes (λ x. cond (leq x.0 ceiling) (Ok x) (Err (breaks 6 bytes))) (s, rest) are e in
         let g = guard_ok (leq t.value ceiling) (breaks 6 bytes) (t.value, t.rest) (s, rest) t.next in
         subst (λ (p : Categories × List ℕ). Took bytes (label_bytes p.0) p.1 × (IsLabel p.0 × (leq p.0 ceiling ≡ true))) g.1 (t.took, (t.allowed, g.0))
 

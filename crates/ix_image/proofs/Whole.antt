@@ -76,10 +76,10 @@ most_objects n k m e low = omega arith
 -- what was taken piece by piece, to the end
 five_parts : (bytes a r b s c t d u e v : List ℕ) → Took bytes a r → Took r b s → Took s c t → Took t d u → Took u e v → v ≡ [] → bytes ≡ a ++ (b ++ (c ++ (d ++ e)))
 five_parts bytes a r b s c t d u e v p q x y z nothing =
-    let de = took_both t d u e v y z in
-    let ce = took_both s c t (d ++ e) v x de in
-    let be = took_both r b s (c ++ (d ++ e)) v q ce in
-    let ae = took_both bytes a r (b ++ (c ++ (d ++ e))) v p be in
+    let de = took_both y z in
+    let ce = took_both x de in
+    let be = took_both q ce in
+    let ae = took_both p be in
     ae.parts ∙ ap (λ (w : List ℕ). (a ++ (b ++ (c ++ (d ++ e)))) ++ w) nothing ∙ append-nil (a ++ (b ++ (c ++ (d ++ e))))
 
 -- the pieces of a tree
@@ -112,9 +112,8 @@ record Objects (fss : List FsSpec) (bytes : List ℕ) (t : TreeOf) : Type 0 wher
 
 objects_take : (fss : List FsSpec) (bytes : List ℕ) (t : TreeOf) → inodes_in fss < 2 ^ 32 → AreBytes bytes → after_systems (fss, bytes) ≡ Ok t → Objects fss bytes t
 objects_take fss bytes t few are e =
-    let d = stepped (number_at (is_within 0 (inodes_in fss))) four (λ n. is_within 0 (inodes_in fss) n ≡ true) bytes _ t (objects_field (inodes_in fss) few) are e in
-    let f = stepped (nodes_at fss 0 d.value) (flat_map node_bytes) _ d.rest (λ nodes. cond (length nodes.1 == 0) (Ok (record { fss = fss; nodes = nodes.0 })) (Err (breaks 7 nodes.1))) t
-    (nodes_field fss (low_inodes (inodes_in fss) few) d.value 0) d.took.are_bytes d.next in
+    let d = stepped (objects_field (inodes_in fss) few) bytes _ t are e in
+    let f = stepped (nodes_field fss (low_inodes (inodes_in fss) few) d.value 0) d.rest (λ nodes. cond (length nodes.1 == 0) (Ok (record { fss = fss; nodes = nodes.0 })) (Err (breaks 7 nodes.1))) t d.took.are_bytes d.next in
     let g = guard_ok (length f.rest == 0) (breaks 7 f.rest) (record { fss = fss; nodes = f.value }) t f.next in
     let number : Took bytes (four (length f.value)) d.rest = subst (λ n. Took bytes (four n) d.rest) (sym f.allowed.0) d.took in
     let made : Objects fss bytes (record { fss = fss; nodes = f.value }) = record {
@@ -135,10 +134,8 @@ unfolding fields_of
 fields_take bytes t are e =
     let a = bind_ok (start_at bytes) (λ start. number_at is_count_of_file_systems start >>= λ count. file_systems_at count.0 count.1 >>= after_systems) t e in
     let ta = start_takes bytes a.0 are a.1 in
-    let b = stepped (number_at is_count_of_file_systems) four (λ n. is_count_of_file_systems n ≡ true) a.0 (λ count. file_systems_at count.0 count.1 >>= after_systems) t count_field ta.are_bytes
-    a.2 in
-    let c = stepped (file_systems_at b.value) (flat_map file_system_bytes) (λ xs. (length xs ≡ b.value) × AllByRecursion IsFileSystem xs) b.rest after_systems t (file_systems_field b.value)
-    b.took.are_bytes b.next in
+    let b = stepped count_field a.0 (λ count. file_systems_at count.0 count.1 >>= after_systems) t ta.are_bytes a.2 in
+    let c = stepped (file_systems_field b.value) b.rest after_systems t b.took.are_bytes b.next in
     go b.value c.value c.rest c.allowed.0 c.allowed.1 b.allowed (λ few. objects_take c.value c.rest t few c.took.are_bytes c.next) ta b.took c.took
   where
     go : {r s : List ℕ} (k : ℕ) (fss : List FsSpec) (u : List ℕ) → length fss ≡ k → AllByRecursion IsFileSystem fss → is_count_of_file_systems k ≡ true → (inodes_in fss < 2 ^ 32 → Objects fss u t)
