@@ -49,6 +49,11 @@ pub record Took (bytes text rest : List ℕ) : Type 0 where
   pub parts : bytes ≡ text ++ rest
   pub are_bytes : AreBytes rest
 
+-- what was taken for one answer was taken for an equal one
+pub taken : {A : Type 0} (bytes : List ℕ) (p q : A × List ℕ) (write : A → List ℕ) (may : A → Type 0) → done p ≡ done q → Took bytes (write p.0) p.1 × may p.0
+    → Took bytes (write q.0) q.1 × may q.0
+taken {A} bytes p q write may e h = subst (λ (x : A × List ℕ). Took bytes (write x.0) x.1 × may x.0) (ok_is p q e) h
+
 pub took_both : {a x b y c : List ℕ} → Took a x b → Took b y c → Took a (x ++ y) c
 took_both {a} {x} {b} {y} {c} p q = record { parts = p.parts ∙ ap (λ (t : List ℕ). x ++ t) q.parts ∙ sym (append_assoc x y c); are_bytes = q.are_bytes }
 
@@ -97,7 +102,7 @@ bytes_field n = record { takes = takes; again = again }
             let long : n ≤ length bytes = ltb-false _ _ short in
             let whole : Took bytes (take n bytes) (drop n bytes) = record { parts = sym (take-append-drop n bytes); are_bytes = bytes-drop n bytes are } in
             let fits : length (take n bytes) ≡ n = omega (arith, length-take n bytes) in
-            subst (λ (p : List ℕ × List ℕ). Took bytes p.0 p.1 × (length p.0 ≡ n)) (ok_is (take n bytes, drop n bytes) (x, rest) e) (whole, fits)
+            taken bytes (take n bytes, drop n bytes) (x, rest) (λ x. x) (λ x. length x ≡ n) e (whole, fits)
 
     again : (x : List ℕ) (rest : List ℕ) → length x ≡ n → bytes_at n (x ++ rest) ≡ Ok (x, rest)
     again x rest is =
@@ -116,7 +121,7 @@ word_field = record { takes = takes; again = again }
         let back : four (from_be_bytes w32 s.value) ≡ s.value = be_bytes_4 s.value _ s.allowed front refl in
         let below : from_be_bytes w32 s.value < 2 ^ 32 = omega (arith, front 0, front 1, front 2, front 3) in
         let whole : Took bytes (four (from_be_bytes w32 s.value)) s.rest = subst (λ (x : List ℕ). Took bytes x s.rest) (sym back) s.took in
-        subst (λ (p : ℕ × List ℕ). Took bytes (four p.0) p.1 × (p.0 < 2 ^ 32)) (ok_is (from_be_bytes w32 s.value, s.rest) (n, rest) s.next) (whole, below)
+        taken bytes (from_be_bytes w32 s.value, s.rest) (n, rest) four (λ x. x < 2 ^ 32) s.next (whole, below)
 
     again : (n : ℕ) (rest : List ℕ) → n < 2 ^ 32 → word_at (four n ++ rest) ≡ Ok (n, rest)
     again n rest low = rw ((bytes_field 4).again (four n) rest refl, from_be_bytes-to_be_bytes_4 n low) refl
@@ -184,7 +189,7 @@ label_field = record { takes = takes; again = again }
         let t = stepped (bytes_field 64) bytes (λ x. Ok (label_in x.0, x.1)) (s, rest) are e in
         let front = took-bytes bytes t.value t.rest are t.took in
         let whole : Took bytes (label_bytes (label_in t.value)) t.rest = subst (λ (x : List ℕ). Took bytes x t.rest) (sym (bytes_back t.value t.allowed front)) t.took in
-        subst (λ (p : Categories × List ℕ). Took bytes (label_bytes p.0) p.1 × IsLabel p.0) (ok_is (label_in t.value, t.rest) (s, rest) t.next) (whole, is_label_in t.value t.allowed)
+        taken bytes (label_in t.value, t.rest) (s, rest) label_bytes IsLabel t.next (whole, is_label_in t.value t.allowed)
 
     again : (s : Categories) (rest : List ℕ) → IsLabel s → label_at (label_bytes s ++ rest) ≡ Ok (s, rest)
     again s rest is = rw ((bytes_field 64).again (label_bytes s) rest (length-label_bytes s), label_back s is) refl

@@ -11,7 +11,7 @@ use Rattle.ix_image.specs.Labelled.{label_bytes}
 use Rattle.ix_image.specs.Image.{four, held_bytes, marks_bytes, marks_of, node_bytes, IsNode, NumbersRise}
 use Rattle.ix_image.specs.Reading.{◌>>=◌, breaks, order_at, node_at, nodes_at}
 use Rattle.ix_image.specs.Laws.{AreBytes}
-use Rattle.ix_image.proofs.Fielding.{OneField, Took, took_both, stepped, bind_ok, guard_ok, ok_is, word_field, label_below_field}
+use Rattle.ix_image.proofs.Fielding.{OneField, Took, took_both, stepped, bind_ok, guard_ok, taken, word_field, label_below_field}
 use Rattle.ix_image.proofs.Objects.{marks_field, held_field}
 
 -- ---- numbers
@@ -60,7 +60,7 @@ node_field fss least few = record { takes = takes; again = again }
         let same : b.value ≡ marks_of made = λ i. record b.value { is_dir = sym h.allowed.1 i } in
         let whole : Took bytes (node_bytes made) h.rest = subst (λ (m : Marks). Took bytes (four a.value ++ (marks_bytes m ++ (label_bytes g.value ++ held_bytes h.value))) h.rest) same ah in
         let is : IsNode fss made = record { inside = a.allowed.inside; cap = b.allowed.0; lic = b.allowed.1; label = g.allowed.0; below = g.allowed.1; holds = h.allowed.0 } in
-        subst (λ (p : NodeOf × List ℕ). Took bytes (node_bytes p.0) p.1 × IsNext fss least p.0) (ok_is (made, h.rest) (x, rest) h.next) (whole, (a.allowed.from, is))
+        taken bytes (made, h.rest) (x, rest) node_bytes (IsNext fss least) h.next (whole, (a.allowed.from, is))
 
     again : (x : NodeOf) (rest : List ℕ) → IsNext fss least x → node_at fss least (node_bytes x ++ rest) ≡ Ok (x, rest)
     again x rest is =
@@ -86,14 +86,14 @@ module _ (fss : List FsSpec) (few : inodes_in fss ≤ 2 ^ 32) where
   unfolding nodes_at
   nodes_take zero least bytes xs rest are e =
       let whole : Took bytes [] bytes = record { parts = refl; are_bytes = are } in
-      subst (λ (p : List NodeOf × List ℕ). Took bytes (flat_map node_bytes p.0) p.1 × AreNext fss least 0 p.0) (ok_is ([], bytes) (xs, rest) e) (whole, (refl, (tt, tt)))
+      taken bytes ([], bytes) (xs, rest) (flat_map node_bytes) (AreNext fss least 0) e (whole, (refl, (tt, tt)))
   nodes_take (suc n) least bytes xs rest are e =
       let s = stepped (node_field fss least few) bytes (λ first. nodes_at fss (first.0.number + 1) n first.1 >>= λ others. Ok (first.0 ∷ others.0, others.1)) (xs, rest) are e in
       let b = bind_ok (nodes_at fss (s.value.number + 1) n s.rest) (λ others. Ok (s.value ∷ others.0, others.1)) (xs, rest) s.next in
       let t = nodes_take n (s.value.number + 1) s.rest b.0.0 b.0.1 s.took.are_bytes b.1 in
       let both = took_both s.took t.0 in
       let whole : Took bytes (flat_map node_bytes (s.value ∷ b.0.0)) b.0.1 = subst (λ (x : List ℕ). Took bytes x b.0.1) (sym (flat_map-cons node_bytes s.value b.0.0)) both in
-      subst (λ (p : List NodeOf × List ℕ). Took bytes (flat_map node_bytes p.0) p.1 × AreNext fss least (suc n) p.0) (ok_is (s.value ∷ b.0.0, b.0.1) (xs, rest) b.2)
+      taken bytes (s.value ∷ b.0.0, b.0.1) (xs, rest) (flat_map node_bytes) (AreNext fss least (suc n)) b.2
       (whole, (ap suc t.1.0, ((s.allowed.0, t.1.1.0), (s.allowed.1, t.1.1.1))))
 
   nodes_again : (least : ℕ) (xs : List NodeOf) (rest : List ℕ) → NumbersRise least xs → AllByRecursion (IsNode fss) xs → nodes_at fss least (length xs) (flat_map node_bytes xs ++ rest) ≡ Ok (xs, rest)

@@ -16,7 +16,7 @@ use Rattle.ix_image.specs.Image.{is_size_of_file_system, is_size_of_file, is_cou
 use Rattle.ix_image.specs.Reading.{Read, ◌>>=◌, number_at, name_at, file_system_at, file_systems_at, link_at, links_at}
 use Rattle.ix_image.specs.Reading.{file_at, directory_at, held_at, flag_at, set_at, marks_at}
 use Rattle.ix_image.specs.Laws.{AreBytes}
-use Rattle.ix_image.proofs.Fielding.{OneField, Took, took_both, stepped, bind_ok, ok_is, bytes_field, word_field, number_field, small_field, name_field, label_field}
+use Rattle.ix_image.proofs.Fielding.{OneField, Took, took_both, stepped, bind_ok, taken, bytes_field, word_field, number_field, small_field, name_field, label_field}
 
 -- ---- tests
 -- what is within a range is at most the greatest
@@ -53,14 +53,14 @@ module _ {A : Type 0} (read : List ℕ → Read A) (write : A → List ℕ) (may
       × ((length xs ≡ n) × AllByRecursion may xs)
   many_take zero bytes xs rest are e =
       let whole : Took bytes [] bytes = record { parts = refl; are_bytes = are } in
-      subst (λ (p : List A × List ℕ). Took bytes (flat_map write p.0) p.1 × ((length p.0 ≡ 0) × AllByRecursion may p.0)) (ok_is ([], bytes) (xs, rest) (sym (none bytes) ∙ e)) (whole, (refl, tt))
+      taken bytes ([], bytes) (xs, rest) (flat_map write) (λ x. (length x ≡ 0) × AllByRecursion may x) (sym (none bytes) ∙ e) (whole, (refl, tt))
   many_take (suc n) bytes xs rest are e =
       let s = stepped one bytes (λ first. many n first.1 >>= λ others. Ok (first.0 ∷ others.0, others.1)) (xs, rest) are (sym (more n bytes) ∙ e) in
       let b = bind_ok (many n s.rest) (λ others. Ok (s.value ∷ others.0, others.1)) (xs, rest) s.next in
       let t = many_take n s.rest b.0.0 b.0.1 s.took.are_bytes b.1 in
       let both = took_both s.took t.0 in
       let whole : Took bytes (flat_map write (s.value ∷ b.0.0)) b.0.1 = subst (λ (x : List ℕ). Took bytes x b.0.1) (sym (flat_map-cons write s.value b.0.0)) both in
-      subst (λ (p : List A × List ℕ). Took bytes (flat_map write p.0) p.1 × ((length p.0 ≡ suc n) × AllByRecursion may p.0)) (ok_is (s.value ∷ b.0.0, b.0.1) (xs, rest) b.2)
+      taken bytes (s.value ∷ b.0.0, b.0.1) (xs, rest) (flat_map write) (λ x. (length x ≡ suc n) × AllByRecursion may x) b.2
       (whole, (ap suc t.1.0, (s.allowed, t.1.1)))
 
   pub many_again : (xs : List A) (rest : List ℕ) → AllByRecursion may xs → many (length xs) (flat_map write xs ++ rest) ≡ Ok (xs, rest)
@@ -94,7 +94,7 @@ file_system_field = record { takes = takes; again = again }
         let cd = took_both c.took d.took in
         let bd = took_both b.took cd in
         let ad = took_both a.took bd in
-        subst (λ (p : FsSpec × List ℕ). Took bytes (file_system_bytes p.0) p.1 × IsFileSystem p.0) (ok_is made (s, rest) d.next)
+        taken bytes made (s, rest) file_system_bytes IsFileSystem d.next
         (ad, record { name = a.allowed; ceiling = b.allowed; blocks = c.allowed; inodes = d.allowed })
 
     again : (s : FsSpec) (rest : List ℕ) → IsFileSystem s → file_system_at (file_system_bytes s ++ rest) ≡ Ok (s, rest)
@@ -135,7 +135,7 @@ link_field = record { takes = takes; again = again }
         let b = stepped word_field a.rest _ (l, rest) a.took.are_bytes a.next in
         let made : LinkOf × List ℕ = ((a.value, b.value), b.rest) in
         let ab = took_both a.took b.took in
-        subst (λ (p : LinkOf × List ℕ). Took bytes (link_bytes p.0) p.1 × IsLink p.0) (ok_is made (l, rest) b.next) (ab, record { name = a.allowed; object = b.allowed })
+        taken bytes made (l, rest) link_bytes IsLink b.next (ab, record { name = a.allowed; object = b.allowed })
 
     again : (l : LinkOf) (rest : List ℕ) → IsLink l → link_at (link_bytes l ++ rest) ≡ Ok (l, rest)
     again l rest is =
@@ -168,7 +168,7 @@ file_takes bytes h rest are e =
     let ab = took_both a.took b.took in
     let whole : Took bytes (held_bytes (Bytes b.value)) b.rest = subst (λ n. Took bytes (four n ++ b.value) b.rest) (sym b.allowed) ab in
     let few : is_size_of_file (length b.value) ≡ true = ap is_size_of_file b.allowed ∙ a.allowed in
-    subst (λ (p : Holds × List ℕ). Took bytes (held_bytes p.0) p.1 × (AreHeld p.0 × (are_links p.0 ≡ false))) (ok_is (Bytes b.value, b.rest) (h, rest) b.next) (whole, (few, refl))
+    taken bytes (Bytes b.value, b.rest) (h, rest) held_bytes (λ x. AreHeld x × (are_links x ≡ false)) b.next (whole, (few, refl))
 
 directory_takes : (bytes : List ℕ) (h : Holds) (rest : List ℕ) → AreBytes bytes → directory_at bytes ≡ Ok (h, rest) → Took bytes (held_bytes h) rest × (AreHeld h × (are_links h ≡ true))
 unfolding directory_at
@@ -178,7 +178,7 @@ directory_takes bytes h rest are e =
     let ab = took_both a.took b.took in
     let whole : Took bytes (held_bytes (Links b.value)) b.rest = subst (λ n. Took bytes (four n ++ flat_map link_bytes b.value) b.rest) (sym b.allowed.0) ab in
     let few : is_count_of_names (length b.value) ≡ true = ap is_count_of_names b.allowed.0 ∙ a.allowed in
-    subst (λ (p : Holds × List ℕ). Took bytes (held_bytes p.0) p.1 × (AreHeld p.0 × (are_links p.0 ≡ true))) (ok_is (Links b.value, b.rest) (h, rest) b.next) (whole, ((few, b.allowed.1), refl))
+    taken bytes (Links b.value, b.rest) (h, rest) held_bytes (λ x. AreHeld x × (are_links x ≡ true)) b.next (whole, ((few, b.allowed.1), refl))
 
 file_again : (x rest : List ℕ) → is_size_of_file (length x) ≡ true → file_at (held_bytes (Bytes x) ++ rest) ≡ Ok (Bytes x, rest)
 unfolding file_at
@@ -228,7 +228,7 @@ flag_field = record { takes = takes; again = again }
     takes bytes b rest are e =
         let s = stepped (small_field 1) bytes (λ n. Ok (n.0 == 1, n.1)) (b, rest) are e in
         let whole : Took bytes (flag (s.value == 1) ∷ []) s.rest = subst (λ n. Took bytes (n ∷ []) s.rest) (sym (flag_back s.value s.allowed)) s.took in
-        subst (λ (p : Bool × List ℕ). Took bytes (flag p.0 ∷ []) p.1 × Unit {0}) (ok_is (s.value == 1, s.rest) (b, rest) s.next) (whole, tt)
+        taken bytes (s.value == 1, s.rest) (b, rest) (λ x. flag x ∷ []) (λ x. Unit {0}) s.next (whole, tt)
 
     again : (b : Bool) (rest : List ℕ) → Unit {0} → flag_at ((flag b ∷ []) ++ rest) ≡ Ok (b, rest)
     again b rest is = rw ((small_field 1).again (flag b) rest (flag_low b), flag_again b) refl
@@ -247,7 +247,7 @@ set_field = record { takes = takes; again = again }
     takes bytes set rest are e =
         let s = stepped (small_field 31) bytes (λ n. Ok (record { 0 = n.0 }, n.1)) (set, rest) are e in
         let made : PrivSet = record { 0 = s.value } in
-        subst (λ (p : PrivSet × List ℕ). Took bytes (p.0.0 ∷ []) p.1 × (p.0.0 < 32)) (ok_is (made, s.rest) (set, rest) s.next) (s.took, below_32 s.value s.allowed)
+        taken bytes (made, s.rest) (set, rest) (λ x. x.0 ∷ []) (λ x. x.0 < 32) s.next (s.took, below_32 s.value s.allowed)
 
     again : (set : PrivSet) (rest : List ℕ) → set.0 < 32 → set_at ((set.0 ∷ []) ++ rest) ≡ Ok (set, rest)
     again set rest is = rw ((small_field 31).again set.0 rest (most_31 set.0 is)) refl
@@ -270,7 +270,7 @@ marks_field = record { takes = takes; again = again }
         let cd = took_both c.took d.took in
         let bd = took_both b.took cd in
         let ad = took_both a.took bd in
-        subst (λ (p : Marks × List ℕ). Took bytes (marks_bytes p.0) p.1 × AreMarks p.0) (ok_is made (m, rest) d.next) (ad, (c.allowed, d.allowed))
+        taken bytes made (m, rest) marks_bytes AreMarks d.next (ad, (c.allowed, d.allowed))
 
     again : (m : Marks) (rest : List ℕ) → AreMarks m → marks_at (marks_bytes m ++ rest) ≡ Ok (m, rest)
     again m rest is = rw (
