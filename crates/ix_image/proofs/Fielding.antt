@@ -1,17 +1,13 @@
 -- Fields: what is read is what was written, and what was written is read.
-use Rattle.std.proofs.Common.{◌≡◌, ℕ, suc, ◌+◌, ◌^◌, ◌<◌, ◌≤◌, Bool, true, false, cond, ltb, leb, List, [], ◌∷◌, ◌++◌, length, take, drop, Result, Ok, Err}
-use Rattle.std.proofs.Common.{refl, sym, ap, subst, ◌∙◌, append_assoc, arith, inl, inr}
+use Rattle.std.proofs.Common.{◌≡◌, ℕ, suc, ◌+◌, ◌^◌, ◌<◌, ◌≤◌, Bool, true, false, cond, ltb, leb, List, [], ◌∷◌, ◌++◌, length, take, drop, Result, Ok, Err, sym}
+use Rattle.std.proofs.Common.{refl, ap, subst, ◌∙◌, append_assoc, arith, inl, inr}
 use Rattle.std.specs.Int.{w32, from_be_bytes}
-use Rattle.std.proofs.lemmas.Bool.{cases_lt, ltb-false, le-ltb, leb-true, le-leb}
+use Rattle.std.proofs.lemmas.{Bool.{cases_lt, ltb-false, le-ltb, leb-true, le-leb}, Nat.{be_bytes_4, from_be_bytes-to_be_bytes_4}}
 use Rattle.std.proofs.lemmas.List.{take_at, drop_at, take-append-drop, length-append, length-take, get_or-drop, get_or-take, get_or_past, get_or_append_left}
-use Rattle.std.proofs.lemmas.Nat.{be_bytes_4, from_be_bytes-to_be_bytes_4}
-use Rattle.ix_image.specs.declared.fault.Fault.{Fault}
-use Rattle.ix_label.specs.Category.{Categories, IsLabel, leq}
-use Rattle.ix_image.specs.Image.{four, name_bytes}
-use Rattle.ix_image.specs.Labelled.{label_bytes, label_in}
-use Rattle.ix_image.specs.Reading.{Read, ◌>>=◌, breaks, ends, bytes_at, word_at, number_at, small_at, text_at, name_at, label_at, label_below_at}
-use Rattle.ix_image.specs.Laws.{AreBytes}
+use Rattle.ix_image.specs.{declared.fault.Fault.Fault, Image.{four, name_bytes}, Labelled.{label_bytes, label_in}, Laws.AreBytes}
 use Rattle.ix_image.proofs.Labelling.{bytes_back, label_back, is_label_in, length-label_bytes}
+use Rattle.ix_label.specs.Category.{Categories, IsLabel, leq}
+use Rattle.ix_image.specs.Reading.{Read, ◌>>=◌, breaks, ends, bytes_at, word_at, number_at, small_at, text_at, name_at, label_at, label_below_at}
 
 -- ---- bytes
 pub bytes-drop : (n : ℕ) (bytes : List ℕ) → AreBytes bytes → AreBytes (drop n bytes)

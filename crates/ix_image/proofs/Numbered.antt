@@ -1,16 +1,12 @@
 -- Objects: what is read is what was written, and what was written is read.
-use Rattle.std.proofs.Common.{◌≡◌, ℕ, zero, suc, ◌+◌, ◌^◌, ◌<◌, ◌≤◌, true, cond, leb, ltb, ◌&&◌, List, [], ◌∷◌, ◌++◌, length, Ok, Err, refl, sym, ap, subst, ◌∙◌, append_assoc, arith}
+use Rattle.std.proofs.Common.{◌≡◌, ℕ, zero, suc, ◌+◌, ◌^◌, ◌<◌, ◌≤◌, true, cond, leb, ltb, ◌&&◌, List, [], ◌∷◌, ◌++◌, length, Ok, Err, refl, sym, ap, subst}
+use Rattle.std.proofs.Common.{◌∙◌, append_assoc, arith}
 use Rattle.std.specs.List.{flat_map, AllByRecursion}
-use Rattle.std.proofs.lemmas.Bool.{and_parts, and_from, leb-true, le-leb, ltb-true, lt-ltb}
-use Rattle.std.proofs.lemmas.List.Concat.{flat_map-cons}
-use Rattle.ix_model.specs.world.World.{fs_at}
-use Rattle.ix_model.specs.declared.config.FsSpec.{FsSpec}
-use Rattle.ix_image.specs.Trees.{NodeOf, are_links, inodes_in, home}
-use Rattle.ix_image.specs.declared.marks.Marks.{Marks}
-use Rattle.ix_image.specs.Labelled.{label_bytes}
+use Rattle.std.proofs.lemmas.{Bool.{and_parts, and_from, leb-true, le-leb, ltb-true, lt-ltb}, List.Concat.flat_map-cons}
+use Rattle.ix_model.specs.{world.World.fs_at, declared.config.FsSpec.FsSpec}
+use Rattle.ix_image.specs.{Trees.{NodeOf, are_links, inodes_in, home}, declared.marks.Marks.Marks, Labelled.label_bytes, Laws.AreBytes}
 use Rattle.ix_image.specs.Image.{four, held_bytes, marks_bytes, marks_of, node_bytes, IsNode, NumbersRise}
 use Rattle.ix_image.specs.Reading.{◌>>=◌, breaks, order_at, node_at, nodes_at}
-use Rattle.ix_image.specs.Laws.{AreBytes}
 use Rattle.ix_image.proofs.Fielding.{OneField, Took, took_both, stepped, bind_ok, guard_ok, taken, word_field, label_below_field}
 use Rattle.ix_image.proofs.Objects.{marks_field, held_field}
 

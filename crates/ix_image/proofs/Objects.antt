@@ -1,22 +1,16 @@
 -- File systems, names and objects: what is read is what was written, and what was written is read.
-use Rattle.std.proofs.Common.{◌≡◌, ℕ, zero, suc, ◌<◌, ◌≤◌, Bool, true, false, leb, ◌==◌, List, [], ◌∷◌, ◌++◌, length, Ok, refl, sym, ap, subst, ◌∙◌, append_assoc, arith}
-use Rattle.std.specs.List.{flat_map, AllByRecursion}
-use Rattle.std.proofs.lemmas.Bool.{and_parts, leb-true}
-use Rattle.std.proofs.lemmas.List.Concat.{flat_map-cons}
-use Rattle.ix_model.specs.opening.Valid.{is_within}
-use Rattle.ix_model.specs.world.Naming.{is_name}
-use Rattle.ix_model.specs.declared.config.FsSpec.{FsSpec}
+use Rattle.std.proofs.Common.{◌≡◌, ℕ, zero, suc, ◌<◌, ◌≤◌, Bool, true, false, leb, ◌==◌, List, [], ◌∷◌, ◌++◌, length, Ok, refl, sym, ap, subst, ◌∙◌, arith}
+use Rattle.std.proofs.Common.{append_assoc}
+use Rattle.std.{specs.List.{flat_map, AllByRecursion}, proofs.lemmas.{Bool.{and_parts, leb-true}, List.Concat.flat_map-cons}}
+use Rattle.ix_model.specs.{opening.Valid.is_within, world.Naming.is_name, declared.{config.FsSpec.FsSpec, privs.PrivSet.PrivSet}}
 use Rattle.ix_text.specs.Names.{is_script_name}
-use Rattle.ix_model.specs.declared.privs.PrivSet.{PrivSet}
-use Rattle.ix_image.specs.declared.marks.Marks.{Marks}
-use Rattle.ix_image.specs.Trees.{LinkOf, Holds, Bytes, Links, are_links}
-use Rattle.ix_image.specs.Labelled.{label_bytes}
-use Rattle.ix_image.specs.Image.{four, name_bytes, file_system_bytes, link_bytes, held_bytes, flag, marks_bytes, IsFileSystem, IsLink, AreHeld}
-use Rattle.ix_image.specs.Image.{is_size_of_file_system, is_size_of_file, is_count_of_names}
-use Rattle.ix_image.specs.Reading.{Read, ◌>>=◌, number_at, name_at, file_system_at, file_systems_at, link_at, links_at}
-use Rattle.ix_image.specs.Reading.{file_at, directory_at, held_at, flag_at, set_at, marks_at}
-use Rattle.ix_image.specs.Laws.{AreBytes}
-use Rattle.ix_image.proofs.Fielding.{OneField, Took, took_both, stepped, bind_ok, taken, bytes_field, word_field, number_field, small_field, name_field, label_field}
+use Rattle.ix_image.specs.{declared.marks.Marks.Marks, Trees.{LinkOf, Holds, Bytes, Links, are_links}, Labelled.label_bytes, Laws.AreBytes}
+use Rattle.ix_image.specs.Image.{four, name_bytes, file_system_bytes, link_bytes, held_bytes, flag, marks_bytes, IsFileSystem, IsLink, AreHeld, is_size_of_file}
+use Rattle.ix_image.specs.Image.{is_size_of_file_system, is_count_of_names}
+use Rattle.ix_image.specs.Reading.{Read, ◌>>=◌, number_at, name_at, file_system_at, file_systems_at, link_at, links_at, file_at, directory_at, held_at, flag_at}
+use Rattle.ix_image.specs.Reading.{set_at, marks_at}
+use Rattle.ix_image.proofs.Fielding.{OneField, Took, took_both, stepped, bind_ok, taken, bytes_field, word_field, number_field, small_field, name_field}
+use Rattle.ix_image.proofs.Fielding.{label_field}
 
 -- ---- tests
 -- what is within a range is at most the greatest

@@ -1,21 +1,16 @@
 -- The whole image: what is read is what was written, and what was written is read.
-use Rattle.std.proofs.Common.{◌≡◌, ℕ, ◌*◌, ◌^◌, ◌<◌, ◌≤◌, Bool, true, false, cond, ltb, eqb, ◌==◌, List, [], ◌∷◌, ◌++◌, length, drop, Some, None, Result, Ok, Err, refl, sym, ap, subst, ◌∙◌, arith}
-use Rattle.std.specs.Prelude.{◌↔◌}
-use Rattle.std.specs.List.{flat_map, AllByRecursion}
-use Rattle.std.proofs.lemmas.Bool.{ltb-false, le-ltb, eqb-true, eq-eqb, le-leb, and_from}
-use Rattle.std.proofs.lemmas.List.{append-nil, nil_from_length, length-append}
-use Rattle.std.proofs.lemmas.List.Sums.{sum_by-cons}
-use Rattle.ix_model.specs.opening.Valid.{is_within}
-use Rattle.ix_model.specs.declared.config.FsSpec.{FsSpec}
-use Rattle.ix_image.specs.declared.fault.Fault.{Fault}
-use Rattle.ix_image.specs.Trees.{TreeOf, inodes_in}
-use Rattle.ix_image.specs.Fitting.{names_fit}
-use Rattle.ix_image.specs.Image.{first_bytes, four, file_system_bytes, node_bytes, image_of, is_count_of_file_systems, longest, IsFileSystem, IsNode, NumbersRise, IsTree, IsSound}
-use Rattle.ix_image.specs.Reading.{◌>>=◌, breaks, ends, same_at, start_at, number_at, file_systems_at, nodes_at, fields_of, tree_in, told_fault, fault_in, image_fault}
-use Rattle.ix_image.specs.Laws.{AreBytes, IsImage}
-use Rattle.ix_image.proofs.Fielding.{OneField, Took, took_both, stepped, bind_ok, guard_ok, ok_is, bytes-rest, number_field}
+use Rattle.std.proofs.Common.{◌≡◌, ℕ, ◌*◌, ◌^◌, ◌<◌, ◌≤◌, Bool, true, false, cond, ltb, eqb, ◌==◌, List, [], ◌∷◌, ◌++◌, length, drop, Some, None, Result, Ok}
+use Rattle.std.proofs.Common.{Err, refl, sym, ap, subst, ◌∙◌, arith}
+use Rattle.std.{specs.{Prelude.{◌↔◌}, List.{flat_map, AllByRecursion}}, proofs.lemmas.Bool.{ltb-false, le-ltb, eqb-true, eq-eqb, le-leb, and_from}}
+use Rattle.std.{proofs.lemmas.List.{append-nil, nil_from_length, length-append}, proofs.lemmas.List.Sums.sum_by-cons}
+use Rattle.ix_model.specs.{opening.Valid.is_within, declared.config.FsSpec.FsSpec}
+use Rattle.ix_image.specs.{declared.fault.Fault.Fault, Trees.{TreeOf, inodes_in}, Fitting.names_fit, Laws.{AreBytes, IsImage}}
+use Rattle.ix_image.specs.Image.{first_bytes, four, file_system_bytes, node_bytes, image_of, is_count_of_file_systems, longest, IsFileSystem, IsNode, IsTree}
+use Rattle.ix_image.specs.Image.{NumbersRise, IsSound}
+use Rattle.ix_image.specs.Reading.{◌>>=◌, breaks, ends, same_at, start_at, number_at, file_systems_at, nodes_at, fields_of, tree_in, told_fault, fault_in}
+use Rattle.ix_image.specs.Reading.{image_fault}
+use Rattle.ix_image.proofs.{Fielding.{OneField, Took, took_both, stepped, bind_ok, guard_ok, ok_is, bytes-rest, number_field}, Numbered.nodes_field}
 use Rattle.ix_image.proofs.Objects.{most_within, file_systems_field}
-use Rattle.ix_image.proofs.Numbered.{nodes_field}
 
 -- ---- the first bytes
 same_takes : (wanted bytes rest : List ℕ) → AreBytes bytes → same_at wanted bytes ≡ Ok rest → Took bytes wanted rest
