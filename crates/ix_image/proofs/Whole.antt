@@ -108,7 +108,8 @@ record Objects (fss : List FsSpec) (bytes : List ℕ) (t : TreeOf) : Type 0 wher
 objects_take : (fss : List FsSpec) (bytes : List ℕ) (t : TreeOf) → inodes_in fss < 2 ^ 32 → AreBytes bytes → after_systems (fss, bytes) ≡ Ok t → Objects fss bytes t
 objects_take fss bytes t few are e =
     let d = stepped (objects_field (inodes_in fss) few) bytes _ t are e in
-    let f = stepped (nodes_field fss (low_inodes (inodes_in fss) few) d.value 0) d.rest (λ nodes. cond (length nodes.1 == 0) (Ok (record { fss = fss; nodes = nodes.0 })) (Err (breaks 7 nodes.1))) t d.took.are_bytes d.next in
+    let f = stepped (nodes_field fss (low_inodes (inodes_in fss) few) d.value 0) d.rest (λ nodes. cond (length nodes.1 == 0) (Ok (record { fss = fss; nodes = nodes.0 })) (Err (breaks 7 nodes.1)))
+    t d.took.are_bytes d.next in
     let g = guard_ok (length f.rest == 0) (breaks 7 f.rest) (record { fss = fss; nodes = f.value }) t f.next in
     let number : Took bytes (four (length f.value)) d.rest = subst (λ n. Took bytes (four n) d.rest) (sym f.allowed.0) d.took in
     let made : Objects fss bytes (record { fss = fss; nodes = f.value }) = record {
