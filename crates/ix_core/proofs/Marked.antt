@@ -1,40 +1,25 @@
 -- What a call makes of the marks.
-use Rattle.std.proofs.Common.{◌≡◌, ◌==◌, ◌&&◌, ◌||◌, ◌≤◌, ◌<◌, ℕ, Bool, true, false, not, true≢false, List, length, count_by, Option, Some, None}
-use Rattle.std.proofs.Common.{is_some, option_map, if◌then◌else◌, refl, sym, ap, ◌∙◌, subst, arith, inl, inr}
-use Rattle.std.specs.Option.{option_map_or}
-use Rattle.std.proofs.lemmas.Bool.{and_parts, or_cases, not-true, eqb-true}
-use Rattle.ix_label.specs.Category.{Categories, bottom, same}
-use Rattle.ix_label.specs.Lattice.{same-decides}
+use Rattle.std.proofs.Common.{◌≡◌, ◌==◌, ◌&&◌, ◌||◌, ◌≤◌, ◌<◌, ℕ, Bool, true, false, not, true≢false, List, length, count_by, Option, Some, None, is_some, refl}
+use Rattle.std.proofs.Common.{option_map, if◌then◌else◌, sym, ap, ◌∙◌, subst, arith, inl, inr}
+use Rattle.std.{specs.Option.option_map_or, proofs.lemmas.Bool.{and_parts, or_cases, not-true, eqb-true}}
+use Rattle.ix_label.specs.{Category.{Categories, bottom, same}, Lattice.same-decides}
 use Rattle.ix_float.specs.declared.mark.Way.{Way}
 use Rattle.ix_float.specs.declared.mark.Way.TheVariants as way
-use Rattle.ix_model.specs.world.World.{World, Frame, Object, Process, Open, at, living, lives}
-use Rattle.ix_model.specs.rows.Walks.{OpenFile, behind}
-use Rattle.ix_model.specs.history.AuditLog.{label_at, of_process}
-use Rattle.ix_model.specs.history.Events.{Op, Event}
+use Rattle.ix_model.specs.{world.World.{World, Frame, Object, Process, Open, at, living, lives}, rows.Walks.{OpenFile, behind}, laws.Sound.Sound}
+use Rattle.ix_model.specs.history.{AuditLog.{label_at, of_process}, Events.{Op, Event}, Freshness.{refreshes, closes}, Step.step}
+use Rattle.ix_model.specs.declared.{ids.Fd.Fd, reply.Reply.Reply}
 use Rattle.ix_model.specs.history.Events as op
-use Rattle.ix_model.specs.history.Freshness.{refreshes, closes}
-use Rattle.ix_model.specs.history.Step.{step}
-use Rattle.ix_model.specs.laws.Sound.{Sound}
-use Rattle.ix_model.specs.declared.ids.Fd.{Fd}
-use Rattle.ix_model.specs.declared.reply.Reply.{Reply}
 use Rattle.ix_model.specs.declared.reply.Reply.TheVariants as reply
-use Rattle.ix_model.proofs.frames.Claimants.{is_behind}
-use Rattle.ix_model.proofs.tables.Finds.{in_table}
-use Rattle.ix_model.proofs.words.Fixed.{fixed_step}
-use Rattle.ix_model.proofs.words.Living.{is_living, not_ended}
-use Rattle.ix_fresh.specs.Laws.{Spot, KnownChangesNothing, spot_behind}
+use Rattle.ix_model.proofs.{frames.Claimants.is_behind, tables.Finds.in_table, words.{Fixed.fixed_step, Living.{is_living, not_ended}}}
+use Rattle.ix_fresh.specs.{Laws.{Spot, KnownChangesNothing, spot_behind}, Touched.{target, entry_target, label_of_entry, is_one, touches}}
+use Rattle.ix_fresh.proofs.{Freshly.{read_facts, write_facts}, Remaining.turned}
 use Rattle.ix_fresh.specs.Laws as laws
-use Rattle.ix_fresh.specs.Touched.{target, entry_target, label_of_entry, is_one, touches}
-use Rattle.ix_fresh.proofs.Freshly.{read_facts, write_facts}
-use Rattle.ix_fresh.proofs.Remaining.{turned}
 use Rattle.ix_fcalls.specs.Tested.{IsKnown}
 use Rattle.ix_marks.specs.Known.{Known, spot_of, has_row}
 use Rattle.ix_marks.specs.declared.row.Spot as marked
-use Rattle.ix_core.specs.Marking.{way_of, spot_in, sizes_of, AreReady, AreKnown, AreTold, CanRefresh, call_by, mark_through, spot_through}
-use Rattle.ix_core.specs.Marking.{other_process, other_object, other_entry, unless_object, unless_entry, unless_closed, has_exited, refreshed}
-use Rattle.ix_core.specs.Marking.{or_refreshed}
-use Rattle.ix_core.proofs.Living.{lives_on}
-use Rattle.ix_core.proofs.Unmoved.{known_still, self_still}
+use Rattle.ix_core.specs.Marking.{way_of, spot_in, sizes_of, AreReady, AreKnown, AreTold, CanRefresh, call_by, mark_through, spot_through, other_process}
+use Rattle.ix_core.specs.Marking.{other_object, other_entry, unless_object, unless_entry, unless_closed, has_exited, refreshed, or_refreshed}
+use Rattle.ix_core.proofs.{Living.lives_on, Unmoved.{known_still, self_still}}
 
 abbrev Mark : Type 0
 Mark = Option marked.Spot

@@ -2,16 +2,13 @@ ghost use Rattle.std.specs.Prelude.{◌≡◌, ◌≤◌, ◌<◌, ◌+◌, ◌-
 ghost use Rattle.std.proofs.Common.{option_map};
 ghost use Rattle.ix_float.specs.declared.mark.Way as way_type;
 ghost use Rattle.ix_model.specs.declared.ids.Fd as fd_type;
-ghost use Rattle.ix_model.specs.history.AuditLog.{label_at};
-ghost use Rattle.ix_model.specs.history.Calls.{op_of};
+ghost use Rattle.ix_model.specs.{history.{AuditLog.{label_at}, Calls.{op_of}, Step.{step}}, laws.Sound.{Sound}};
 ghost use Rattle.ix_model.specs.history.Events as op;
-ghost use Rattle.ix_model.specs.history.Step.{step};
-ghost use Rattle.ix_model.specs.laws.Sound.{Sound};
-ghost use Rattle.ix_fresh.specs.Laws.{spot_behind};
-ghost use Rattle.ix_fresh.specs.Touched.{label_of_entry};
+ghost use Rattle.ix_fresh.specs.{Laws.{spot_behind}, Touched.{label_of_entry}};
 ghost use Rattle.ix_fcalls.specs.Filed.{Answers};
 ghost use Rattle.ix_marks.specs.Known.{spot_of, has_row};
-ghost use Rattle.ix_core.specs.Marking.{spot_in, AreReady, AreKnown, AreTold, IsBefore, CanRefresh, mark_through, spot_through, other_process, other_object, other_entry, unless_object, unless_entry, unless_closed, has_exited, refreshed, or_refreshed};
+ghost use Rattle.ix_core.specs.Marking.{spot_in, AreReady, AreKnown, AreTold, IsBefore, CanRefresh, mark_through, spot_through, other_process, other_object};
+ghost use Rattle.ix_core.specs.Marking.{other_entry, unless_object, unless_entry, unless_closed, has_exited, refreshed, or_refreshed};
 
 use ix_float::Way;
 use ix_fresh::laws::known_changes_nothing;
