@@ -1,12 +1,7 @@
-use Rattle.std.proofs.Common.{◌≡◌, [], ◌∙◌, arith, cond, map, nat_lt, refl, set}
-use Rattle.std.proofs.lemmas.Bool.{lt-ltb, le-ltb}
-use Rattle.std.proofs.lemmas.List.{map-set}
-use Rattle.std.specs.Option.{option_map_or}
+use Rattle.std.{proofs.{Common.{◌≡◌, [], ◌∙◌, arith, cond, map, nat_lt, refl, set}, lemmas.{Bool.{lt-ltb, le-ltb}, List.map-set}}, specs.Option.option_map_or}
 use Rattle.ix_script.specs.texts.Cutting.{pieces}
+use Rattle.ix_script.proofs.{lines.Deciding.none_there, texts.Words.{begin, next, ended, room}, words.cut_into.Goals.{then-count-lt8, else-count-lt8}}
 use Rattle.ix_script.specs.declared.words.Spot.TheVariants as spot
-use Rattle.ix_script.proofs.lines.Deciding.{none_there}
-use Rattle.ix_script.proofs.texts.Words.{begin, next, ended, room}
-use Rattle.ix_script.proofs.words.cut_into.Goals.{then-count-lt8, else-count-lt8}
 use Rattle.ix_script.proofs.words.cut_into.Goals as goal
 
 pub words-init : goal.words-init

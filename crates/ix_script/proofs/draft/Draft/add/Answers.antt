@@ -1,13 +1,6 @@
 use Rattle.std.proofs.Common.{◌≡◌, List, [], ◌∷◌, ◌++◌, sym, ap, ◌∙◌, arith}
-use Rattle.ix_script.specs.lines.Before.{form_told}
-use Rattle.ix_script.specs.lines.Roles.{role_of}
-use Rattle.ix_script.specs.scripts.Need.{cost_of_line}
-use Rattle.ix_script.specs.scripts.Packed.{line_in}
-use Rattle.ix_script.specs.declared.line.Line.{Line}
-use Rattle.ix_script.proofs.reader.Counting.{few_commands}
-use Rattle.ix_script.proofs.reader.Keeping.{few_names, few_objects}
-use Rattle.ix_script.proofs.lines.Deciding.{none_there}
-use Rattle.ix_script.proofs.reader.Packing.{right_line}
+use Rattle.ix_script.specs.{lines.{Before.form_told, Roles.role_of}, scripts.{Need.cost_of_line, Packed.line_in}, declared.line.Line.Line}
+use Rattle.ix_script.proofs.{reader.{Counting.few_commands, Keeping.{few_names, few_objects}, Packing.right_line}, lines.Deciding.none_there}
 use Rattle.ix_script.proofs.draft.Draft.add.Goals as goal
 
 pub add-requires-clause-objects : goal.add-requires-clause-objects

@@ -1,6 +1,5 @@
 use Rattle.std.proofs.Common.{sym, ◌∙◌, subst}
-use Rattle.ix_script.specs.scripts.Schedule.{SeatsDiffer}
-use Rattle.ix_script.proofs.reader.Seats.{seats_differ}
+use Rattle.ix_script.{specs.scripts.Schedule.SeatsDiffer, proofs.reader.Seats.seats_differ}
 use Rattle.ix_script.proofs.script.Script.of.Goals as goal
 
 pub of-requires-clause-differ : goal.of-requires-clause-differ
