@@ -17,4 +17,4 @@ returns-in_err-draft-clause-fail g c =
 pub returns-clause-script : goal.returns-clause-script
 returns-clause-script g c =
     script_is c.args.bytes.now c.in_ok-draft.draft.lines c.if-bytes-gt16777216.false c.in_ok-draft.ensures.faultless c.in_ok-draft.ensures.said
-    ∙ ap (λ (ls : List Line). Some ls) (sym c.in_ok-script.ensures)
+    ∙ ap (λ (ls : List Line). Some ls) (sym (c.in_ok-script.ensures ∙ c.parts-lines.ensures.lines))
