@@ -72,19 +72,22 @@ impl<'a> Model for Words<'a> {
     ghost invariant = { λ w. AreWords (words_of w.text.now) (map (λ s. s.now) w.first) w.seen.count w.seen.has_empty w.seen.has_open };
 }
 
-/// Where the first word ends that no quotes begin. A search for many bytes at a time costs more than most words do.
+/// Where the first word ends that no quotes begin. Most words end within a few bytes, in less time than a search for many
+/// bytes at a time begins.
 fn end_of_plain(text: &[u8]) -> usize
     ensures { result ≡ end_from spot.Plain text.now }
 {
-    if text.len() > 128 {
-        return memchr(b' ', text).unwrap_or(text.len());
-    }
-    'bytes: for (i, b) in text.iter().enumerate() {
-        if *b == b' ' {
+    let near = text.len().min(16);
+    'bytes: for i in 0..near {
+        if text[i] == b' ' {
             return i;
         }
     }
-    text.len()
+    let far = &text[near..];
+    if far.is_empty() {
+        return near;
+    }
+    near + memchr(b' ', far).unwrap_or(far.len())
 }
 
 /// Where the first word ends that quotes may begin.
