@@ -72,8 +72,7 @@ impl<'a> Model for Words<'a> {
     ghost invariant = { λ w. AreWords (words_of w.text.now) (map (λ s. s.now) w.first) w.seen.count w.seen.has_empty w.seen.has_open };
 }
 
-/// Where the first word ends that no quotes begin. Most words end within a few bytes, in less time than a search for many
-/// bytes at a time begins.
+/// Where the first word ends that no quotes begin. Most end within a few bytes, before a search for many at a time pays.
 fn end_of_plain(text: &[u8]) -> usize
     ensures { result ≡ end_from spot.Plain text.now }
 {
