@@ -64,8 +64,7 @@ impl<'a> Draft<'a> {
         self.header.add(alloc, first, line)?;
         self.body.add(alloc, line)?;
         self.lines
-            .push(form, text, role_of(line), cost_of_line(line))?;
-        Ok(())
+            .push(form, text, role_of(line), cost_of_line(line))
     }
 
     /// The fault of the next line, by the rule that it breaks.
