@@ -124,7 +124,7 @@ impl<'a> Draft<'a> {
         self.lines.push(self.lines.form(), text, Role::Lane, 0)
     }
 
-    /// The line of a form that is no entry beyond doubt; else its fault by the rules on what it says.
+    /// Adds the line of a form whose words break no rule by themselves, or tells its fault. No other line clears room for it.
     #[inline(never)]
     fn add_formed<L: Ledger>(
         &mut self,
