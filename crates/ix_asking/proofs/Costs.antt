@@ -1,25 +1,16 @@
 -- What the calls that are asked for cost, where none is answered more bytes than a read may give.
 use Rattle.std.proofs.Common.{ℕ, ◌+◌, ◌≤◌, ◌<◌, ◌^◌, Bool, true, false, List, [], ◌∷◌, ◌++◌, length, min, codes, arith, if◌then◌else◌}
-use Rattle.std.specs.Fmt.{decimal}
-use Rattle.std.proofs.lemmas.Fmt.{length-decimal-le}
-use Rattle.std.proofs.lemmas.List.{length-append}
+use Rattle.std.{specs.Fmt.decimal, proofs.lemmas.{Fmt.length-decimal-le, List.length-append}}
 use Rattle.ix_label.specs.Category.{Categories}
-use Rattle.ix_model.specs.history.Cost.{cost_of}
-use Rattle.ix_model.specs.history.Events.{Op}
+use Rattle.ix_model.specs.{history.{Cost.cost_of, Events.Op}, rows.Refusals.number_of}
+use Rattle.ix_model.specs.declared.{ids.{Fd.Fd, Pid.Pid}, refusal.Refusal.Refusal, reply.Reply.Reply}
 use Rattle.ix_model.specs.history.Events as op
-use Rattle.ix_model.specs.rows.Refusals.{number_of}
-use Rattle.ix_model.specs.declared.ids.Fd.{Fd}
-use Rattle.ix_model.specs.declared.ids.Pid.{Pid}
-use Rattle.ix_model.specs.declared.refusal.Refusal.{Refusal}
 use Rattle.ix_model.specs.declared.refusal.Refusal.TheVariants as refusal
-use Rattle.ix_model.specs.declared.reply.Reply.{Reply}
 use Rattle.ix_model.specs.declared.reply.Reply.TheVariants as reply
 use Rattle.ix_policy.specs.declared.request.Verdict.{Verdict}
-use Rattle.ix_asking.specs.declared.serving.outcome.Outcome.{Outcome}
-use Rattle.ix_asking.specs.declared.serving.outcome.Outcome.TheVariants as outcome
-use Rattle.ix_asking.specs.Asking.{Answered, Asking, Done, Ask, mapped}
-use Rattle.ix_asking.specs.Copies.{copies, write_all}
+use Rattle.ix_asking.specs.{declared.serving.outcome.Outcome.Outcome, Asking.{Answered, Asking, Done, Ask, mapped}, Copies.{copies, write_all}}
 use Rattle.ix_asking.specs.serving.Serving.{OnMessage, Server, claim, if_refused, on_claim, on_verdict, read, tell, told_text}
+use Rattle.ix_asking.specs.declared.serving.outcome.Outcome.TheVariants as outcome
 
 -- so many bytes are no more than a read may give
 abbrev pub AreFew : Op → ℕ → Type 0

@@ -1,10 +1,8 @@
 -- What holds of every call that is asked for, whatever the answers are.
 use Rattle.std.proofs.Common.{Bool, true, false, if◌then◌else◌}
-use Rattle.ix_model.specs.declared.refusal.Refusal.{Refusal}
-use Rattle.ix_model.specs.declared.reply.Reply.{Reply}
+use Rattle.ix_model.specs.declared.{refusal.Refusal.Refusal, reply.Reply.Reply}
 use Rattle.ix_model.specs.declared.reply.Reply.TheVariants as reply
-use Rattle.ix_asking.specs.Asking.{Asked, Answered, Asking, Done, Ask, followed, mapped}
-use Rattle.ix_asking.specs.serving.Serving.{if_refused}
+use Rattle.ix_asking.specs.{Asking.{Asked, Answered, Asking, Done, Ask, followed, mapped}, serving.Serving.if_refused}
 
 -- each call that is asked for is such a call
 abbrev pub AllOf : {R : Type 0} → (Asked → Type 0) → Asking R → Type 0

@@ -1,15 +1,12 @@
 -- How many calls are asked for at most, whatever they are answered.
 use Rattle.std.proofs.Common.{ℕ, zero, suc, ◌≤◌, Bool, true, false, List, arith, if◌then◌else◌}
 use Rattle.ix_label.specs.Category.{Categories}
-use Rattle.ix_model.specs.declared.ids.Pid.{Pid}
-use Rattle.ix_model.specs.declared.refusal.Refusal.{Refusal}
-use Rattle.ix_model.specs.declared.reply.Reply.{Reply}
+use Rattle.ix_model.specs.declared.{ids.Pid.Pid, refusal.Refusal.Refusal, reply.Reply.Reply}
 use Rattle.ix_model.specs.declared.reply.Reply.TheVariants as reply
 use Rattle.ix_policy.specs.declared.request.Verdict.{Verdict}
-use Rattle.ix_asking.specs.Asking.{Answered, Asking, Done, Ask, mapped}
-use Rattle.ix_asking.specs.declared.serving.outcome.Outcome.{Outcome}
-use Rattle.ix_asking.specs.declared.serving.outcome.Outcome.TheVariants as outcome
+use Rattle.ix_asking.specs.{Asking.{Answered, Asking, Done, Ask, mapped}, declared.serving.outcome.Outcome.Outcome}
 use Rattle.ix_asking.specs.serving.Serving.{OnMessage, Server, claim, if_refused, on_claim, on_verdict, read, tell}
+use Rattle.ix_asking.specs.declared.serving.outcome.Outcome.TheVariants as outcome
 
 -- at most so many calls are asked for
 abbrev pub Few : {R : Type 0} → ℕ → Asking R → Type 0

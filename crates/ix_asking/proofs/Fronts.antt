@@ -1,8 +1,7 @@
 -- The longest front of a text that passes a test.
 use Rattle.std.proofs.Common.{◌≡◌, ℕ, suc, zero, ◌-◌, ◌<◌, ◌≤◌, Bool, true, false, cond, List, [], length, take, refl, arith, ap, sym, ◌∙◌}
 use Rattle.std.proofs.Math.Arith.{le_of_le-suc-ne}
-use Rattle.ix_asking.specs.serving.Messages.{longest_front, longest_up_to}
-use Rattle.ix_asking.specs.serving.Requests.{Begins, IsLongest}
+use Rattle.ix_asking.specs.serving.{Messages.{longest_front, longest_up_to}, Requests.{Begins, IsLongest}}
 
 -- where the longest of those at hand doesn't pass, it is among the shorter ones
 pub shorter : (test : List ℕ → Bool) (text : List ℕ) (n : ℕ) → 0 < n → test (take n text) ≡ false → longest_up_to (n - 1) test text ≡ longest_up_to n test text

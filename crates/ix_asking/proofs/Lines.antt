@@ -1,9 +1,8 @@
 -- The entries that were made are those that a lane's definition says.
 use Rattle.std.proofs.Common.{◌≡◌, ℕ, List, [], ◌∷◌, ◌++◌, Some, refl, ap, sym, ◌∙◌}
 use Rattle.ix_model.specs.history.Made.{Made}
-use Rattle.ix_asking.specs.Asking.{Asked, Asking, Done, Ask, Answered, Came, Due, followed, next}
+use Rattle.ix_asking.specs.{Asking.{Asked, Asking, Done, Ask, Answered, Came, Due, followed, next}, Runs.{entry_of, answer_of, answers_of, AsAsked}}
 use Rattle.ix_asking.specs.Lines.{Calls, calls_then, events_of, with_entry_first, with_entries_first}
-use Rattle.ix_asking.specs.Runs.{entry_of, answer_of, answers_of, AsAsked}
 
 -- a line that is done: its entries, and then what comes after it
 pub calls-done : (R : Type 0) (seat : ℕ) (p : Asking R) (made : List Made) (r : R) (later : List Answered) (after : R → List Answered → Calls)

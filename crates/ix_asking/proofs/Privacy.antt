@@ -2,17 +2,12 @@
 use Rattle.std.proofs.Common.{◌≡◌, ℕ, Bool, true, false, List, [], ◌∷◌, refl, ap, ◌∙◌, subst, if◌then◌else◌}
 use Rattle.ix_label.specs.Category.{Categories}
 use Rattle.ix_model.specs.history.Events as op
-use Rattle.ix_model.specs.history.Systems.{FitsCall}
-use Rattle.ix_model.specs.declared.ids.Pid.{Pid}
-use Rattle.ix_model.specs.declared.refusal.Refusal.{Refusal}
-use Rattle.ix_model.specs.declared.reply.Reply.{Reply}
+use Rattle.ix_model.specs.{history.Systems.FitsCall, declared.{ids.Pid.Pid, refusal.Refusal.Refusal, reply.Reply.Reply}}
 use Rattle.ix_model.specs.declared.reply.Reply.TheVariants as reply
 use Rattle.ix_policy.specs.declared.request.Verdict.{Verdict}
-use Rattle.ix_asking.specs.declared.serving.outcome.Outcome.{Outcome}
-use Rattle.ix_asking.specs.declared.serving.outcome.Outcome.TheVariants as outcome
-use Rattle.ix_asking.specs.Asking.{Answered, Asking, Done, Ask, Came, next}
-use Rattle.ix_asking.specs.serving.Privately.{NotPrivateAtHalf}
+use Rattle.ix_asking.specs.{declared.serving.outcome.Outcome.Outcome, Asking.{Answered, Asking, Done, Ask, Came, next}, serving.Privately.NotPrivateAtHalf}
 use Rattle.ix_asking.specs.serving.Serving.{OnMessage, Server, claim, if_refused, on_claim, on_verdict, read, tell, when_told}
+use Rattle.ix_asking.specs.declared.serving.outcome.Outcome.TheVariants as outcome
 
 -- whatever the answers are, only such can come of it
 abbrev pub OnlyComes : {R : Type 0} → (R → Type 0) → Asking R → Type 0

@@ -1,17 +1,13 @@
 -- What holds of every call that a server asks for.
 use Rattle.std.proofs.Common.{ℕ, List, false}
 use Rattle.ix_label.specs.Category.{Categories}
-use Rattle.ix_model.specs.history.Events.{Op}
+use Rattle.ix_model.specs.{history.Events.Op, declared.{ids.Pid.Pid, reply.Reply.Reply}}
 use Rattle.ix_model.specs.history.Events as op
-use Rattle.ix_model.specs.declared.ids.Pid.{Pid}
-use Rattle.ix_model.specs.declared.reply.Reply.{Reply}
 use Rattle.ix_model.specs.declared.reply.Reply.TheVariants as reply
 use Rattle.ix_policy.specs.declared.request.Verdict.{Verdict}
-use Rattle.ix_asking.specs.declared.serving.outcome.Outcome.{Outcome}
-use Rattle.ix_asking.specs.declared.serving.outcome.Outcome.TheVariants as outcome
-use Rattle.ix_asking.specs.Asking.{Asked, Asking}
+use Rattle.ix_asking.{specs.declared.serving.outcome.Outcome.Outcome, specs.Asking.{Asked, Asking}, proofs.Every.{AllOf, all-either, all-refused}}
 use Rattle.ix_asking.specs.serving.Serving.{OnMessage, Server, claim, on_claim, on_verdict, read, tell, told_text}
-use Rattle.ix_asking.proofs.Every.{AllOf, all-either, all-refused}
+use Rattle.ix_asking.specs.declared.serving.outcome.Outcome.TheVariants as outcome
 
 -- the call gives no label
 abbrev pub GivesNoLabel : Op → Type 0

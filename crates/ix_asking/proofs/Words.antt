@@ -1,7 +1,6 @@
 -- Texts that begin with a word, or are a front of it.
 use Rattle.std.proofs.Common.{◌≡◌, ℕ, nat_eq, Bool, true, false, cond, List, [], ◌∷◌, ◌++◌, length, take, drop, Some, None, refl, ap, ◌∙◌, arith, ◌⊎◌, inl, inr}
-use Rattle.std.proofs.lemmas.Bool.{and_parts, and_from}
-use Rattle.std.proofs.lemmas.Bool.Decides.{nat_tests}
+use Rattle.std.proofs.lemmas.Bool.{and_parts, and_from, Decides.nat_tests}
 use Rattle.ix_model.specs.world.Naming.{same_bytes}
 use Rattle.ix_asking.specs.serving.Messages.{after_word, is_front_of}
 

@@ -1,6 +1,5 @@
 ghost use Rattle.std.specs.Prelude.{◌≡◌, ◌<◌, ◌≤◌, ℕ, length};
-ghost use Rattle.ix_asking.specs.Asking.{Asking, came_as, first, heard, IsDue};
-ghost use Rattle.ix_asking.specs.Steps.{next_of};
+ghost use Rattle.ix_asking.specs.{Asking.{Asking, came_as, first, heard, IsDue}, Steps.{next_of}};
 
 use ix_model::{Call, Pid, Reply};
 

@@ -1,7 +1,5 @@
 ghost use Rattle.std.specs.Prelude.{◌≡◌};
-ghost use Rattle.ix_asking.specs.Asking.{Done};
-ghost use Rattle.ix_asking.specs.Copies.{copies};
-ghost use Rattle.ix_asking.specs.Copying.{copying_asks, copying_most};
+ghost use Rattle.ix_asking.specs.{Asking.{Done}, Copies.{copies}, Copying.{copying_asks, copying_most}};
 
 use crate::asks::{Asks, Step};
 use crate::held::Held;

@@ -3,8 +3,7 @@
 
 ghost use Rattle.std.specs.Prelude.{◌≡◌, ◌++◌, ℕ, List, Some};
 ghost use Rattle.ix_model.specs.history.Made.{Made};
-ghost use Rattle.ix_asking.specs.Asking.{Answered, Asked, Asking, Came, Due, followed, next};
-ghost use Rattle.ix_asking.specs.Lines.{Calls, calls_then, events_of, with_entries_first};
+ghost use Rattle.ix_asking.specs.{Asking.{Answered, Asked, Asking, Came, Due, followed, next}, Lines.{Calls, calls_then, events_of, with_entries_first}};
 ghost use Rattle.ix_asking.specs.Runs.{answers_of, AsAsked, entry_of};
 
 /// Where the calls that were made are those that a line asks for, and this came of it, they are the entries of a lane's definition

@@ -1,7 +1,6 @@
 ghost use Rattle.std.specs.Prelude.{◌≡◌, ◌≤◌, ◌+◌, List, length};
 ghost use Rattle.ix_model.specs.history.Made.{Made};
-ghost use Rattle.ix_asking.specs.Asking.{all_heard, came_as, first, next};
-ghost use Rattle.ix_asking.specs.Runs.{answers_of, count_in, Ends, Makes, Turn};
+ghost use Rattle.ix_asking.specs.{Asking.{all_heard, came_as, first, next}, Runs.{answers_of, count_in, Ends, Makes, Turn}};
 
 use crate::asks::{Asks, Step};
 use crate::stop::{Stop, given};

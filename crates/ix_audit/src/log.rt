@@ -19,8 +19,7 @@ pub struct Log {
 }
 
 impl Model for Log {
-    ghost use Rattle.std.specs.Prelude.{vec_capacity};
-    ghost use Rattle.std.specs.Coded.{codes};
+    ghost use Rattle.std.specs.{Prelude.{vec_capacity}, Coded.{codes}};
     ghost use Rattle.ix_label.specs.contracts.label.Label as label_type;
     ghost use Rattle.ix_audit.specs.Lines.{Lines, AreLines};
 

@@ -1,12 +1,9 @@
 -- What writes and cuts leave, step by step.
-use Rattle.std.proofs.Common.{◌≡◌, ℕ, ◌+◌, ◌-◌, ◌<◌, ◌≤◌, Bool, true, false, Ok, Err, if◌then◌else◌, List, [], ◌++◌, length, take, drop, replicate}
-use Rattle.std.proofs.Common.{refl, sym, ap, ◌∙◌, arith, append_assoc, append-nil, length-append, inl, inr}
-use Rattle.std.proofs.lemmas.List.{get_or-set_same, set-set, take_all, drop_all, take-append-le, take-replicate, length-replicate}
-use Rattle.std.proofs.Math.Seq.{take-append-add}
-use Rattle.std.proofs.lemmas.Bool.{cases_lt, lt-leb}
-use Rattle.std.proofs.lemmas.Bool.Decides.{nat_tests}
-use Rattle.ix_model.specs.world.Contents.{grown, spliced}
-use Rattle.ix_model.specs.rows.Telling.{blocks_for, length_then}
+use Rattle.std.proofs.Common.{◌≡◌, ℕ, ◌+◌, ◌-◌, ◌<◌, ◌≤◌, Bool, true, false, Ok, Err, if◌then◌else◌, List, [], ◌++◌, length, take, drop, replicate, refl, sym}
+use Rattle.std.proofs.Common.{ap, ◌∙◌, arith, append_assoc, append-nil, length-append, inl, inr}
+use Rattle.std.proofs.{lemmas.List.{get_or-set_same, set-set, take_all, drop_all, take-append-le, take-replicate, length-replicate}, Math.Seq.take-append-add}
+use Rattle.std.proofs.{lemmas.Bool.{cases_lt, lt-leb}, lemmas.Bool.Decides.nat_tests}
+use Rattle.ix_model.specs.{world.Contents.{grown, spliced}, rows.Telling.{blocks_for, length_then}}
 use Rattle.ix_blocks.specs.Files.{Files, used, bytes_of, with_bytes, laid_over, has_room}
 
 -- a file of other bytes twice

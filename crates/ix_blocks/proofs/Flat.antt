@@ -1,12 +1,9 @@
 -- The blocks of a chain, one behind the other.
-use Rattle.std.proofs.Common.{◌≡◌, ◌≢◌, ℕ, zero, suc, ◌+◌, ◌*◌, ◌<◌, ◌≤◌, List, [], ◌∷◌, ◌++◌, length, set, map, get_or, Some, refl, sym, ap, ◌∙◌, subst, arith, append_assoc, length-append, slice_get}
-use Rattle.std.proofs.lemmas.List.{get_or-set_other, get_or-set_same}
-use Rattle.std.proofs.lemmas.Option.{same_Some}
-use Rattle.ix_links.specs.Chains.{times, total}
-use Rattle.ix_links.proofs.Running.{times_here, times_skip}
-use Rattle.ix_blocks.specs.Files.{laid_over}
-use Rattle.ix_blocks.specs.Stored.{flat}
-use Rattle.ix_blocks.proofs.Laying.{laid_over-left, laid_over-right}
+use Rattle.std.proofs.Common.{◌≡◌, ◌≢◌, ℕ, zero, suc, ◌+◌, ◌*◌, ◌<◌, ◌≤◌, List, [], ◌∷◌, ◌++◌, length, set, map, get_or, Some, refl, sym, ap, ◌∙◌, subst, arith}
+use Rattle.std.proofs.Common.{append_assoc, length-append, slice_get}
+use Rattle.std.proofs.lemmas.{List.{get_or-set_other, get_or-set_same}, Option.same_Some}
+use Rattle.ix_links.{specs.Chains.{times, total}, proofs.Running.{times_here, times_skip}}
+use Rattle.ix_blocks.{specs.{Files.laid_over, Stored.flat}, proofs.Laying.{laid_over-left, laid_over-right}}
 
 pub flat-append : (blocks : List (List ℕ)) (a b : List ℕ) → flat blocks (a ++ b) ≡ flat blocks a ++ flat blocks b
 flat-append blocks [] b = refl

@@ -1,14 +1,10 @@
 -- A block put at the end of a chain, and one given back.
 use Rattle.std.proofs.Common.{◌≡◌, ℕ, suc, ◌+◌, ◌-◌, ◌*◌, ◌<◌, List, ◌∷◌, length, set, replicate, Some, None, sym, ap, ◌∙◌, arith, slice_get}
-use Rattle.std.specs.List.{last_or}
-use Rattle.std.proofs.lemmas.List.{length-replicate}
-use Rattle.ix_links.specs.Chains.{Chains, pool, chain_of, pushed_back, back_moved, removed}
-use Rattle.ix_links.specs.Whole.{IsPool}
+use Rattle.std.{specs.List.last_or, proofs.lemmas.List.length-replicate}
+use Rattle.ix_links.specs.{Chains.{Chains, pool, chain_of, pushed_back, back_moved, removed}, Whole.IsPool}
 use Rattle.ix_links.proofs.Held.{free_below, pool-pushed_back, pool-removed}
-use Rattle.ix_blocks.specs.Wholes.{Wholes, whole_of, blocks_added, blocks_dropped}
-use Rattle.ix_blocks.specs.Stored.{flat, flats, held_in, AreRows}
-use Rattle.ix_blocks.proofs.Storing.{flats-length, flats-at, added, dropped, first_parts, none_last, last_held, last_below}
-use Rattle.ix_blocks.proofs.Rowed.{rows_set, chain_held}
+use Rattle.ix_blocks.specs.{Wholes.{Wholes, whole_of, blocks_added, blocks_dropped}, Stored.{flat, flats, held_in, AreRows}}
+use Rattle.ix_blocks.proofs.{Storing.{flats-length, flats-at, added, dropped, first_parts, none_last, last_held, last_below}, Rowed.{rows_set, chain_held}}
 
 -- the bytes and the number of free blocks of chains
 held_is : (v : Chains) (blocks wholes : List (List ℕ)) (free : ℕ) → flats blocks v.chains ≡ wholes → length v.free ≡ free → held_in v blocks ≡ record { wholes = wholes; free = free }

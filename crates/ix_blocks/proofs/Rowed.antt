@@ -1,21 +1,11 @@
 -- Bytes of a file, block after block.
-use Rattle.std.proofs.Common.{◌≡◌, ℕ, zero, suc, ◌+◌, ◌-◌, ◌*◌, ◌/◌, ◌%◌, ◌<◌, ◌≤◌, List, [], ◌∷◌, ◌++◌, length, take, drop, set, get_or, Some, None}
-use Rattle.std.proofs.Common.{refl, sym, ap, ◌∙◌, arith, append_assoc, append-nil, length-append, length-set, length-drop, length-take, slice_get}
-use Rattle.std.proofs.Common.{inl, inr, ◌^◌, min}
-use Rattle.std.specs.List.{last_or}
+use Rattle.std.proofs.Common.{◌≡◌, ℕ, zero, suc, ◌+◌, ◌-◌, ◌*◌, ◌/◌, ◌%◌, ◌<◌, ◌≤◌, List, [], ◌∷◌, ◌++◌, length, take, drop, set, get_or, Some, None, refl, sym}
+use Rattle.std.proofs.Common.{ap, ◌∙◌, arith, append_assoc, append-nil, length-append, length-set, length-drop, length-take, slice_get, inl, inr, ◌^◌, min}
+use Rattle.std.{specs.List.last_or, proofs.{lemmas.{Bool.cases_eq, Option.slice_get-get_or}, Math.Seq.{take-add, drop-append-add}}}
 use Rattle.std.proofs.lemmas.List.{get_or-set_other, get_or-set_same, set-set, take-append-le, drop-append-le, drop-drop, length-take-le, take_at, drop_at}
-use Rattle.std.proofs.lemmas.Bool.{cases_eq}
-use Rattle.std.proofs.lemmas.Option.{slice_get-get_or}
-use Rattle.std.proofs.Math.Seq.{take-add, drop-append-add}
-use Rattle.ix_links.specs.Chains.{Chains, before, chain_of}
-use Rattle.ix_links.proofs.Held.{held_below}
-use Rattle.ix_links.proofs.Listing.{part-le-total}
-use Rattle.ix_blocks.specs.Files.{laid_over}
-use Rattle.ix_blocks.specs.Wholes.{laid_in}
-use Rattle.ix_blocks.specs.Stored.{flat, flats, AreRows}
-use Rattle.ix_blocks.proofs.Laying.{laid_over_twice}
-use Rattle.ix_blocks.proofs.Flat.{flat-append, length-flat, split_at}
-use Rattle.ix_blocks.proofs.Storing.{flats-at, flats-length, laid, below_part}
+use Rattle.ix_links.{specs.Chains.{Chains, before, chain_of}, proofs.{Held.held_below, Listing.part-le-total}}
+use Rattle.ix_blocks.specs.{Files.laid_over, Wholes.laid_in, Stored.{flat, flats, AreRows}}
+use Rattle.ix_blocks.proofs.{Laying.laid_over_twice, Flat.{flat-append, length-flat, split_at}, Storing.{flats-at, flats-length, laid, below_part}}
 
 -- where a piece ends before all bytes, it ends with its block
 pub next_block : (place done size n : ℕ) → size ≡ min (512 - (place + done) % 512) (n - done) → done + size < n → (place + (done + size)) / 512 ≡ (place + done) / 512 + 1

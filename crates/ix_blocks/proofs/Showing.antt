@@ -1,17 +1,13 @@
 -- The bytes of files, as blocks and lengths hold them.
-use Rattle.std.proofs.Common.{◌≡◌, ℕ, zero, suc, ◌+◌, ◌-◌, ◌*◌, ◌<◌, ◌≤◌, List, [], ◌∷◌, ◌++◌, length, take, drop, set, get_or, replicate, refl, sym}
-use Rattle.std.proofs.Common.{ap, ◌∙◌, subst, arith, append_assoc, append-nil, length-append, length-set, length-drop, inl, inr}
+use Rattle.std.proofs.Common.{◌≡◌, ℕ, zero, suc, ◌+◌, ◌-◌, ◌*◌, ◌<◌, ◌≤◌, List, [], ◌∷◌, ◌++◌, length, take, drop, set, get_or, replicate, refl, sym, ap, ◌∙◌}
+use Rattle.std.proofs.Common.{subst, arith, append_assoc, append-nil, length-append, length-set, length-drop, inl, inr}
 use Rattle.std.proofs.lemmas.List.{get_or-set_same, get_or-set_other, set-set, set-get_or, take_at, take_all, take-take, drop_all, length-take-le}
 use Rattle.std.proofs.lemmas.List.{length-replicate, take-replicate, replicate-append-replicate, take-append-drop, take-append-le, drop-append-le}
-use Rattle.std.proofs.Math.Seq.{take-append-add}
-use Rattle.std.proofs.lemmas.Bool.{cases_eq}
-use Rattle.ix_blocks.specs.declared.blocks.Blocks.TheInside.{Inside}
-use Rattle.ix_model.specs.world.Contents.{grown}
-use Rattle.ix_model.specs.rows.Telling.{blocks_for}
-use Rattle.ix_blocks.specs.Files.{Files, all_empty, used, bytes_of, with_bytes, laid_over}
+use Rattle.std.proofs.{Math.Seq.take-append-add, lemmas.Bool.cases_eq}
+use Rattle.ix_blocks.{specs.declared.blocks.Blocks.TheInside.Inside, specs.Files.{Files, all_empty, used, bytes_of, with_bytes, laid_over}}
 use Rattle.ix_blocks.specs.Wholes.{Wholes, none_held, whole_of, blocks_added, blocks_dropped, with_laid_over}
-use Rattle.ix_blocks.specs.Shown.{cut_each, AreFilled, shown, blocks_view, IsBlocks}
-use Rattle.ix_blocks.proofs.Laying.{laid_over-left, length-laid_over}
+use Rattle.ix_blocks.{specs.Shown.{cut_each, AreFilled, shown, blocks_view, IsBlocks}, proofs.Laying.{laid_over-left, length-laid_over}}
+use Rattle.ix_model.specs.{world.Contents.grown, rows.Telling.blocks_for}
 
 -- the bytes of each file, one by one
 cut_each-at : (ns : List ℕ) (ws : List (List ℕ)) (f : ℕ) → get_or (cut_each ns ws) f [] ≡ take (get_or ns f 0) (get_or ws f [])

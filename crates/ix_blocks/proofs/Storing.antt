@@ -1,18 +1,11 @@
 -- What becomes of chains and their bytes as blocks come, go and change.
-use Rattle.std.proofs.Common.{◌≡◌, ℕ, zero, suc, ◌+◌, ◌-◌, ◌*◌, ◌/◌, ◌%◌, ◌<◌, ◌≤◌, List, [], ◌∷◌, ◌++◌, length, take, set, get_or, replicate, Option}
-use Rattle.std.proofs.Common.{Some, None, refl, sym, ap, ◌∙◌, subst, arith, append-nil, length-append, slice_get}
+use Rattle.std.proofs.Common.{◌≡◌, ℕ, zero, suc, ◌+◌, ◌-◌, ◌*◌, ◌/◌, ◌%◌, ◌<◌, ◌≤◌, List, [], ◌∷◌, ◌++◌, length, take, set, get_or, replicate, Option, Some, ap}
+use Rattle.std.proofs.Common.{None, refl, sym, ◌∙◌, subst, arith, append-nil, length-append, slice_get}
 use Rattle.std.specs.List.{last_or, Contains}
-use Rattle.std.proofs.lemmas.List.{get_or-set_same, map-set, take_at, get_or_at, set-get_or}
-use Rattle.std.proofs.lemmas.Bool.Decides.{nat_tests}
-use Rattle.std.proofs.lemmas.Option.{same_Some}
-use Rattle.ix_links.specs.Chains.{Chains, lists, times, total, pool, chain_of, without, pushed_back, back_moved, removed}
-use Rattle.ix_links.specs.Whole.{IsPool}
-use Rattle.ix_links.proofs.Running.{times_here, times_skip, times-append}
-use Rattle.ix_links.proofs.Listing.{part-le-total}
-use Rattle.ix_links.proofs.Held.{held_below, at_most_once}
-use Rattle.ix_blocks.specs.Files.{laid_over}
-use Rattle.ix_blocks.specs.Stored.{flat, flats}
-use Rattle.ix_blocks.proofs.Flat.{flat-append, flat-set, flats-set, length-flat, split_at, flat-laid_over}
+use Rattle.std.proofs.lemmas.{List.{get_or-set_same, map-set, take_at, get_or_at, set-get_or}, Bool.Decides.nat_tests, Option.same_Some}
+use Rattle.ix_links.specs.{Chains.{Chains, lists, times, total, pool, chain_of, without, pushed_back, back_moved, removed}, Whole.IsPool}
+use Rattle.ix_links.proofs.{Running.{times_here, times_skip, times-append}, Listing.part-le-total, Held.{held_below, at_most_once}}
+use Rattle.ix_blocks.{specs.{Files.laid_over, Stored.{flat, flats}}, proofs.Flat.{flat-append, flat-set, flats-set, length-flat, split_at, flat-laid_over}}
 
 pub flats-at : (blocks : List (List ℕ)) (cs : List (List ℕ)) (k : ℕ) → get_or (flats blocks cs) k [] ≡ flat blocks (get_or cs k [])
 flats-at blocks [] k = refl

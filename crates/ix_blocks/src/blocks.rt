@@ -1,6 +1,5 @@
 ghost use Rattle.std.specs.Prelude.{◌≡◌, ◌+◌, ◌<◌, ◌≤◌, ◌++◌, length, take, drop, min, IfOk, Ok, Err, if◌then◌else◌};
-ghost use Rattle.ix_model.specs.world.Contents.{grown, spliced, cut_to};
-ghost use Rattle.ix_model.specs.rows.Telling.{blocks_for};
+ghost use Rattle.ix_model.specs.{world.Contents.{grown, spliced, cut_to}, rows.Telling.{blocks_for}};
 ghost use Rattle.ix_blocks.specs.Files.{used, bytes_of, with_bytes, all_empty, laid_over, length_after, most, has_room};
 
 use crate::rows::SIZE;

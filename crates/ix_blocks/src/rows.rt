@@ -1,9 +1,6 @@
 ghost use Rattle.std.specs.Prelude.{◌≡◌, ◌+◌, ◌-◌, ◌<◌, ◌≤◌, length, take, drop, replicate, slice_get};
-ghost use Rattle.ix_links.specs.Chains.{chain_of};
-ghost use Rattle.ix_links.specs.Whole.{IsPool};
-ghost use Rattle.ix_blocks.specs.Files.{laid_over};
-ghost use Rattle.ix_blocks.specs.Wholes.{laid_in};
-ghost use Rattle.ix_blocks.specs.Stored.{flats, flat, AreRows};
+ghost use Rattle.ix_links.specs.{Chains.{chain_of}, Whole.{IsPool}};
+ghost use Rattle.ix_blocks.specs.{Files.{laid_over}, Wholes.{laid_in}, Stored.{flats, flat, AreRows}};
 
 use ix_links::Links;
 

@@ -1,26 +1,15 @@
 -- What a core's marks stand for, at first and one entry later.
-use Rattle.std.proofs.Common.{◌≡◌, ◌+◌, ◌≤◌, ◌^◌, ◌++◌, ◌∷◌, ℕ, Bool, true, false, true≢false, [], length, Option, Some, None, is_some, option_map}
-use Rattle.std.proofs.Common.{if◌then◌else◌, refl, sym, ap, ◌∙◌, subst, arith, length-append}
+use Rattle.std.proofs.Common.{◌≡◌, ◌+◌, ◌≤◌, ◌^◌, ◌++◌, ◌∷◌, ℕ, Bool, true, false, true≢false, [], length, Option, Some, None, is_some, option_map, refl, sym}
+use Rattle.std.proofs.Common.{if◌then◌else◌, ap, ◌∙◌, subst, arith, length-append}
 use Rattle.ix_float.specs.declared.mark.Way.{Way}
 use Rattle.ix_float.specs.declared.mark.Way.TheVariants as way
-use Rattle.ix_model.specs.world.World.{World}
-use Rattle.ix_model.specs.declared.config.Config.{Config}
-use Rattle.ix_model.specs.history.Cost.{cost_of_history}
-use Rattle.ix_model.specs.history.Events.{Op, Event}
+use Rattle.ix_model.specs.{world.World.World, declared.config.Config.Config, history.Cost.cost_of_history, history.Events.{Op, Event}, history.Step.run}
+use Rattle.ix_model.specs.{history.Freshness.{is_fresh, fresh_from}, history.History.{History, world_of, with_entry}, laws.Sound.Sound}
+use Rattle.ix_model.specs.opening.{Opening.opening_world, Valid.is_valid}
 use Rattle.ix_model.specs.history.Events as op
-use Rattle.ix_model.specs.history.Freshness.{is_fresh, fresh_from}
 use Rattle.ix_model.specs.history.Freshness as freshness
-use Rattle.ix_model.specs.history.History.{History, world_of, with_entry}
-use Rattle.ix_model.specs.history.Step.{run}
-use Rattle.ix_model.specs.laws.Sound.{Sound}
-use Rattle.ix_model.specs.opening.Opening.{opening_world}
-use Rattle.ix_model.specs.opening.Valid.{is_valid}
-use Rattle.ix_model.proofs.opening.Validity.{valid_parts}
-use Rattle.ix_model.proofs.sound.Reaching.{opening_is_built, sound_opening_world}
-use Rattle.ix_model.proofs.words.Runs.{world_of-none, world_of-push}
-use Rattle.ix_fresh.specs.Laws.{Spot, spot_behind, fresh_spot, spot_after}
-use Rattle.ix_fresh.proofs.Freshly.{fresh_is_known}
-use Rattle.ix_fresh.proofs.Spots.{spots_along}
+use Rattle.ix_model.proofs.{opening.Validity.valid_parts, sound.Reaching.{opening_is_built, sound_opening_world}, words.Runs.{world_of-none, world_of-push}}
+use Rattle.ix_fresh.{specs.Laws.{Spot, spot_behind, fresh_spot, spot_after}, proofs.{Freshly.fresh_is_known, Spots.spots_along}}
 use Rattle.ix_marks.specs.Known.{Known, spot_of, has_row}
 use Rattle.ix_marks.specs.declared.row.Spot as marked
 use Rattle.ix_core.specs.Marking.{way_of, spot_in, goes_fresh, sizes_of, AreMarked, AreKnown, AreReady, AreTold, call_by, mark_through}

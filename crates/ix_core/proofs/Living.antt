@@ -1,37 +1,18 @@
 -- A process that lives goes on living, unless it exits.
-use Rattle.std.proofs.Common.{◌≡◌, ◌≢◌, ◌==◌, ◌&&◌, ◌≤◌, ◌<◌, ℕ, Bool, true, false, not, true≢false, List, [], ◌∷◌, length, position, Option, Some, None, refl, sym, ap, ◌∙◌, subst, inl, inr}
-use Rattle.std.specs.Option.{option_map_or}
-use Rattle.std.specs.List.{list_all}
-use Rattle.std.proofs.lemmas.Bool.{and_parts, eq-eqb}
-use Rattle.std.proofs.lemmas.Bool.Decides.{eqb_tells}
-use Rattle.std.proofs.lemmas.List.{get_or-set_other, get_or_append_left}
-use Rattle.std.proofs.lemmas.List.Quantifiers.{position-Some}
-use Rattle.ix_model.specs.world.World.{World, Frame, Object, Process, Open, at, lives, is_ended}
-use Rattle.ix_model.specs.rows.Rows.{put_object, put_open, put_process, add_process, change_object, change_process, change_open}
-use Rattle.ix_model.specs.rows.Auditing.{logged}
-use Rattle.ix_model.specs.rows.OnDescriptors.{LengthChecks}
-use Rattle.ix_model.specs.rows.OnProcesses.{is_child, end_process, exit, wait_child}
-use Rattle.ix_model.specs.rows.Refusals.{keeps_label}
-use Rattle.ix_model.specs.rows.Table.{row}
-use Rattle.ix_model.specs.rows.Telling.{told}
-use Rattle.ix_model.specs.history.Step.{step}
-use Rattle.ix_model.specs.history.Systems.{FitsCall}
-use Rattle.ix_model.specs.history.Events.{Op}
+use Rattle.std.proofs.Common.{◌≡◌, ◌≢◌, ◌==◌, ◌&&◌, ◌≤◌, ◌<◌, ℕ, Bool, true, false, not, true≢false, List, [], ◌∷◌, length, position, Option, Some, None, refl}
+use Rattle.std.proofs.Common.{sym, ap, ◌∙◌, subst, inl, inr}
+use Rattle.std.specs.{Option.option_map_or, List.list_all}
+use Rattle.std.proofs.lemmas.{Bool.{and_parts, eq-eqb, Decides.eqb_tells}, List.{get_or-set_other, get_or_append_left, Quantifiers.position-Some}}
+use Rattle.ix_model.specs.{world.World.{World, Frame, Object, Process, Open, at, lives, is_ended}, rows.Auditing.logged, rows.OnDescriptors.LengthChecks}
+use Rattle.ix_model.specs.{rows.Rows.{put_object, put_open, put_process, add_process, change_object, change_process, change_open}, rows.Refusals.keeps_label}
+use Rattle.ix_model.specs.{rows.OnProcesses.{is_child, end_process, exit, wait_child}, rows.Table.row, rows.Telling.told, laws.Sound.Sound}
+use Rattle.ix_model.specs.{history.{Step.step, Systems.FitsCall, Events.Op}, declared.{audit.AuditLine.AuditLine, refusal.Refusal.Refusal, reply.Reply.Reply}}
 use Rattle.ix_model.specs.history.Events as op
-use Rattle.ix_model.specs.laws.Sound.{Sound}
-use Rattle.ix_model.specs.declared.audit.AuditLine.{AuditLine}
-use Rattle.ix_model.specs.declared.refusal.Refusal.{Refusal}
-use Rattle.ix_model.specs.declared.reply.Reply.{Reply}
 use Rattle.ix_model.specs.declared.reply.Reply.TheVariants as reply
-use Rattle.ix_model.proofs.tables.Tables.{seen_changed}
-use Rattle.ix_model.proofs.tables.Finds.{in_table}
-use Rattle.ix_model.proofs.words.LetGo.{LetsGo, keeps_let_go_all}
-use Rattle.ix_model.proofs.words.Keeps.{Holds, Keeps, keeps_bind, keeps_then, keeps_pass, keeps_need, keeps_record_of}
-use Rattle.ix_model.proofs.words.Rowwise.{Change, Ending, Words, changes_of, keeps_bind_frame, keeps_bind_some, kept_observe, kept_row}
-use Rattle.ix_model.proofs.words.Lasts.{decided}
-use Rattle.ix_model.proofs.words.Answered.{step_frame}
+use Rattle.ix_model.proofs.{tables.{Tables.seen_changed, Finds.in_table}, words.LetGo.{LetsGo, keeps_let_go_all}, words.Lasts.decided, told.Replies.replies_fit}
+use Rattle.ix_model.proofs.{words.Keeps.{Holds, Keeps, keeps_bind, keeps_then, keeps_pass, keeps_need, keeps_record_of}, words.Answered.step_frame}
 use Rattle.ix_model.proofs.refused.RefusedSteps.{refused_step}
-use Rattle.ix_model.proofs.told.Replies.{replies_fit}
+use Rattle.ix_model.proofs.words.Rowwise.{Change, Ending, Words, changes_of, keeps_bind_frame, keeps_bind_some, kept_observe, kept_row}
 use Rattle.ix_core.specs.Marking.{has_exited}
 
 abbrev alive : Option Process → Bool

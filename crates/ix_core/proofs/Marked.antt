@@ -1,40 +1,25 @@
 -- What a call makes of the marks.
-use Rattle.std.proofs.Common.{◌≡◌, ◌==◌, ◌&&◌, ◌||◌, ◌≤◌, ◌<◌, ℕ, Bool, true, false, not, true≢false, List, length, count_by, Option, Some, None}
-use Rattle.std.proofs.Common.{is_some, option_map, if◌then◌else◌, refl, sym, ap, ◌∙◌, subst, arith, inl, inr}
-use Rattle.std.specs.Option.{option_map_or}
-use Rattle.std.proofs.lemmas.Bool.{and_parts, or_cases, not-true, eqb-true}
-use Rattle.ix_label.specs.Category.{Categories, bottom, same}
-use Rattle.ix_label.specs.Lattice.{same-decides}
+use Rattle.std.proofs.Common.{◌≡◌, ◌==◌, ◌&&◌, ◌||◌, ◌≤◌, ◌<◌, ℕ, Bool, true, false, not, true≢false, List, length, count_by, Option, Some, None, is_some, refl}
+use Rattle.std.proofs.Common.{option_map, if◌then◌else◌, sym, ap, ◌∙◌, subst, arith, inl, inr}
+use Rattle.std.{specs.Option.option_map_or, proofs.lemmas.Bool.{and_parts, or_cases, not-true, eqb-true}}
+use Rattle.ix_label.specs.{Category.{Categories, bottom, same}, Lattice.same-decides}
 use Rattle.ix_float.specs.declared.mark.Way.{Way}
 use Rattle.ix_float.specs.declared.mark.Way.TheVariants as way
-use Rattle.ix_model.specs.world.World.{World, Frame, Object, Process, Open, at, living, lives}
-use Rattle.ix_model.specs.rows.Walks.{OpenFile, behind}
-use Rattle.ix_model.specs.history.AuditLog.{label_at, of_process}
-use Rattle.ix_model.specs.history.Events.{Op, Event}
+use Rattle.ix_model.specs.{world.World.{World, Frame, Object, Process, Open, at, living, lives}, rows.Walks.{OpenFile, behind}, laws.Sound.Sound}
+use Rattle.ix_model.specs.history.{AuditLog.{label_at, of_process}, Events.{Op, Event}, Freshness.{refreshes, closes}, Step.step}
+use Rattle.ix_model.specs.declared.{ids.Fd.Fd, reply.Reply.Reply}
 use Rattle.ix_model.specs.history.Events as op
-use Rattle.ix_model.specs.history.Freshness.{refreshes, closes}
-use Rattle.ix_model.specs.history.Step.{step}
-use Rattle.ix_model.specs.laws.Sound.{Sound}
-use Rattle.ix_model.specs.declared.ids.Fd.{Fd}
-use Rattle.ix_model.specs.declared.reply.Reply.{Reply}
 use Rattle.ix_model.specs.declared.reply.Reply.TheVariants as reply
-use Rattle.ix_model.proofs.frames.Claimants.{is_behind}
-use Rattle.ix_model.proofs.tables.Finds.{in_table}
-use Rattle.ix_model.proofs.words.Fixed.{fixed_step}
-use Rattle.ix_model.proofs.words.Living.{is_living, not_ended}
-use Rattle.ix_fresh.specs.Laws.{Spot, KnownChangesNothing, spot_behind}
+use Rattle.ix_model.proofs.{frames.Claimants.is_behind, tables.Finds.in_table, words.{Fixed.fixed_step, Living.{is_living, not_ended}}}
+use Rattle.ix_fresh.specs.{Laws.{Spot, KnownChangesNothing, spot_behind}, Touched.{target, entry_target, label_of_entry, is_one, touches}}
+use Rattle.ix_fresh.proofs.{Freshly.{read_facts, write_facts}, Remaining.turned}
 use Rattle.ix_fresh.specs.Laws as laws
-use Rattle.ix_fresh.specs.Touched.{target, entry_target, label_of_entry, is_one, touches}
-use Rattle.ix_fresh.proofs.Freshly.{read_facts, write_facts}
-use Rattle.ix_fresh.proofs.Remaining.{turned}
 use Rattle.ix_fcalls.specs.Tested.{IsKnown}
 use Rattle.ix_marks.specs.Known.{Known, spot_of, has_row}
 use Rattle.ix_marks.specs.declared.row.Spot as marked
-use Rattle.ix_core.specs.Marking.{way_of, spot_in, sizes_of, AreReady, AreKnown, AreTold, CanRefresh, call_by, mark_through, spot_through}
-use Rattle.ix_core.specs.Marking.{other_process, other_object, other_entry, unless_object, unless_entry, unless_closed, has_exited, refreshed}
-use Rattle.ix_core.specs.Marking.{or_refreshed}
-use Rattle.ix_core.proofs.Living.{lives_on}
-use Rattle.ix_core.proofs.Unmoved.{known_still}
+use Rattle.ix_core.specs.Marking.{way_of, spot_in, sizes_of, AreReady, AreKnown, AreTold, CanRefresh, call_by, mark_through, spot_through, other_process}
+use Rattle.ix_core.specs.Marking.{other_object, other_entry, unless_object, unless_entry, unless_closed, has_exited, refreshed, or_refreshed}
+use Rattle.ix_core.proofs.{Living.lives_on, Unmoved.{known_still, self_still}}
 
 abbrev Mark : Type 0
 Mark = Option marked.Spot
@@ -371,6 +356,33 @@ told_known law m w place pid o ready k h =
     let r = (step w place pid o).reply in
     record {
       spots = λ q d v. known_spot m w.frame pid o r q d v k h ∙ ap (λ (g : Frame). left w.frame g pid o r q d v (seen (spot_of m q d v))) still;
+      ready = subst (λ (g : Frame). AreReady m g) still ready;
+      raised = omega arith;
+    }
+
+-- a look at the own label refreshes none, and touches none
+own_refreshes : (v : Way) (d : ℕ) (r : Reply) → refreshes (way_of v) d op.SelfLabel r ≡ false
+own_refreshes way.Reading d r = refl
+own_refreshes way.Writing d r = refl
+
+own_spot : (m : Known) (f : Frame) (pid : ℕ) (r : Reply) (q d : ℕ) (v : Way) → seen (spot_of m q d v) ≡ left f f pid op.SelfLabel r q d v (seen (spot_of m q d v))
+own_spot m f pid r q d v =
+    let here = seen (spot_of m q d v) in
+    let stays = laws.unless (λ x. touches f (call_by pid op.SelfLabel) f q (Some x.object) (Some x.entry)) here in
+    unless_never (λ x. touches f (call_by pid op.SelfLabel) f q (Some x.object) (Some x.entry)) (λ x. touches_nothing f pid op.SelfLabel q (Some x.object) (Some x.entry)) here
+    ∙ ap (λ b. if b then None else stays) (sym (and_no (pid == q) _ refl))
+    ∙ ap (λ b. if b then spot_behind f q d else if pid == q && closes d op.SelfLabel r then None else stays) (sym (and_no (pid == q) (refreshes (way_of v) d op.SelfLabel r) (own_refreshes v d r)))
+
+pub told_own : (m : Known) (w : World) (place pid : ℕ) (o : Op) → AreReady m w.frame → o ≡ op.SelfLabel → AreTold m m w place pid o
+told_own m w place pid o ready own = subst (λ (c : Op). AreTold m m w place pid c) (sym own) told
+  where
+    still : w.frame ≡ (step w place pid op.SelfLabel).world.frame
+    still = sym (self_still w place pid)
+
+    told : AreTold m m w place pid op.SelfLabel
+    told = record {
+      spots = λ q d v. own_spot m w.frame pid (step w place pid op.SelfLabel).reply q d v
+          ∙ ap (λ (g : Frame). left w.frame g pid op.SelfLabel (step w place pid op.SelfLabel).reply q d v (seen (spot_of m q d v))) still;
       ready = subst (λ (g : Frame). AreReady m g) still ready;
       raised = omega arith;
     }

@@ -1,21 +1,14 @@
 -- A call makes one process at most, so pids stay few as long as entries do.
-use Rattle.std.proofs.Common.{◌≡◌, ◌≤◌, ◌+◌, ℕ, suc, Bool, true, false, List, [], ◌∷◌, ◌++◌, length, nat_lt, count_by, is_some, Option, Some, None, refl, sym, subst, arith, length-set, length-append}
+use Rattle.std.proofs.Common.{◌≡◌, ◌≤◌, ◌+◌, ℕ, suc, Bool, true, false, List, [], ◌∷◌, ◌++◌, length, nat_lt, count_by, is_some, Option, Some, None, refl, sym}
+use Rattle.std.proofs.Common.{subst, arith, length-set, length-append}
 use Rattle.std.specs.List.{list_all}
-use Rattle.ix_model.specs.world.World.{World, Frame, Process, at, living}
-use Rattle.ix_model.specs.rows.Rows.{◌>>=◌, ◌>>◌, on_pass, process, some, need, frame, pass, refuse, change_object, change_process, put_object, put_open, put_process, add_process, change_open}
-use Rattle.ix_model.specs.rows.Auditing.{logged}
-use Rattle.ix_model.specs.rows.OnProcesses.{end_process, fork, has_kept, kept_fds}
-use Rattle.ix_model.specs.declared.call.Keep.{Keep}
-use Rattle.ix_model.specs.rows.OnDescriptors.{LengthChecks}
-use Rattle.ix_model.specs.rows.Table.{row, verdict}
-use Rattle.ix_model.specs.rows.Telling.{told}
-use Rattle.ix_model.specs.history.Step.{step, step_of, run}
-use Rattle.ix_model.specs.history.Events.{Op, Event}
+use Rattle.ix_model.specs.{world.World.{World, Frame, Process, at, living}, rows.Auditing.logged, rows.OnProcesses.{end_process, fork, has_kept, kept_fds}}
+use Rattle.ix_model.specs.{rows.OnDescriptors.LengthChecks, rows.Table.{row, verdict}, rows.Telling.told, declared.call.Keep.Keep}
+use Rattle.ix_model.specs.history.{Step.{step, step_of, run}, Events.{Op, Event}}
+use Rattle.ix_model.specs.rows.Rows.{◌>>=◌, ◌>>◌, on_pass, process, some, need, frame, pass, refuse, change_object, change_process, put_object, put_open}
+use Rattle.ix_model.specs.rows.Rows.{put_process, add_process, change_open}
 use Rattle.ix_model.specs.history.Events as op
-use Rattle.ix_model.proofs.words.Keeps.{Holds, Keeps}
-use Rattle.ix_model.proofs.words.Rowwise.{Change, Forking, Words, changes_of, kept_row}
-use Rattle.ix_model.proofs.words.Lasts.{decided}
-use Rattle.ix_model.proofs.words.Answered.{step_frame}
+use Rattle.ix_model.proofs.words.{Keeps.{Holds, Keeps}, Rowwise.{Change, Forking, Words, changes_of, kept_row}, Lasts.decided, Answered.step_frame}
 
 -- so many pids more than there were
 pub record Grown (n : ℕ) (f g : Frame) : Type 0 where

@@ -1,23 +1,13 @@
 -- What one seat's step on a core makes, and how the core goes on.
 use Rattle.std.proofs.Common.{◌≡◌, ◌≤◌, ◌+◌, ℕ, List, [], ◌∷◌, ◌++◌, length, refl, sym, ap, ◌∙◌, subst, arith}
-use Rattle.ix_model.specs.history.Cost.{cost_of_history}
-use Rattle.ix_model.specs.history.Events.{Op}
-use Rattle.ix_model.specs.history.History.{History, world_of, next}
-use Rattle.ix_model.specs.history.Made.{Made, entry}
-use Rattle.ix_model.specs.history.Seats.{made_of, made_by, GoesOn}
-use Rattle.ix_model.specs.history.Shown.{AreShown}
-use Rattle.ix_model.specs.history.Step.{Given, put_front}
-use Rattle.ix_model.specs.history.Systems.{bytes_in, made_after}
-use Rattle.ix_model.specs.declared.ids.Pid.{Pid}
-use Rattle.ix_model.specs.declared.reply.Reply.{Reply}
+use Rattle.ix_model.specs.{history.Cost.cost_of_history, history.Events.Op, history.History.{History, world_of, next}, history.Made.{Made, entry}}
+use Rattle.ix_model.specs.{history.Seats.{made_of, made_by, GoesOn}, history.Shown.AreShown, history.Step.{Given, put_front}}
+use Rattle.ix_model.specs.{history.Systems.{bytes_in, made_after}, declared.{ids.Pid.Pid, reply.{Reply.Reply, Answer.Answer}}}
 use Rattle.ix_model.specs.declared.reply.Reply.TheVariants as reply
-use Rattle.ix_model.specs.declared.reply.Answer.{Answer}
 use Rattle.ix_model.specs.declared.reply.Answer.TheVariants as answer
-use Rattle.ix_model.proofs.words.Seats.{made_by-push, goes_on_not, goes_on_once}
+use Rattle.ix_model.proofs.{words.Seats.{made_by-push, goes_on_not, goes_on_once}, clean.Showing.shown_step}
 use Rattle.ix_journal.proofs.Growing.{cost_more}
-use Rattle.ix_model.proofs.clean.Showing.{shown_step}
-use Rattle.ix_core.specs.Stepping.{StepsTo, MakesNext}
-use Rattle.ix_core.proofs.Standing.{shows}
+use Rattle.ix_core.{specs.Stepping.{StepsTo, MakesNext}, proofs.Standing.shows}
 
 -- the bytes in the buffer are those that the reply gives
 pub gives_bytes : (r : Reply) (bytes before after : List ℕ) → AreShown r bytes → after ≡ put_front bytes before → bytes_in r after ≡ bytes

@@ -1,35 +1,19 @@
 -- What a core's machine and journal stand for, at first and one entry later.
-use Rattle.std.proofs.Common.{◌≡◌, ◌+◌, ◌*◌, ◌<◌, ◌≤◌, ◌-◌, ◌^◌, ◌&&◌, nat_le, ℕ, true, List, [], ◌∷◌, ◌++◌, length, Some, take, drop, refl, sym, ap, ◌∙◌, subst, arith}
+use Rattle.std.proofs.Common.{◌≡◌, ◌+◌, ◌*◌, ◌<◌, ◌≤◌, ◌-◌, ◌^◌, ◌&&◌, nat_le, ℕ, true, List, [], ◌∷◌, ◌++◌, length, Some, take, drop, refl, sym, ap, ◌∙◌}
+use Rattle.std.proofs.Common.{subst, arith}
 use Rattle.std.specs.List.{sum_by}
-use Rattle.std.proofs.lemmas.Bool.{and_parts, leb-true}
-use Rattle.std.proofs.lemmas.List.{length-map}
-use Rattle.std.proofs.Math.Seq.{take-append_seam, drop-append_seam}
-use Rattle.std.proofs.lemmas.List.Sums.{sum-map, sum_by-cons}
-use Rattle.ix_model.specs.world.World.{World}
-use Rattle.ix_model.specs.opening.Opening.{opening_world, process_of}
-use Rattle.ix_model.specs.history.AuditLog.{audit_log}
-use Rattle.ix_model.specs.history.Cost.{cost_of, cost_of_words, cost_of_history}
-use Rattle.ix_model.specs.history.Step.{step, run, put_front}
-use Rattle.ix_model.specs.laws.Sound.{Sound}
-use Rattle.ix_model.specs.history.Shown.{AreShown}
-use Rattle.ix_model.specs.history.Systems.{FitsCall, LeavesRest}
-use Rattle.ix_model.specs.opening.Valid.{is_valid, fss_fit, limits_fit, procs_fit, objects_fit}
-use Rattle.ix_model.specs.history.Events.{Event}
-use Rattle.ix_model.specs.history.History.{History, world_of, next, with_entry}
-use Rattle.ix_model.specs.declared.config.Config.{Config}
-use Rattle.ix_model.specs.declared.reply.Reply.{Reply}
+use Rattle.std.proofs.{lemmas.{Bool.{and_parts, leb-true}, List.{length-map, Sums.{sum-map, sum_by-cons}}}, Math.Seq.{take-append_seam, drop-append_seam}}
+use Rattle.ix_model.specs.{world.World.World, opening.{Opening.{opening_world, process_of}, Valid.{is_valid, fss_fit, limits_fit, procs_fit, objects_fit}}}
+use Rattle.ix_model.specs.{history.AuditLog.audit_log, history.Cost.{cost_of, cost_of_words, cost_of_history}, history.Step.{step, run, put_front}}
+use Rattle.ix_model.specs.{history.Shown.AreShown, history.Systems.{FitsCall, LeavesRest}, history.Events.Event, laws.Sound.Sound}
+use Rattle.ix_model.specs.{history.History.{History, world_of, next, with_entry}, declared.{config.Config.Config, reply.Reply.Reply}}
 use Rattle.ix_model.specs.declared.reply.Reply.TheVariants as reply
 use Rattle.ix_model.specs.declared.reply.Answer.TheVariants as answer
-use Rattle.ix_model.proofs.opening.Validity.{valid_parts}
-use Rattle.ix_model.proofs.sound.Reaching.{opening_is_built, sound_reached}
-use Rattle.ix_model.proofs.told.Logs.{logged_run}
-use Rattle.ix_model.proofs.told.Replies.{replies_fit}
+use Rattle.ix_model.proofs.{opening.Validity.valid_parts, sound.Reaching.{opening_is_built, sound_reached}, told.{Logs.logged_run, Replies.replies_fit}}
 use Rattle.ix_model.proofs.words.Runs.{world_of-none, world_of-push}
 use Rattle.ix_iso.proofs.Noninterference.{last_is_told_alike}
-use Rattle.ix_journal.proofs.Growing.{no_cost, cost_more}
-use Rattle.ix_journal.specs.Entries.{Entries, Fits, with_event}
-use Rattle.ix_core.specs.Stepping.{StandsFor, Shows, AnswersAlike}
-use Rattle.ix_core.proofs.Pids.{pids_run}
+use Rattle.ix_journal.{proofs.Growing.{no_cost, cost_more}, specs.Entries.{Entries, Fits, with_event}}
+use Rattle.ix_core.{specs.Stepping.{StandsFor, Shows, AnswersAlike}, proofs.Pids.pids_run}
 
 -- ---- how many pids there can be
 dear : (es : List Event) → 128 * length es ≤ sum_by (λ e. cost_of e.op) es

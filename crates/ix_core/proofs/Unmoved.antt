@@ -1,24 +1,12 @@
 -- A call of which it is known that it changes no label leaves the frame as it was.
 use Rattle.std.proofs.Common.{◌≡◌, ℕ, Some, refl, sym, ◌∙◌, subst}
-use Rattle.ix_model.specs.world.World.{World, Frame, Object, Process, at}
-use Rattle.ix_model.specs.rows.Outcomes.{Outcome, Pass}
-use Rattle.ix_model.specs.rows.OnDescriptors.{LengthChecks, float_entry, read_fd, write_fd}
-use Rattle.ix_model.specs.rows.Table.{row}
-use Rattle.ix_model.specs.rows.Telling.{told}
-use Rattle.ix_model.specs.rows.Walks.{OpenFile, behind}
-use Rattle.ix_model.specs.history.Events.{Op}
+use Rattle.ix_model.specs.{world.World.{World, Frame, Object, Process, at}, rows.Outcomes.{Outcome, Pass}, rows.OnLabels.self_label, rows.Table.row}
+use Rattle.ix_model.specs.{rows.OnDescriptors.{LengthChecks, float_entry, read_fd, write_fd}, rows.Telling.told, rows.Walks.{OpenFile, behind}}
+use Rattle.ix_model.specs.{history.{Events.Op, Freshness.{Way, Reading, Writing}, Step.step}, declared.{refusal.Refusal.Refusal, reply.Reply.Reply}}
 use Rattle.ix_model.specs.history.Events as op
-use Rattle.ix_model.specs.history.Freshness.{Way, Reading, Writing}
-use Rattle.ix_model.specs.history.Step.{step}
-use Rattle.ix_model.specs.declared.refusal.Refusal.{Refusal}
-use Rattle.ix_model.specs.declared.reply.Reply.{Reply}
-use Rattle.ix_model.proofs.words.Keeps.{Holds}
-use Rattle.ix_model.proofs.words.Ends.{Ends, kept_ends, ends_then, ends_pass}
-use Rattle.ix_model.proofs.words.Transfers.{one_there, ends_read, ends_read_behind, ends_write}
-use Rattle.ix_model.proofs.words.Lasts.{decided}
-use Rattle.ix_model.proofs.words.Answered.{step_frame}
-use Rattle.ix_fresh.specs.Known.{Known, ChangeNothing}
-use Rattle.ix_fresh.specs.Laws.{KnownChangesNothing}
+use Rattle.ix_model.proofs.{words.Keeps.Holds, words.Ends.{Ends, kept_ends, ends_bind, ends_caller, ends_then, ends_pass}, words.Lasts.decided}
+use Rattle.ix_model.proofs.{words.Transfers.{one_there, ends_read, ends_read_behind, ends_write}, words.Answered.step_frame}
+use Rattle.ix_fresh.specs.{Known.{Known, ChangeNothing}, Laws.KnownChangesNothing}
 use Rattle.ix_fcalls.specs.Tested.{IsKnown}
 
 -- what is known is known of the open entry and the object that stand there
@@ -68,3 +56,12 @@ module _ (law : KnownChangesNothing) (f : Frame) where
 
 pub known_still : KnownChangesNothing → (w : World) (place pid : ℕ) (c : Op) → IsKnown w.frame pid c → (step w place pid c).world.frame ≡ w.frame
 known_still law w place pid c k = step_frame w place pid c ∙ decided (As law w.frame) (told w pid c) place pid c w.frame refl (row_still law w.frame _ place pid c k)
+
+-- a look at the own label leaves the frame as it was
+self_row : (t : LengthChecks) (place pid : ℕ) (f : Frame) → Holds (row t place pid op.SelfLabel f) (λ g. g ≡ f)
+unfolding row self_label
+self_row t place pid f = kept_ends (λ g. g ≡ f) _ (ends_bind _ _ f (λ why g. g ≡ f) (λ r g. g ≡ f) (ends_caller pid f (λ why g. g ≡ f) _
+    (λ p lives. ends_pass _ f (λ why g. g ≡ f) (λ r g. g ≡ f) refl) refl))
+
+pub self_still : (w : World) (place pid : ℕ) → (step w place pid op.SelfLabel).world.frame ≡ w.frame
+self_still w place pid = step_frame w place pid op.SelfLabel ∙ decided (λ g. g ≡ w.frame) (told w pid op.SelfLabel) place pid op.SelfLabel w.frame refl (self_row _ place pid w.frame)

@@ -2,15 +2,13 @@ ghost use Rattle.std.specs.Prelude.{◌≡◌, ◌≤◌, ◌<◌, ◌+◌, ◌-
 ghost use Rattle.std.proofs.Common.{option_map};
 ghost use Rattle.ix_float.specs.declared.mark.Way as way_type;
 ghost use Rattle.ix_model.specs.declared.ids.Fd as fd_type;
-ghost use Rattle.ix_model.specs.history.AuditLog.{label_at};
-ghost use Rattle.ix_model.specs.history.Calls.{op_of};
-ghost use Rattle.ix_model.specs.history.Step.{step};
-ghost use Rattle.ix_model.specs.laws.Sound.{Sound};
-ghost use Rattle.ix_fresh.specs.Laws.{spot_behind};
-ghost use Rattle.ix_fresh.specs.Touched.{label_of_entry};
+ghost use Rattle.ix_model.specs.{history.{AuditLog.{label_at}, Calls.{op_of}, Step.{step}}, laws.Sound.{Sound}};
+ghost use Rattle.ix_model.specs.history.Events as op;
+ghost use Rattle.ix_fresh.specs.{Laws.{spot_behind}, Touched.{label_of_entry}};
 ghost use Rattle.ix_fcalls.specs.Filed.{Answers};
 ghost use Rattle.ix_marks.specs.Known.{spot_of, has_row};
-ghost use Rattle.ix_core.specs.Marking.{spot_in, AreReady, AreKnown, AreTold, IsBefore, CanRefresh, mark_through, spot_through, other_process, other_object, other_entry, unless_object, unless_entry, unless_closed, has_exited, refreshed, or_refreshed};
+ghost use Rattle.ix_core.specs.Marking.{spot_in, AreReady, AreKnown, AreTold, IsBefore, CanRefresh, mark_through, spot_through, other_process, other_object};
+ghost use Rattle.ix_core.specs.Marking.{other_entry, unless_object, unless_entry, unless_closed, has_exited, refreshed, or_refreshed};
 
 use ix_float::Way;
 use ix_fresh::laws::known_changes_nothing;
@@ -54,6 +52,9 @@ pub(crate) fn turn<L: Ledger>(
     if goes_fresh(marks, pid, call) {
         return known(machine, marks, place, pid, call, buf);
     }
+    if let Call::SelfLabel = call {
+        return own_label(machine, marks, place, pid, call, buf, steps);
+    }
     call_checked(machine, marks, place, pid, call, buf, steps)
 }
 
@@ -87,6 +88,27 @@ fn known(
     let _ = marks;
     known_changes_nothing();
     machine.call_fresh(place, pid, call, buf).reply()
+}
+
+/// A look of a process at its own label. It changes no label, and leaves the marks as they are.
+fn own_label<L: Ledger>(
+    machine: &mut Machine,
+    marks: &Marks,
+    place: u32,
+    pid: Pid,
+    call: &Call<'_>,
+    buf: &mut Buf,
+    steps: &mut Steps<L>,
+) -> Reply
+    requires sound { Sound machine.old }
+    requires few { length machine.old.frame.processes < 2 ^ 32 - 1 }
+    requires ready { AreReady marks.now machine.old.frame }
+    requires own { op_of call.now ≡ op.SelfLabel }
+    ensures answers { Answers (step machine.old place pid.0 (op_of call.now)) machine.new result buf.old buf.new }
+    ensures told { AreTold marks.now marks.now machine.old place pid.0 (op_of call.now) }
+{
+    let _ = marks;
+    machine.call(place, pid, call, buf, steps)
 }
 
 /// The call of a process, which looks at labels. The marks are told of each label that it changed, and of the descriptor that

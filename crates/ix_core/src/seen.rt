@@ -1,7 +1,5 @@
 ghost use Rattle.std.specs.Prelude.{◌≡◌, ◌<◌};
-ghost use Rattle.ix_model.specs.history.Seats.{made_by};
-ghost use Rattle.ix_model.specs.history.Shown.{AreShown};
-ghost use Rattle.ix_model.specs.history.Systems.{bytes_in};
+ghost use Rattle.ix_model.specs.history.{Seats.{made_by}, Shown.{AreShown}, Systems.{bytes_in}};
 ghost use Rattle.ix_core.specs.Stops.{FilledUp};
 
 use crate::keeper::Core;
@@ -40,8 +38,7 @@ impl<'a, W: Witness> SeenSys<'a, W> {
 }
 
 impl<W: Witness> Sys for SeenSys<'_, W> {
-    ghost use Rattle.std.specs.Prelude.{refl};
-    ghost use Rattle.std.proofs.Common.{◌∙◌};
+    ghost use Rattle.std.{specs.Prelude.{refl}, proofs.Common.{◌∙◌}};
     ghost use Rattle.ix_model.specs.declared.reply.Answer.TheVariants.{JournalFull};
     ghost use Rattle.ix_core.specs.Seen.{GoesSeen, goes_seen_not, goes_seen_further};
 

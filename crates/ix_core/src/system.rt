@@ -39,8 +39,7 @@ impl<'a> CoreSys<'a> {
 }
 
 impl Sys for CoreSys<'_> {
-    ghost use Rattle.std.specs.Prelude.{refl};
-    ghost use Rattle.std.proofs.Common.{◌∙◌, subst};
+    ghost use Rattle.std.{specs.Prelude.{refl}, proofs.Common.{◌∙◌, subst}};
     ghost use Rattle.ix_model.proofs.words.Seats.{goes_on_not, goes_on_further};
     ghost use Rattle.ix_core.specs.OneSeat.{core_of, seat_of, made_of, stops_of, stopped_of, Onward};
 

@@ -1,7 +1,5 @@
 ghost use Rattle.std.specs.Prelude.{◌≡◌};
-ghost use Rattle.ix_model.specs.history.Calls.{op_of};
-ghost use Rattle.ix_model.specs.history.Made.{entry};
-ghost use Rattle.ix_model.specs.history.Shown.{AreShown};
+ghost use Rattle.ix_model.specs.history.{Calls.{op_of}, Made.{entry}, Shown.{AreShown}};
 ghost use Rattle.ix_core.specs.Stepping.{IsNext};
 
 use crate::keeper::Core;

@@ -1,20 +1,12 @@
 -- What the decision of a call comes to as a step of the world.
 use Rattle.std.proofs.Common.{◌≡◌, ℕ, Bool, true, false, List, [], Option, refl, sym, ap, ◌∙◌}
-use Rattle.ix_model.specs.world.World.{World, Content, Process}
-use Rattle.ix_model.specs.world.Contents.{carried}
-use Rattle.ix_model.specs.laws.Sound.{Sound}
-use Rattle.ix_model.specs.rows.OnDescriptors.{LengthChecks}
-use Rattle.ix_model.specs.rows.Table.{verdict}
-use Rattle.ix_model.specs.rows.Telling.{told, nothing_told}
-use Rattle.ix_model.specs.history.Step.{Given, step, answer, plainly, edited, put_front}
-use Rattle.ix_model.specs.history.Events.{Op}
+use Rattle.ix_model.specs.{world.{World.{World, Content, Process}, Contents.carried}, laws.Sound.Sound, declared.reply.Reply.Reply}
+use Rattle.ix_model.specs.rows.{OnDescriptors.LengthChecks, Table.verdict, Telling.{told, nothing_told}}
+use Rattle.ix_model.specs.history.{Step.{Given, step, answer, plainly, edited, put_front}, Events.Op}
 use Rattle.ix_model.specs.history.Events as op
-use Rattle.ix_model.specs.declared.reply.Reply.{Reply}
-use Rattle.ix_model.proofs.clean.Carrying.{carried_decided}
-use Rattle.ix_model.proofs.words.Lasts.{lets_nothing_go}
+use Rattle.ix_model.proofs.{clean.Carrying.carried_decided, words.Lasts.lets_nothing_go}
 use Rattle.ix_tables.specs.Parts.{Parts}
-use Rattle.ix_fcalls.specs.Around.{Around, frame_of, world_of}
-use Rattle.ix_fcalls.specs.Filed.{Answers, Leaves, is_filed, is_plain, lets_go}
+use Rattle.ix_fcalls.specs.{Around.{Around, frame_of, world_of}, Filed.{Answers, Leaves, is_filed, is_plain, lets_go}}
 
 answers : (given : Given) (w : World) (r : Reply) (bytes before after : List ℕ) → given ≡ record { world = w; reply = r; bytes = bytes }
     → after ≡ put_front bytes before → Answers given w r before after

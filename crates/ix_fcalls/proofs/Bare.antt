@@ -1,38 +1,20 @@
 -- A process gives up all of its descriptors.
-use Rattle.std.proofs.Common.{◌≢◌, ◌≤◌, ◌≡◌, ◌<◌, ◌+◌, ◌-◌, ℕ, suc, true, false, true≢false, not, List, length, count_by, Option, Some, None, is_some}
-use Rattle.std.proofs.Common.{option_map, refl, sym, ap, ◌∙◌, subst, arith, slice_set, slice_index_or, if◌then◌else◌, inl, inr}
-use Rattle.std.specs.Option.{option_map_or}
-use Rattle.std.specs.List.{range_with_len}
-use Rattle.std.proofs.lemmas.Bool.{not-true}
-use Rattle.std.proofs.lemmas.Bool.{cases_lt}
-use Rattle.std.proofs.lemmas.Bool.Decides.{eqb_tells}
-use Rattle.std.proofs.lemmas.List.{set-get_or, get_or-set_other, get_or_past}
-use Rattle.std.proofs.lemmas.List.FromFn.{length-map-range_with_len}
-use Rattle.ix_model.specs.world.World.{World, Frame, Process, at, put, change, living, lives, is_dir}
-use Rattle.ix_model.specs.world.Contents.{carried}
+use Rattle.std.proofs.Common.{◌≢◌, ◌≤◌, ◌≡◌, ◌<◌, ◌+◌, ◌-◌, ℕ, suc, true, false, true≢false, not, List, length, count_by, Option, Some, None, is_some, refl, ap}
+use Rattle.std.proofs.Common.{option_map, sym, ◌∙◌, subst, arith, slice_set, slice_index_or, if◌then◌else◌, inl, inr}
+use Rattle.std.{specs.{Option.option_map_or, List.range_with_len}, proofs.lemmas.Bool.{not-true, cases_lt}, proofs.lemmas.Bool.Decides.eqb_tells}
+use Rattle.std.{proofs.lemmas.List.{set-get_or, get_or-set_other, get_or_past}, proofs.lemmas.List.FromFn.length-map-range_with_len}
+use Rattle.ix_model.specs.{world.{World.{World, Frame, Process, at, put, change, living, lives, is_dir}, Contents.carried}, laws.Sound.Sound, rows.Telling.told}
+use Rattle.ix_model.specs.{history.Step.{plainly, answer, step}, rows.Outcomes.{Outcome, Pass}, rows.Rows.{◌>>=◌, ◌>>◌, on_pass, pass, some, frame}}
+use Rattle.ix_model.specs.{rows.Walks.{OpenFile, behind, behind_of, entry_at, opened}, rows.Lifetimes.{let_go, let_go_if_held, let_go_each, let_go_all}}
+use Rattle.ix_model.specs.{rows.OnDescriptors.close_fd, rows.Table.{Decision, row, settled, verdict}, rows.OnPaths.is_home}
 use Rattle.ix_model.specs.history.Events as op
-use Rattle.ix_model.specs.history.Step.{plainly, answer, step}
-use Rattle.ix_model.specs.laws.Sound.{Sound}
-use Rattle.ix_model.specs.rows.Outcomes.{Outcome, Pass}
-use Rattle.ix_model.specs.rows.Rows.{◌>>=◌, ◌>>◌, on_pass, pass, some, frame}
-use Rattle.ix_model.specs.rows.Walks.{OpenFile, behind, behind_of, entry_at, opened}
-use Rattle.ix_model.specs.rows.Lifetimes.{let_go, let_go_if_held, let_go_each, let_go_all}
-use Rattle.ix_model.specs.rows.OnDescriptors.{close_fd}
-use Rattle.ix_model.specs.rows.Table.{Decision, row, settled, verdict}
-use Rattle.ix_model.specs.rows.Telling.{told}
 use Rattle.ix_model.specs.declared.refusal.Refusal.TheVariants as refusal
 use Rattle.ix_model.specs.declared.reply.Reply.TheVariants as reply
-use Rattle.ix_model.proofs.tables.Tables.{change_same}
-use Rattle.ix_model.proofs.tables.Finds.{passes_some, at_change, put_none, in_table}
-use Rattle.ix_model.proofs.words.Living.{is_living, lives_as}
+use Rattle.ix_model.proofs.{tables.{Tables.change_same, Finds.{passes_some, at_change, put_none, in_table}}, words.Living.{is_living, lives_as}}
 use Rattle.ix_model.proofs.sound.Soundly.{sound_step}
-use Rattle.ix_model.specs.rows.OnPaths.{is_home}
 use Rattle.ix_tables.specs.Parts.{Parts, parts_of}
-use Rattle.ix_fcalls.specs.Around.{Around, frame_of, world_of}
-use Rattle.ix_fcalls.specs.Counted.{IsCounted}
-use Rattle.ix_fcalls.specs.Remaining.{Leaves}
-use Rattle.ix_fcalls.proofs.Remaining.{leaves_itself, leaves_twice, left_carried}
-use Rattle.ix_fcalls.proofs.Releasing.{owners_ended, homes_fewer, at_home}
+use Rattle.ix_fcalls.specs.{Around.{Around, frame_of, world_of}, Counted.IsCounted, Remaining.Leaves}
+use Rattle.ix_fcalls.proofs.{Remaining.{leaves_itself, leaves_twice, left_carried}, Releasing.{owners_ended, homes_fewer, at_home}}
 
 -- ---- one descriptor
 -- what a descriptor given up leaves is what CloseFd leaves

@@ -2,13 +2,9 @@
 use Rattle.std.proofs.Common.{◌≡◌, ℕ, Bool, true, false, not, List, Option, Some, None, option_map, unwrap_or, refl, sym, ap, ◌∙◌, if◌then◌else◌, slice_set}
 use Rattle.std.specs.Option.{option_map_or}
 use Rattle.ix_label.specs.Category.{Categories}
-use Rattle.ix_model.specs.world.World.{Process, at, put, change, living}
-use Rattle.ix_model.specs.declared.views.Caller.{Caller}
+use Rattle.ix_model.specs.{world.{World.{Process, at, put, change, living}, Callers.with_caller}, declared.views.Caller.Caller}
 use Rattle.ix_model.proofs.tables.Tables.{change_twice, at_changed}
-use Rattle.ix_fcalls.specs.Around.{Around}
-use Rattle.ix_model.specs.world.Callers.{with_caller}
-use Rattle.ix_fcalls.specs.Around.{with_who, no_process, process_of}
-use Rattle.ix_fcalls.specs.Calling.{IsCalling}
+use Rattle.ix_fcalls.specs.{Around.{Around, with_who, no_process, process_of}, Calling.IsCalling}
 
 living_at : (o : Option Process) (c : Caller) → option_map_or (λ p. not p.ended) o false ≡ true → living (option_map (with_caller c) o) ≡ Some (with_caller c (unwrap_or o no_process))
 living_at None c h = cc

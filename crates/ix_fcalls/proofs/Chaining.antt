@@ -2,18 +2,13 @@
 use Rattle.std.proofs.Common.{◌≡◌, ◌==◌, ℕ, Bool, true, false, not, List, length, slice_get, Option, Some, None, refl, sym, ap, ◌∙◌}
 use Rattle.std.specs.List.{list_any}
 use Rattle.ix_label.specs.Category.{bottom}
-use Rattle.ix_model.specs.world.World.{Frame, Object, at, put, change, is_dir}
-use Rattle.ix_model.specs.world.Naming.{PathOf, last_name}
-use Rattle.ix_model.specs.world.Numbers.{free_inode, fs_number, is_root}
-use Rattle.ix_model.specs.world.Directories.{with_name, without_name, has_room_for_a_name}
-use Rattle.ix_model.specs.rows.Outcomes.{Row, Refuse, Pass}
+use Rattle.ix_model.specs.{world.World.{Frame, Object, at, put, change, is_dir}, world.Naming.{PathOf, last_name}, rows.Outcomes.{Row, Refuse, Pass}}
+use Rattle.ix_model.specs.{world.Numbers.{free_inode, fs_number, is_root}, world.Directories.{with_name, without_name, has_room_for_a_name}}
+use Rattle.ix_model.specs.{rows.Walks.{Spot, Sought, walked_to, found_object, vacant, missing, object_at, spot_at}, rows.Lifetimes.let_go_object}
+use Rattle.ix_model.specs.declared.{refusal.Refusal.Refusal, reply.Kind.Kind}
 use Rattle.ix_model.specs.rows.Rows.{◌>>=◌, ◌>>◌, on_pass, pass, refuse, need, some, frame, object, change_object, put_object, observe, affect}
-use Rattle.ix_model.specs.rows.Walks.{Spot, Sought, walked_to, found_object, vacant, missing, object_at, spot_at}
-use Rattle.ix_model.specs.rows.Lifetimes.{let_go_object}
 use Rattle.ix_model.specs.rows.OnPaths.{is_home, new_object, links_of, stat_passed, make, link_at, unlink_at, remove_dir, stat_at, list_at}
-use Rattle.ix_model.specs.declared.refusal.Refusal.{Refusal}
 use Rattle.ix_model.specs.declared.refusal.Refusal.TheVariants as refusal
-use Rattle.ix_model.specs.declared.reply.Kind.{Kind}
 use Rattle.ix_model.specs.declared.reply.Reply.TheVariants as reply
 
 -- ---- one word, and the rest

@@ -1,20 +1,14 @@
 -- What is counted of processes, as they and the tables change.
-use Rattle.std.proofs.Common.{◌≡◌, ◌+◌, ◌-◌, ◌*◌, ◌<◌, ◌≤◌, ◌==◌, ℕ, suc, cond, Bool, true, false, true≢false, not, ◌&&◌, List, [], ◌∷◌, Option, Some}
-use Rattle.std.proofs.Common.{None, map, sum, set, get_or, take, length, count_by, refl, sym, ap, ◌∙◌, arith, inl, inr, length-set, is_some}
-use Rattle.std.proofs.Common.{option_map, zero-add, if◌then◌else◌}
+use Rattle.std.proofs.Common.{◌≡◌, ◌+◌, ◌-◌, ◌*◌, ◌<◌, ◌≤◌, ◌==◌, ℕ, suc, cond, Bool, true, false, true≢false, not, ◌&&◌, List, [], ◌∷◌, Option, Some, None, ap}
+use Rattle.std.proofs.Common.{map, sum, set, get_or, take, length, count_by, refl, sym, ◌∙◌, arith, inl, inr, length-set, is_some, option_map, zero-add}
+use Rattle.std.proofs.Common.{if◌then◌else◌}
 use Rattle.std.specs.List.{range_with_len, sum_by}
-use Rattle.std.proofs.lemmas.Bool.{cases_lt}
-use Rattle.std.proofs.lemmas.Bool.Decides.{eqb_tells}
-use Rattle.std.proofs.lemmas.List.{ext_get_or, get_or-set_same, get_or-set_other, get_or_past}
+use Rattle.std.proofs.{lemmas.Bool.cases_lt, lemmas.Bool.Decides.eqb_tells, lemmas.List.{ext_get_or, get_or-set_same, get_or-set_other, get_or_past}}
 use Rattle.std.proofs.lemmas.List.FromFn.{get_or-map-range_with_len, length-map-range_with_len}
 use Rattle.std.proofs.lemmas.List.Sums.{sum-map, sum_by-set, sum_by-cons, count_by-le-length, count_by_more_yes, count_by_more_no}
 use Rattle.ix_label.specs.Category.{Categories}
-use Rattle.ix_model.specs.world.World.{Process, Object, at, put, change, living}
-use Rattle.ix_model.specs.world.Owners.{is_at}
-use Rattle.ix_model.specs.rows.OnPaths.{is_home}
-use Rattle.ix_model.proofs.tables.Finds.{in_table}
-use Rattle.ix_model.proofs.tables.Tables.{map_changed}
-use Rattle.ix_model.proofs.words.Living.{is_living, not_ended}
+use Rattle.ix_model.specs.{world.{World.{Process, Object, at, put, change, living}, Owners.is_at}, rows.OnPaths.is_home}
+use Rattle.ix_model.proofs.{tables.{Finds.in_table, Tables.map_changed}, words.Living.{is_living, not_ended}}
 use Rattle.ix_tables.specs.Parts.{Parts, named_by, owners_of, homes_of}
 use Rattle.ix_fcalls.specs.Counted.{IsCounted}
 

@@ -1,31 +1,19 @@
 -- What a cut comes to as a step of the world.
-use Rattle.std.proofs.Common.{◌≡◌, ◌||◌, ℕ, true, false, true≢false, not, nat_le, nat_lt, List, [], Option, Some, None, inl, inr, refl, sym, ap, subst, ◌∙◌, if◌then◌else◌}
-use Rattle.std.specs.Option.{option_map_or}
-use Rattle.std.proofs.lemmas.Bool.{not-true, or_cases, lt-leb, ltb-true}
-use Rattle.ix_model.specs.world.World.{World, Frame, Object, Process, at, is_pipe, lives}
-use Rattle.ix_model.specs.world.Contents.{after_cut, on_pipe}
-use Rattle.ix_model.specs.laws.Sound.{Sound}
-use Rattle.ix_model.specs.declared.call.Mode.{Mode}
+use Rattle.std.proofs.Common.{◌≡◌, ◌||◌, ℕ, true, false, true≢false, not, nat_le, nat_lt, List, [], Option, Some, None, inl, inr, refl, sym, ap, subst, ◌∙◌}
+use Rattle.std.proofs.Common.{if◌then◌else◌}
+use Rattle.std.{specs.Option.option_map_or, proofs.lemmas.Bool.{not-true, or_cases, lt-leb, ltb-true}}
+use Rattle.ix_model.specs.{world.{World.{World, Frame, Object, Process, at, is_pipe, lives}, Contents.{after_cut, on_pipe}}, laws.Sound.Sound}
+use Rattle.ix_model.specs.{declared.{call.Mode.Mode, reply.Reply.Reply}, rows.Rows.{◌>>=◌, ◌>>◌, on_pass, pass, need, some, refuse, frame, object}}
+use Rattle.ix_model.specs.{rows.OnDescriptors.{LengthChecks, cut_fd}, rows.Table.{verdict, row, settled}, rows.Telling.{told, nothing_told, told_of_cut}}
+use Rattle.ix_model.specs.{rows.Walks.{OpenFile, behind, opened}, history.Step.{step, answer, plainly, edited, cut_answer}}
 use Rattle.ix_model.specs.declared.call.Mode.TheVariants as mode
 use Rattle.ix_model.specs.declared.refusal.Refusal.TheVariants as refusal
-use Rattle.ix_model.specs.rows.Rows.{◌>>=◌, ◌>>◌, on_pass, pass, need, some, refuse, frame, object}
-use Rattle.ix_model.specs.rows.OnDescriptors.{LengthChecks, cut_fd}
-use Rattle.ix_model.specs.rows.Table.{verdict, row, settled}
-use Rattle.ix_model.specs.rows.Telling.{told, nothing_told, told_of_cut}
-use Rattle.ix_model.specs.rows.Walks.{OpenFile, behind, opened}
-use Rattle.ix_model.specs.history.Step.{step, answer, plainly, edited, cut_answer}
 use Rattle.ix_model.specs.history.Events as op
-use Rattle.ix_model.specs.declared.reply.Reply.{Reply}
 use Rattle.ix_model.specs.declared.reply.Reply.TheVariants as reply
-use Rattle.ix_model.proofs.frames.Floats.{Floats}
-use Rattle.ix_model.proofs.words.Standing.{behind_is, stands as stands_on}
-use Rattle.ix_model.proofs.clean.Cleaning.{was_cut}
+use Rattle.ix_model.proofs.{frames.Floats.Floats, words.Standing.{behind_is, stands as stands_on}, clean.Cleaning.was_cut}
 use Rattle.ix_tables.specs.Parts.{Parts}
-use Rattle.ix_fcalls.specs.Around.{Around, frame_of, world_of}
-use Rattle.ix_fcalls.specs.Counted.{Keeps}
-use Rattle.ix_fcalls.specs.Filed.{Answers}
-use Rattle.ix_fcalls.proofs.Answering.{answers_said, answers_edited}
-use Rattle.ix_fcalls.proofs.Unmoved.{floats_cut, told_cut_same, content_same}
+use Rattle.ix_fcalls.specs.{Around.{Around, frame_of, world_of}, Counted.Keeps, Filed.Answers}
+use Rattle.ix_fcalls.proofs.{Answering.{answers_said, answers_edited}, Unmoved.{floats_cut, told_cut_same, content_same}}
 
 cut_none : (w : World) (place pid fd len : ℕ) → behind w.frame pid fd ≡ None → step w place pid (op.CutFd fd len) ≡ plainly w (verdict nothing_told place pid (op.CutFd fd len) w.frame)
 unfolding step answer told told_of_cut cut_answer

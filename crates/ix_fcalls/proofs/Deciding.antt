@@ -1,25 +1,12 @@
 -- What a row and a refusal leave.
 use Rattle.std.proofs.Common.{◌≡◌, ℕ, Bool, true, false, List, Option, Result, Ok, Err, OnOk, sym, ap, ◌∙◌, subst}
-use Rattle.ix_model.specs.world.World.{Frame, Process}
-use Rattle.ix_model.specs.world.Contents.{carried}
-use Rattle.ix_model.specs.laws.Sound.{Sound}
-use Rattle.ix_model.specs.rows.Outcomes.{Outcome, Refuse, Pass}
-use Rattle.ix_model.specs.rows.OnDescriptors.{LengthChecks}
-use Rattle.ix_model.specs.rows.Table.{row}
-use Rattle.ix_model.specs.history.Calls.{op_of}
-use Rattle.ix_model.specs.history.Events.{Op}
-use Rattle.ix_model.specs.history.AuditLog.{is_answer}
-use Rattle.ix_model.specs.declared.call.Call.{Call}
-use Rattle.ix_model.specs.declared.reply.Reply.{Reply}
-use Rattle.ix_model.specs.declared.refusal.Refusal.{Refusal}
-use Rattle.ix_model.proofs.clean.Carrying.{carried_same}
-use Rattle.ix_model.proofs.words.Ends.{Ends}
-use Rattle.ix_model.proofs.words.Lasts.{Lasts, lasts_relabelled}
+use Rattle.ix_model.specs.{world.{World.{Frame, Process}, Contents.carried}, laws.Sound.Sound, history.{Calls.op_of, Events.Op, AuditLog.is_answer}}
+use Rattle.ix_model.specs.rows.{Outcomes.{Outcome, Refuse, Pass}, OnDescriptors.LengthChecks, Table.row}
+use Rattle.ix_model.specs.declared.{call.Call.Call, reply.Reply.Reply, refusal.Refusal.Refusal}
+use Rattle.ix_model.proofs.{clean.Carrying.carried_same, words.{Ends.Ends, Lasts.{Lasts, lasts_relabelled}}}
 use Rattle.ix_model.proofs.refused.Refusing.{Relabelled, Relabels, relabelled_itself, refusing_row}
 use Rattle.ix_tables.specs.Parts.{Parts}
-use Rattle.ix_fcalls.specs.Around.{Around, frame_of, world_of}
-use Rattle.ix_fcalls.specs.Counted.{IsCounted, Keeps}
-use Rattle.ix_fcalls.specs.Filed.{Leaves, lets_go}
+use Rattle.ix_fcalls.specs.{Around.{Around, frame_of, world_of}, Counted.{IsCounted, Keeps}, Filed.{Leaves, lets_go}}
 
 relabelled_lasts : (pid : ℕ) (f g : Frame) → Relabelled pid f g → Lasts f g
 relabelled_lasts pid f g r = subst (λ (h : Frame). Lasts f h) (sym r.is) (lasts_relabelled pid r.label f)

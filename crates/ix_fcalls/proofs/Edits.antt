@@ -1,14 +1,11 @@
 -- What edits of bytes and offsets come to in the content.
-use Rattle.std.proofs.Common.{◌≡◌, ◌+◌, ◌-◌, ◌++◌, ℕ, Bool, true, false, List, length, drop, Option, slice_index_or, slice_set, if◌then◌else◌, refl, sym, ap, subst, ◌∙◌}
+use Rattle.std.proofs.Common.{◌≡◌, ◌+◌, ◌-◌, ◌++◌, ℕ, Bool, true, false, List, length, drop, Option, slice_index_or, slice_set, if◌then◌else◌, refl, sym, ap}
+use Rattle.std.proofs.Common.{subst, ◌∙◌}
 use Rattle.std.specs.Option.{option_map_or}
 use Rattle.ix_model.specs.world.World.{Content, Process, Holding, at, is_pipe}
 use Rattle.ix_model.specs.world.Contents.{holds_nothing, side, with_side, change_side, readable, after_read, after_write, after_cut, spliced, cut_to}
 use Rattle.ix_tables.specs.Parts.{Parts}
-use Rattle.ix_fcalls.specs.declared.open_file.OpenFile.{OpenFile}
-use Rattle.ix_fcalls.specs.Around.{Around, frame_of, world_of}
-use Rattle.ix_fcalls.specs.Counted.{IsCounted}
-use Rattle.ix_fcalls.specs.Views.{behind_of}
-use Rattle.ix_fcalls.specs.Serving.{Serves}
+use Rattle.ix_fcalls.specs.{declared.open_file.OpenFile.OpenFile, Around.{Around, frame_of, world_of}, Counted.IsCounted, Views.behind_of, Serving.Serves}
 
 -- the parts with other holdings and offsets
 abbrev pub edited : Parts → List Holding → List ℕ → Parts

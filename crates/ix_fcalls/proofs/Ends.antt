@@ -1,23 +1,12 @@
 -- The two ends of a new pipe: two free entries under two free descriptors.
-use Rattle.std.proofs.Common.{◌≡◌, ◌≢◌, ◌+◌, ◌<◌, ◌≤◌, ◌&&◌, ℕ, ◌⊎◌, zero, suc, option_map, if◌then◌else◌, cond, Bool, true, false, nat_lt, List, []}
-use Rattle.std.proofs.Common.{◌∷◌, Option, Some, None, length, count_by, is_some, is_none, refl, sym, ap, ◌∙◌, arith, inl, inr, length-set, slice_set}
-use Rattle.std.proofs.Common.{slice_index_or}
-use Rattle.std.specs.Option.{option_map_or}
-use Rattle.std.specs.List.{position_or_len}
-use Rattle.std.proofs.lemmas.Bool.{and_from, lt-ltb}
-use Rattle.std.proofs.lemmas.List.{set-get_or}
-use Rattle.std.proofs.lemmas.List.Sums.{sum_by-set, sum_by-cons}
-use Rattle.ix_model.specs.world.World.{Process, Object, Open, Holding, at, put, change, living, lowest_free}
-use Rattle.ix_model.proofs.tables.FreeNumbers.{lowest_free_is, IsFreePipe, free_pipe_is}
-use Rattle.ix_model.proofs.tables.Tables.{at_changed, change_twice}
-use Rattle.ix_model.specs.declared.views.Caller.{Caller}
-use Rattle.ix_model.specs.laws.Sound.{Sound}
-use Rattle.ix_model.specs.world.Contents.{holds_nothing}
-use Rattle.ix_model.specs.world.Numbers.{free_pipe}
-use Rattle.ix_tables.specs.Parts.{Parts}
-use Rattle.ix_tables.specs.Views.{vacant_pipe}
-use Rattle.ix_fcalls.specs.Around.{Around, frame_of, world_of, process_of}
-use Rattle.ix_fcalls.specs.Counted.{IsCounted, IsClear, Keeps, has_free, free_beside}
+use Rattle.std.proofs.Common.{◌≡◌, ◌≢◌, ◌+◌, ◌<◌, ◌≤◌, ◌&&◌, ℕ, ◌⊎◌, zero, suc, option_map, if◌then◌else◌, cond, Bool, true, false, nat_lt, List, [], ◌∷◌, Some}
+use Rattle.std.proofs.Common.{Option, None, length, count_by, is_some, is_none, refl, sym, ap, ◌∙◌, arith, inl, inr, length-set, slice_set, slice_index_or}
+use Rattle.std.{specs.{Option.option_map_or, List.position_or_len}, proofs.lemmas.{Bool.{and_from, lt-ltb}, List.{set-get_or, Sums.{sum_by-set, sum_by-cons}}}}
+use Rattle.ix_model.specs.world.{World.{Process, Object, Open, Holding, at, put, change, living, lowest_free}, Contents.holds_nothing, Numbers.free_pipe}
+use Rattle.ix_model.specs.{declared.views.Caller.Caller, laws.Sound.Sound}
+use Rattle.ix_model.proofs.tables.{FreeNumbers.{lowest_free_is, IsFreePipe, free_pipe_is}, Tables.{at_changed, change_twice}}
+use Rattle.ix_tables.specs.{Parts.Parts, Views.vacant_pipe}
+use Rattle.ix_fcalls.specs.{Around.{Around, frame_of, world_of, process_of}, Counted.{IsCounted, IsClear, Keeps, has_free, free_beside}}
 use Rattle.ix_fcalls.proofs.Counting.{one, counted_same}
 
 -- ---- the second free descriptor

@@ -1,7 +1,6 @@
 -- A part of a buffer that is read into.
 use Rattle.std.proofs.Common.{◌≡◌, ℕ, ◌≤◌, List, ◌++◌, length, take, drop, min, sym, ap, ◌∙◌, arith, inl, inr, append_assoc}
-use Rattle.std.proofs.lemmas.Bool.{cases_lt}
-use Rattle.std.proofs.lemmas.List.{length-take, drop-append-le, take-append-drop, take_all}
+use Rattle.std.proofs.lemmas.{Bool.cases_lt, List.{length-take, drop-append-le, take-append-drop, take_all}}
 
 pub read_front : (bs buf out : List ℕ) (n k : ℕ) → n ≤ length buf → k ≡ min n (length bs) → out ≡ take k bs ++ drop k (take n buf) → out ++ drop n buf ≡ take n bs ++ drop (length (take n bs)) buf
 read_front bs buf out n k low is e =

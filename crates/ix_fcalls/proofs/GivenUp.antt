@@ -1,24 +1,13 @@
 -- A descriptor is given up: the row, the counts, and what remains.
-use Rattle.std.proofs.Common.{is_some, arith, inl, inr, ◌≡◌, ◌<◌, ◌-◌, ◌==◌, ◌&&◌, ℕ, Bool, true, false, not, List, length, Option, Some, None, refl}
-use Rattle.std.proofs.Common.{sym, ap, ◌∙◌, subst, length-set, slice_set, slice_index_or, if◌then◌else◌}
-use Rattle.std.specs.Option.{option_map_or}
-use Rattle.std.proofs.lemmas.Bool.{eqb-true, or_cases, and_parts}
-use Rattle.ix_model.specs.world.World.{Frame, Object, Process, at, put, change, is_pipe, is_ended}
-use Rattle.ix_model.specs.world.Owners.{owned}
-use Rattle.ix_model.specs.world.Contents.{carried, holds_nothing}
-use Rattle.ix_model.specs.rows.Outcomes.{Pass, Row}
-use Rattle.ix_model.specs.rows.Rows.{◌>>◌, on_pass, pass, only_if, change_process, change_object, put_object, put_open}
-use Rattle.ix_model.specs.rows.Walks.{OpenFile, behind}
-use Rattle.ix_model.specs.rows.Lifetimes.{stays, has_lost, let_go, let_go_claim, let_go_open, let_go_object}
-use Rattle.ix_model.specs.laws.Sound.{Sound}
-use Rattle.ix_model.proofs.tables.Tables.{seen_changed}
-use Rattle.ix_model.proofs.tables.Finds.{in_table}
-use Rattle.ix_model.proofs.frames.Claimants.{is_behind}
-use Rattle.ix_tables.specs.Parts.{Parts, owners_of, homes_of}
-use Rattle.ix_tables.specs.Views.{frame_alone, released, without_object, object_let_go}
-use Rattle.ix_fcalls.specs.Around.{Around, frame_of, world_of}
-use Rattle.ix_fcalls.specs.Counted.{IsCounted}
-use Rattle.ix_fcalls.specs.Remaining.{Remains, Leaves}
+use Rattle.std.proofs.Common.{is_some, arith, inl, inr, ◌≡◌, ◌<◌, ◌-◌, ◌==◌, ◌&&◌, ℕ, Bool, true, false, not, List, length, Option, Some, None, refl, sym, ap}
+use Rattle.std.proofs.Common.{◌∙◌, subst, length-set, slice_set, slice_index_or, if◌then◌else◌}
+use Rattle.std.{specs.Option.option_map_or, proofs.lemmas.Bool.{eqb-true, or_cases, and_parts}}
+use Rattle.ix_model.specs.world.{World.{Frame, Object, Process, at, put, change, is_pipe, is_ended}, Owners.owned, Contents.{carried, holds_nothing}}
+use Rattle.ix_model.specs.{rows.Outcomes.{Pass, Row}, rows.Rows.{◌>>◌, on_pass, pass, only_if, change_process, change_object, put_object, put_open}}
+use Rattle.ix_model.specs.{rows.Walks.{OpenFile, behind}, rows.Lifetimes.{stays, has_lost, let_go, let_go_claim, let_go_open, let_go_object}, laws.Sound.Sound}
+use Rattle.ix_model.proofs.{tables.{Tables.seen_changed, Finds.in_table}, frames.Claimants.is_behind}
+use Rattle.ix_tables.specs.{Parts.{Parts, owners_of, homes_of}, Views.{frame_alone, released, without_object, object_let_go}}
+use Rattle.ix_fcalls.specs.{Around.{Around, frame_of, world_of}, Counted.IsCounted, Remaining.{Remains, Leaves}}
 use Rattle.ix_fcalls.proofs.Remaining.{taken, cleared, remains_itself, remains_changed, remains_taken, left_carried}
 use Rattle.ix_fcalls.proofs.Releasing.{owners_fewer, last_is, homes_taken}
 

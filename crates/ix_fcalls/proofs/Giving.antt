@@ -1,25 +1,15 @@
 -- One descriptor more of the caller: what it does to the counts, and that these are right.
-use Rattle.std.proofs.Common.{◌≡◌, ◌+◌, ◌<◌, ◌≤◌, ◌&&◌, ℕ, cond, Bool, true, false, true≢false, nat_lt, List, Option, Some, None, map, sum, set}
-use Rattle.std.proofs.Common.{get_or, length, count_by, is_some, is_none, refl, sym, ap, ◌∙◌, arith, inl, inr, length-set, slice_set, slice_index_or}
-use Rattle.std.proofs.Common.{if◌then◌else◌}
-use Rattle.std.specs.Option.{option_map_or}
-use Rattle.std.specs.List.{range_with_len}
-use Rattle.std.proofs.lemmas.Bool.{cases_lt, and_parts, and_from, lt-ltb, ltb-true}
-use Rattle.std.proofs.lemmas.Bool.Decides.{eqb_tells}
+use Rattle.std.proofs.Common.{◌≡◌, ◌+◌, ◌<◌, ◌≤◌, ◌&&◌, ℕ, cond, Bool, true, false, true≢false, nat_lt, List, Option, Some, None, map, sum, set, get_or, length}
+use Rattle.std.proofs.Common.{count_by, is_some, is_none, refl, sym, ap, ◌∙◌, arith, inl, inr, length-set, slice_set, slice_index_or, if◌then◌else◌}
+use Rattle.std.specs.{Option.option_map_or, List.range_with_len}
+use Rattle.std.proofs.{lemmas.Bool.{cases_lt, and_parts, and_from, lt-ltb, ltb-true}, lemmas.Bool.Decides.eqb_tells, lemmas.List.Sums.sum-map}
 use Rattle.std.proofs.lemmas.List.{get_or_past, get_or-set_same, get_or-set_other, set-get_or}
-use Rattle.std.proofs.lemmas.List.Sums.{sum-map}
-use Rattle.ix_model.specs.laws.Sound.{Sound}
-use Rattle.ix_model.specs.world.World.{Process, Open, at, put, change, living, lowest_free}
-use Rattle.ix_model.specs.world.Owners.{is_at}
-use Rattle.ix_model.specs.rows.OnPaths.{is_home}
+use Rattle.ix_model.specs.{laws.Sound.Sound, world.{World.{Process, Open, at, put, change, living, lowest_free}, Owners.is_at}, rows.OnPaths.is_home}
 use Rattle.ix_model.specs.declared.views.Caller.{Caller}
-use Rattle.ix_model.proofs.tables.Finds.{sum_zero}
-use Rattle.ix_model.proofs.tables.FreeNumbers.{lowest_free_is}
+use Rattle.ix_model.proofs.tables.{Finds.sum_zero, FreeNumbers.lowest_free_is}
 use Rattle.ix_tables.specs.Parts.{Parts, named_by, homes_of}
-use Rattle.ix_fcalls.specs.Around.{Around, world_of, process_of}
-use Rattle.ix_fcalls.specs.Counted.{IsCounted, IsClear, Keeps, has_free}
-use Rattle.ix_fcalls.proofs.Counting.{one, counts_are, one_more, count_changed, owners_put, stands_within, owners_long, owners_at}
-use Rattle.ix_fcalls.proofs.Sharing.{owners_bounded}
+use Rattle.ix_fcalls.specs.{Around.{Around, world_of, process_of}, Counted.{IsCounted, IsClear, Keeps, has_free}}
+use Rattle.ix_fcalls.proofs.{Counting.{one, counts_are, one_more, count_changed, owners_put, stands_within, owners_long, owners_at}, Sharing.owners_bounded}
 
 -- ---- the free descriptor
 pub record FreeAt (ps : List (Option Process)) (pid fd : ℕ) : Type 0 where

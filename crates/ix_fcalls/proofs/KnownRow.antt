@@ -2,17 +2,11 @@
 use Rattle.std.proofs.Common.{◌≡◌, ◌&&◌, ◌-◌, ℕ, true, false, Some, subst}
 use Rattle.ix_model.specs.declared.refusal.Refusal.TheVariants as refusal
 use Rattle.ix_model.specs.declared.reply.Reply.TheVariants as reply
-use Rattle.ix_model.specs.world.World.{Frame, Object, at, held, is_pipe}
-use Rattle.ix_model.specs.rows.Outcomes.{Refuse, Pass}
-use Rattle.ix_model.specs.rows.OnDescriptors.{LengthChecks, read_fd, write_fd}
-use Rattle.ix_model.specs.rows.Walks.{OpenFile, behind}
-use Rattle.ix_model.specs.history.Freshness.{Way, Reading, Writing}
-use Rattle.ix_fresh.specs.Known.{Known, ChangeNothing}
-use Rattle.ix_fresh.proofs.Nothing.{known_changes_nothing}
+use Rattle.ix_model.specs.{world.World.{Frame, Object, at, held, is_pipe}, history.Freshness.{Way, Reading, Writing}}
+use Rattle.ix_model.specs.rows.{Outcomes.{Refuse, Pass}, OnDescriptors.{LengthChecks, read_fd, write_fd}, Walks.{OpenFile, behind}}
+use Rattle.ix_fresh.{specs.Known.{Known, ChangeNothing}, proofs.Nothing.known_changes_nothing}
 use Rattle.ix_model.proofs.words.Transfers.{one_there}
-use Rattle.ix_fcalls.specs.Tested.{ToRead, ToWrite}
-use Rattle.ix_fcalls.proofs.ReadRow.{read_waits, read_passes}
-use Rattle.ix_fcalls.proofs.WriteRow.{write_passes}
+use Rattle.ix_fcalls.{specs.Tested.{ToRead, ToWrite}, proofs.{ReadRow.{read_waits, read_passes}, WriteRow.write_passes}}
 
 -- what is known is known of the open entry and the object that stand there
 changes_nothing : (way : Way) (f : Frame) (pid fd : ℕ) (k : Known way f pid fd) (e : OpenFile) (x : Object) → behind f pid fd ≡ Some e

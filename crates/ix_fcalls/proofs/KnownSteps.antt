@@ -1,30 +1,15 @@
 -- What a read and a write that have nothing to look at come to as steps of the world.
 use Rattle.std.proofs.Common.{◌≡◌, ◌≤◌, ℕ, Bool, true, false, List, length, take, Option, Some, refl, sym, ap, if◌then◌else◌}
-use Rattle.ix_model.specs.world.World.{Frame, Process, lives}
-use Rattle.ix_model.specs.world.Contents.{readable, after_read, after_write}
-use Rattle.ix_model.specs.laws.Sound.{Sound}
-use Rattle.ix_model.specs.rows.Outcomes.{Refuse, Pass}
-use Rattle.ix_model.specs.rows.OnDescriptors.{LengthChecks, read_fd, write_fd}
-use Rattle.ix_model.specs.rows.Refusals.{keeps_label}
-use Rattle.ix_model.specs.rows.Table.{Decision, verdict, row}
-use Rattle.ix_model.specs.rows.Telling.{nothing_told, told_of_read, told_of_write}
-use Rattle.ix_model.specs.rows.Walks.{OpenFile, behind}
-use Rattle.ix_model.specs.history.Calls.{op_of}
-use Rattle.ix_model.specs.history.Events.{Op}
+use Rattle.ix_model.specs.{world.{World.{Frame, Process, lives}, Contents.{readable, after_read, after_write}}, laws.Sound.Sound, rows.Outcomes.{Refuse, Pass}}
+use Rattle.ix_model.specs.{rows.OnDescriptors.{LengthChecks, read_fd, write_fd}, rows.Refusals.keeps_label, rows.Table.{Decision, verdict, row}}
+use Rattle.ix_model.specs.{rows.Telling.{nothing_told, told_of_read, told_of_write}, rows.Walks.{OpenFile, behind}}
+use Rattle.ix_model.specs.{history.{Calls.op_of, Events.Op, Step.{step, put_front}}, declared.{call.Call.Call, refusal.Refusal.Refusal, reply.Reply.Reply}}
 use Rattle.ix_model.specs.history.Events as op
-use Rattle.ix_model.specs.history.Step.{step, put_front}
-use Rattle.ix_model.specs.declared.call.Call.{Call}
 use Rattle.ix_model.specs.declared.call.Call.TheVariants as call
-use Rattle.ix_model.specs.declared.refusal.Refusal.{Refusal}
-use Rattle.ix_model.specs.declared.reply.Reply.{Reply}
 use Rattle.ix_model.specs.declared.reply.Reply.TheVariants as reply
 use Rattle.ix_tables.specs.Parts.{Parts}
-use Rattle.ix_fcalls.specs.Around.{Around, frame_of, world_of}
-use Rattle.ix_fcalls.specs.Counted.{Keeps}
-use Rattle.ix_fcalls.specs.Filed.{Answers}
-use Rattle.ix_fcalls.specs.Tested.{IsKnown}
-use Rattle.ix_fcalls.proofs.ReadSteps.{read_few, answers_unread, answers_read}
-use Rattle.ix_fcalls.proofs.WriteSteps.{write_room, answers_unwritten, answers_write}
+use Rattle.ix_fcalls.specs.{Around.{Around, frame_of, world_of}, Counted.Keeps, Filed.Answers, Tested.IsKnown}
+use Rattle.ix_fcalls.proofs.{ReadSteps.{read_few, answers_unread, answers_read}, WriteSteps.{write_room, answers_unwritten, answers_write}}
 
 -- ---- the decision, where the row leaves the frame as it was
 same_frame : (b : Bool) (f : Frame) → (if b then f else f) ≡ f

@@ -1,40 +1,22 @@
 -- Where walks lead in a sound world, and what another label of an object leaves as it was.
-use Rattle.std.proofs.Common.{◌≡◌, ◌<◌, ◌+◌, ℕ, Bool, true, false, true≢false, not, List, [], length, map, sum, take, drop, nat_lt, Option, Some}
-use Rattle.std.proofs.Common.{None, is_some, is_none, option_map, unwrap_or, slice_set, length-set, refl, sym, ap, ◌∙◌, subst, arith, inl, inr}
-use Rattle.std.specs.Option.{option_map_or}
-use Rattle.std.specs.List.{drop-map, take-map}
-use Rattle.std.proofs.lemmas.Bool.{cases_lt}
-use Rattle.std.proofs.lemmas.List.{get_or_past, set-get_or}
+use Rattle.std.proofs.Common.{◌≡◌, ◌<◌, ◌+◌, ℕ, Bool, true, false, true≢false, not, List, [], length, map, sum, take, drop, nat_lt, Option, Some, None, is_some}
+use Rattle.std.proofs.Common.{is_none, option_map, unwrap_or, slice_set, length-set, refl, sym, ap, ◌∙◌, subst, arith, inl, inr}
+use Rattle.std.{specs.{Option.option_map_or, List.{drop-map, take-map}}, proofs.lemmas.{Bool.cases_lt, List.{get_or_past, set-get_or}}}
 use Rattle.ix_label.specs.Category.{Categories}
-use Rattle.ix_model.specs.laws.Sound.{Sound, NamesSound}
-use Rattle.ix_model.specs.world.Naming.{PathOf, last_name}
-use Rattle.ix_model.specs.world.World.{Process, Object, Holding, Frame, at, put, change, is_dir, is_file, is_pipe, fs_at}
-use Rattle.ix_model.specs.world.Contents.{holds_nothing}
-use Rattle.ix_model.specs.world.Numbers.{first_inode, free_inode, fs_number}
-use Rattle.ix_model.specs.world.Directories.{has_room_for_a_name}
-use Rattle.ix_model.specs.world.Owners.{names_in_all}
-use Rattle.ix_model.specs.declared.config.FsSpec.{FsSpec}
-use Rattle.ix_model.specs.declared.reply.Kind.{Kind}
-use Rattle.ix_model.specs.declared.reply.Kind.TheVariants as kind
-use Rattle.ix_model.specs.rows.Rows.{affect}
-use Rattle.ix_model.specs.rows.Outcomes.{Outcome, Pass}
+use Rattle.ix_model.specs.{laws.Sound.{Sound, NamesSound}, world.Naming.{PathOf, last_name}, world.Contents.holds_nothing, world.Owners.names_in_all}
+use Rattle.ix_model.specs.{world.World.{Process, Object, Holding, Frame, at, put, change, is_dir, is_file, is_pipe, fs_at}, rows.Rows.affect}
+use Rattle.ix_model.specs.{world.Numbers.{first_inode, free_inode, fs_number}, world.Directories.has_room_for_a_name, rows.Outcomes.{Outcome, Pass}}
+use Rattle.ix_model.specs.declared.{config.FsSpec.FsSpec, reply.Kind.Kind}
 use Rattle.ix_model.specs.rows.Walks.{Spot, Sought, node, nothing, child, walked_to, found_object, vacant, missing, spot_at}
+use Rattle.ix_model.specs.declared.reply.Kind.TheVariants as kind
 use Rattle.ix_model.specs.rows.Walks as walks
-use Rattle.ix_model.proofs.tables.Tables.{SameBut, seen_same, map_same, length_same}
-use Rattle.ix_model.proofs.words.Keeps.{Holds}
-use Rattle.ix_model.proofs.words.Ends.{Ends, Anything}
-use Rattle.ix_model.proofs.words.There.{child_named}
-use Rattle.ix_model.proofs.words.Walked.{Within, Leads, Along, along_itself, leads_walked_to, leads_there, leads_vacant, leads_missing, leads_found_in}
-use Rattle.ix_model.proofs.frames.Floats.{Floats, object_but, process_but, floats_itself, floats_affect}
-use Rattle.ix_model.proofs.frames.Gone.{kinds_left}
-use Rattle.ix_model.proofs.frames.Frames as frames
+use Rattle.ix_model.proofs.{tables.Tables.{SameBut, seen_same, map_same, length_same}, words.{Keeps.Holds, Ends.{Ends, Anything}, There.child_named}}
+use Rattle.ix_model.proofs.{frames.Floats.{Floats, object_but, process_but, floats_itself, floats_affect}, frames.Gone.kinds_left}
 use Rattle.ix_model.proofs.frames.Frames.{Follows, follows_itself}
-use Rattle.ix_tables.specs.Parts.{Parts}
-use Rattle.ix_tables.specs.Views.{vacant_inode}
-use Rattle.ix_tables.proofs.Vacant.{free_by}
-use Rattle.ix_fcalls.specs.Around.{Around, frame_of, world_of}
-use Rattle.ix_fcalls.specs.Counted.{IsCounted, Keeps}
-use Rattle.ix_fcalls.proofs.Counting.{counted_same}
+use Rattle.ix_model.proofs.words.Walked.{Within, Leads, Along, along_itself, leads_walked_to, leads_there, leads_vacant, leads_missing, leads_found_in}
+use Rattle.ix_model.proofs.frames.Frames as frames
+use Rattle.ix_tables.{specs.{Parts.Parts, Views.vacant_inode}, proofs.Vacant.free_by}
+use Rattle.ix_fcalls.{specs.{Around.{Around, frame_of, world_of}, Counted.{IsCounted, Keeps}}, proofs.Counting.counted_same}
 
 -- ---- where a walk led
 passed : {A : Type 0} (o : Outcome A) (x : A) (g : Frame) (Q : A → Frame → Type 0) → o ≡ Pass x g → Ends o Anything Q → Q x g

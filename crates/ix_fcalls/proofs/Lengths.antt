@@ -1,22 +1,14 @@
 -- What lengths tell of an open entry, from the parts alone.
-use Rattle.std.proofs.Common.{◌≡◌, ◌≤◌, ◌+◌, ◌-◌, ◌==◌, ◌&&◌, ◌||◌, ℕ, Bool, true, false, not, nat_le, nat_lt, List, length, drop, Option, Some, None}
-use Rattle.std.proofs.Common.{slice_index_or, if◌then◌else◌, inl, inr, refl, sym, ap, ◌∙◌, arith}
-use Rattle.std.specs.Prelude.{max}
-use Rattle.std.specs.Option.{option_map_or}
-use Rattle.std.proofs.lemmas.Bool.{cases_lt, le-leb, lt-leb, lt-ltb, le-ltb, eq-eqb, ne_eqb, ltb-false, or_parts}
-use Rattle.std.proofs.lemmas.List.{length-drop}
-use Rattle.ix_model.specs.world.World.{Process, Holding, at, is_pipe}
-use Rattle.ix_model.specs.world.Contents.{holds_nothing, side, readable}
-use Rattle.ix_model.specs.rows.OnDescriptors.{LengthChecks}
-use Rattle.ix_model.specs.rows.Telling.{nothing_told, told_of_read, told_of_write, told_of_file_write, told_of_pipe_write, told_of_cut, blocks_on}
-use Rattle.ix_model.specs.rows.Telling.{blocks_beside, blocks_for, lies_on, fs_of_object, length_then}
+use Rattle.std.proofs.Common.{◌≡◌, ◌≤◌, ◌+◌, ◌-◌, ◌==◌, ◌&&◌, ◌||◌, ℕ, Bool, true, false, not, nat_le, nat_lt, List, length, drop, Option, Some, None, inl, inr}
+use Rattle.std.proofs.Common.{slice_index_or, if◌then◌else◌, refl, sym, ap, ◌∙◌, arith}
+use Rattle.std.specs.{Prelude.max, Option.option_map_or}
+use Rattle.std.proofs.lemmas.{Bool.{cases_lt, le-leb, lt-leb, lt-ltb, le-ltb, eq-eqb, ne_eqb, ltb-false, or_parts}, List.length-drop}
+use Rattle.ix_model.specs.{world.{World.{Process, Holding, at, is_pipe}, Contents.{holds_nothing, side, readable}}, rows.OnDescriptors.LengthChecks}
 use Rattle.ix_model.proofs.tables.Blocks.{blocks_from}
-use Rattle.ix_tables.specs.Parts.{Parts}
-use Rattle.ix_tables.specs.Views.{frame_alone, content_alone, has_room}
-use Rattle.ix_fcalls.specs.declared.open_file.OpenFile.{OpenFile}
-use Rattle.ix_fcalls.specs.Around.{Around, frame_of, world_of}
-use Rattle.ix_fcalls.specs.Views.{behind_of}
-use Rattle.ix_fcalls.specs.Serving.{Serves}
+use Rattle.ix_model.specs.rows.Telling.{nothing_told, told_of_read, told_of_write, told_of_file_write, told_of_pipe_write, told_of_cut, blocks_on, blocks_for}
+use Rattle.ix_model.specs.rows.Telling.{blocks_beside, lies_on, fs_of_object, length_then}
+use Rattle.ix_tables.specs.{Parts.Parts, Views.{frame_alone, content_alone, has_room}}
+use Rattle.ix_fcalls.specs.{declared.open_file.OpenFile.OpenFile, Around.{Around, frame_of, world_of}, Views.behind_of, Serving.Serves}
 
 twice : (b : Bool) → not (not b) ≡ b
 twice true = refl

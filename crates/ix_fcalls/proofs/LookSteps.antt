@@ -1,33 +1,16 @@
 -- What a look at an object comes to as a step of the world.
-use Rattle.std.proofs.Common.{◌≡◌, ℕ, Bool, true, false, List, Option, Some, refl, sym, ap, subst, ◌∙◌}
-use Rattle.std.specs.Option.{option_map_or}
-use Rattle.ix_model.specs.world.World.{World, Frame, Object, Process, Holding, at, is_file}
-use Rattle.ix_model.specs.world.Naming.{PathOf}
-use Rattle.ix_model.specs.laws.Sound.{Sound}
-use Rattle.ix_model.specs.rows.Outcomes.{Outcome, Refuse, Pass}
-use Rattle.ix_model.specs.rows.OnDescriptors.{LengthChecks}
-use Rattle.ix_model.specs.rows.OnPaths.{stat_at, stat_passed}
-use Rattle.ix_model.specs.rows.Table.{verdict, row}
-use Rattle.ix_model.specs.rows.Telling.{told, nothing_told}
-use Rattle.ix_model.specs.rows.Walks.{object_at}
-use Rattle.ix_model.specs.history.AuditLog.{is_answer}
-use Rattle.ix_model.specs.history.Step.{step, answer, plainly, stat_answer}
-use Rattle.ix_model.specs.history.Events.{Op}
+use Rattle.std.{proofs.Common.{◌≡◌, ℕ, Bool, true, false, List, Option, Some, refl, sym, ap, subst, ◌∙◌}, specs.Option.option_map_or}
+use Rattle.ix_model.specs.{world.{World.{World, Frame, Object, Process, Holding, at, is_file}, Naming.PathOf}, laws.Sound.Sound, rows.Table.{verdict, row}}
+use Rattle.ix_model.specs.{rows.Outcomes.{Outcome, Refuse, Pass}, rows.OnDescriptors.LengthChecks, rows.OnPaths.{stat_at, stat_passed}, rows.Walks.object_at}
+use Rattle.ix_model.specs.{rows.Telling.{told, nothing_told}, history.{AuditLog.is_answer, Step.{step, answer, plainly, stat_answer}, Events.Op}}
+use Rattle.ix_model.specs.declared.{ids.Obj.Obj, privs.PrivSet.PrivSet, reply.{Kind.Kind, Reply.Reply}}
 use Rattle.ix_model.specs.history.Events as op
-use Rattle.ix_model.specs.declared.ids.Obj.{Obj}
-use Rattle.ix_model.specs.declared.privs.PrivSet.{PrivSet}
-use Rattle.ix_model.specs.declared.reply.Kind.{Kind}
 use Rattle.ix_model.specs.declared.reply.Kind.TheVariants as kind
-use Rattle.ix_model.specs.declared.reply.Reply.{Reply}
 use Rattle.ix_model.specs.declared.reply.Reply.TheVariants as reply
-use Rattle.ix_model.proofs.words.Ends.{Ends, Anything, ending}
-use Rattle.ix_model.proofs.words.Looks.{ends_observe}
-use Rattle.ix_model.proofs.words.Answered.{passed}
+use Rattle.ix_model.proofs.words.{Ends.{Ends, Anything, ending}, Looks.ends_observe, Answered.passed}
 use Rattle.ix_tables.specs.Parts.{Parts}
-use Rattle.ix_fcalls.specs.Around.{Around, frame_of, world_of}
-use Rattle.ix_fcalls.specs.Filed.{Answers, IsLook, Leaves, is_filed, lets_go}
+use Rattle.ix_fcalls.{specs.Around.{Around, frame_of, world_of}, specs.Filed.{Answers, IsLook, Leaves, is_filed, lets_go}, proofs.Answering.answers_plainly}
 use Rattle.ix_fcalls.specs.Telling.{TellsOfFile, size_told, with_size}
-use Rattle.ix_fcalls.proofs.Answering.{answers_plainly}
 
 -- ---- a file that is told of is there
 -- whatever a row comes to

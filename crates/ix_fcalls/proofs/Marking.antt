@@ -2,8 +2,7 @@
 use Rattle.std.proofs.Common.{ℕ, List, Option, refl, length-set}
 use Rattle.ix_model.specs.world.World.{Open, Process, change}
 use Rattle.ix_tables.specs.Parts.{Parts}
-use Rattle.ix_fcalls.specs.Counted.{IsCounted}
-use Rattle.ix_fcalls.proofs.Counting.{counted_same}
+use Rattle.ix_fcalls.{specs.Counted.IsCounted, proofs.Counting.counted_same}
 
 -- the counts don't see the labels of open entries
 pub counted_marked : (t : Parts) (ps : List (Option Process)) (e : ℕ) (h : Open → Open) → IsCounted t ps → IsCounted (record t { opens = change t.opens e h }) ps

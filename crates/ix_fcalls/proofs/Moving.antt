@@ -1,24 +1,16 @@
 -- Another home of the caller, after a walk to it.
-use Rattle.std.proofs.Common.{◌≡◌, ◌+◌, ◌-◌, ◌<◌, ◌≤◌, ◌==◌, ◌&&◌, ℕ, not, cond, true, false, List, Option, Some, None, set, get_or, length, count_by}
-use Rattle.std.proofs.Common.{is_some, inl, inr, refl, sym, ap, ◌∙◌, subst, arith, length-set, slice_set, slice_index_or}
-use Rattle.std.specs.Option.{option_map_or}
-use Rattle.std.proofs.lemmas.Bool.Decides.{eqb_tells}
-use Rattle.std.proofs.lemmas.List.Sums.{sum-map}
-use Rattle.ix_model.specs.laws.Sound.{Sound}
-use Rattle.ix_model.specs.world.Naming.{PathOf}
-use Rattle.ix_model.specs.world.World.{Process, Object, Frame, at, change, living, is_dir}
-use Rattle.ix_model.specs.rows.OnPaths.{is_home}
-use Rattle.ix_model.specs.rows.Outcomes.{Outcome, Pass}
-use Rattle.ix_model.specs.rows.Walks.{object_at}
+use Rattle.std.proofs.Common.{◌≡◌, ◌+◌, ◌-◌, ◌<◌, ◌≤◌, ◌==◌, ◌&&◌, ℕ, not, cond, true, false, List, Option, Some, None, set, get_or, length, count_by, is_some}
+use Rattle.std.proofs.Common.{inl, inr, refl, sym, ap, ◌∙◌, subst, arith, length-set, slice_set, slice_index_or}
+use Rattle.std.{specs.Option.option_map_or, proofs.lemmas.{Bool.Decides.eqb_tells, List.Sums.sum-map}}
+use Rattle.ix_model.specs.{laws.Sound.Sound, world.{Naming.PathOf, World.{Process, Object, Frame, at, change, living, is_dir}}}
+use Rattle.ix_model.specs.rows.{OnPaths.is_home, Outcomes.{Outcome, Pass}, Walks.object_at}
 use Rattle.ix_model.proofs.frames.Frames as frames
-use Rattle.ix_model.proofs.frames.Frames.{FrameSound, Follows, follows_itself}
-use Rattle.ix_model.proofs.sound.Steadily.{follows_found}
-use Rattle.ix_model.proofs.words.Keeps.{Holds}
-use Rattle.ix_model.proofs.words.Living.{is_living, not_ended}
+use Rattle.ix_model.proofs.{frames.Frames.{FrameSound, Follows, follows_itself}, sound.Steadily.follows_found}
+use Rattle.ix_model.proofs.words.{Keeps.Holds, Living.{is_living, not_ended}}
 use Rattle.ix_tables.specs.Parts.{Parts, owners_of, homes_of}
-use Rattle.ix_fcalls.specs.Around.{Around, frame_of, world_of}
-use Rattle.ix_fcalls.specs.Counted.{IsCounted, Keeps}
-use Rattle.ix_fcalls.proofs.Counting.{one, counts_are, one_more, one_less, total_put, count_changed, stands_within, owners_kept_by, homes_long, homes_at, homes_few, itself}
+use Rattle.ix_fcalls.specs.{Around.{Around, frame_of, world_of}, Counted.{IsCounted, Keeps}}
+use Rattle.ix_fcalls.proofs.Counting.{one, counts_are, one_more, one_less, total_put, count_changed, stands_within, owners_kept_by, homes_long, homes_at}
+use Rattle.ix_fcalls.proofs.Counting.{homes_few, itself}
 
 -- ---- after a walk
 -- the frame after a walk to an object is sound

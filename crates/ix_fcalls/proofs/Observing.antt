@@ -1,12 +1,9 @@
 -- What the rule of floating says of a process that looks at something.
 use Rattle.std.proofs.Common.{◌≡◌, ℕ, Bool, true, false, not, Ok, Err, Some, None, if◌then◌else◌}
 use Rattle.ix_label.specs.Category.{Categories, join, leq, same}
-use Rattle.ix_model.specs.world.World.{Frame, Process, at, living}
-use Rattle.ix_model.specs.rows.Outcomes.{Refuse, Row}
+use Rattle.ix_model.specs.{world.World.{Frame, Process, at, living}, rows.Outcomes.{Refuse, Row}, declared.{refusal.Refusal.Refusal, views.Floating.Floating}}
 use Rattle.ix_model.specs.rows.Rows.{◌>>◌, ◌>>=◌, on_pass, need, some, only_if, pass, refuse, process, change_process, observe}
-use Rattle.ix_model.specs.declared.refusal.Refusal.{Refusal}
 use Rattle.ix_model.specs.declared.refusal.Refusal.TheVariants as refusal
-use Rattle.ix_model.specs.declared.views.Floating.{Floating}
 use Rattle.ix_float.specs.Floating.{floated}
 
 -- the tests of the row, and the same tests of the rule

@@ -1,14 +1,11 @@
 -- The row of a read, once its tests are passed.
 use Rattle.std.proofs.Common.{◌≡◌, ◌&&◌, ◌-◌, ℕ, true, false, Some, refl, sym, ap, ◌∙◌}
 use Rattle.ix_label.specs.Category.{Categories, join}
-use Rattle.ix_model.specs.declared.refusal.Refusal.{Refusal}
+use Rattle.ix_model.specs.{declared.refusal.Refusal.Refusal, world.World.{Frame, Object, Process, at, change, held, living, is_pipe}}
+use Rattle.ix_model.specs.rows.{Outcomes.{Refuse, Pass}, OnDescriptors.{LengthChecks, read_fd, float_entry}, Walks.{OpenFile, opened}}
 use Rattle.ix_model.specs.declared.refusal.Refusal.TheVariants as refusal
 use Rattle.ix_model.specs.declared.reply.Reply.TheVariants as reply
-use Rattle.ix_model.specs.world.World.{Frame, Object, Process, at, change, held, living, is_pipe}
-use Rattle.ix_model.specs.rows.Outcomes.{Refuse, Pass}
 use Rattle.ix_model.specs.rows.Rows.{◌>>=◌, ◌>>◌, on_pass, pass, need, some, only_if, refuse, frame, object, process, change_open, observe}
-use Rattle.ix_model.specs.rows.OnDescriptors.{LengthChecks, read_fd, float_entry}
-use Rattle.ix_model.specs.rows.Walks.{OpenFile, opened}
 use Rattle.ix_fcalls.specs.Tested.{ToRead}
 
 -- what an open entry takes in: nothing on a pipe, else the label of the process

@@ -1,31 +1,16 @@
 -- What a read comes to as a step of the world.
 use Rattle.std.proofs.Common.{◌≡◌, ◌≤◌, ℕ, true, nat_le, List, length, take, Option, Some, None, refl, sym, ap, subst, ◌∙◌}
 use Rattle.std.proofs.lemmas.Bool.{leb-true}
-use Rattle.ix_model.specs.world.World.{World, Frame, Process}
-use Rattle.ix_model.specs.world.Contents.{readable, after_read}
-use Rattle.ix_model.specs.laws.Sound.{Sound}
-use Rattle.ix_model.specs.rows.OnDescriptors.{LengthChecks}
-use Rattle.ix_model.specs.rows.Table.{verdict, row}
-use Rattle.ix_model.specs.rows.Telling.{told, nothing_told, told_of_read}
-use Rattle.ix_model.specs.rows.Walks.{OpenFile, behind}
-use Rattle.ix_model.specs.history.Step.{step, answer, plainly, edited, read_answer, put_front}
+use Rattle.ix_model.specs.{world.{World.{World, Frame, Process}, Contents.{readable, after_read}}, laws.Sound.Sound, rows.OnDescriptors.{LengthChecks, read_fd}}
+use Rattle.ix_model.specs.{rows.Table.{verdict, row}, rows.Telling.{told, nothing_told, told_of_read}, rows.Walks.{OpenFile, behind}, rows.Rows.observe}
+use Rattle.ix_model.specs.{history.{Step.{step, answer, plainly, edited, read_answer, put_front}, AuditLog.is_answer}, declared.reply.Reply.Reply}
 use Rattle.ix_model.specs.history.Events as op
-use Rattle.ix_model.specs.declared.reply.Reply.{Reply}
 use Rattle.ix_model.specs.declared.reply.Reply.TheVariants as reply
-use Rattle.ix_model.proofs.frames.Floats.{Floats}
-use Rattle.ix_model.specs.rows.Rows.{observe}
-use Rattle.ix_model.specs.rows.OnDescriptors.{read_fd}
-use Rattle.ix_model.specs.history.AuditLog.{is_answer}
+use Rattle.ix_model.proofs.{frames.Floats.Floats, words.{Ends.{Ends, Anything, ending}, Looks.{ends_observe, ends_float_entry}, Answered.passed}}
 use Rattle.ix_label.specs.Category.{Categories}
-use Rattle.ix_model.proofs.words.Ends.{Ends, Anything, ending}
-use Rattle.ix_model.proofs.words.Looks.{ends_observe, ends_float_entry}
-use Rattle.ix_model.proofs.words.Answered.{passed}
 use Rattle.ix_tables.specs.Parts.{Parts}
-use Rattle.ix_fcalls.specs.Around.{Around, frame_of, world_of}
-use Rattle.ix_fcalls.specs.Counted.{Keeps}
-use Rattle.ix_fcalls.specs.Filed.{Answers}
-use Rattle.ix_fcalls.proofs.Answering.{answers_said, answers_edited}
-use Rattle.ix_fcalls.proofs.Unmoved.{floats_read, readable_same, after_read_same, content_same}
+use Rattle.ix_fcalls.specs.{Around.{Around, frame_of, world_of}, Counted.Keeps, Filed.Answers}
+use Rattle.ix_fcalls.proofs.{Answering.{answers_said, answers_edited}, Unmoved.{floats_read, readable_same, after_read_same, content_same}}
 
 read_none : (w : World) (place pid fd count : ℕ) → behind w.frame pid fd ≡ None → step w place pid (op.ReadFd fd count) ≡ plainly w (verdict nothing_told place pid (op.ReadFd fd count) w.frame)
 unfolding step answer told told_of_read read_answer

@@ -1,11 +1,7 @@
 -- What another label of an object leaves as it was.
-use Rattle.std.proofs.Common.{◌≡◌, ℕ, List, Option, length, map, sum, is_some, unwrap_or, refl, ap}
-use Rattle.std.specs.Option.{option_map_or}
+use Rattle.std.{proofs.Common.{◌≡◌, ℕ, List, Option, length, map, sum, is_some, unwrap_or, refl, ap}, specs.Option.option_map_or}
 use Rattle.ix_label.specs.Category.{Categories}
-use Rattle.ix_model.specs.world.World.{Object, change}
-use Rattle.ix_model.specs.world.Owners.{names_in_all}
-use Rattle.ix_model.specs.rows.Walks.{node, nothing}
-use Rattle.ix_model.proofs.tables.Tables.{map_changed, seen_changed}
+use Rattle.ix_model.{specs.{world.{World.{Object, change}, Owners.names_in_all}, rows.Walks.{node, nothing}}, proofs.tables.Tables.{map_changed, seen_changed}}
 
 pub names_relabelled : (t : List (Option Object)) (n : ℕ) (l : Categories) → names_in_all (change t n (λ y. record y { label = l })) ≡ names_in_all t
 names_relabelled t n l = ap sum (map_changed (λ o. option_map_or (λ y. length y.names) o 0) (λ y. record y { label = l }) (λ y. refl) t n)

@@ -1,18 +1,11 @@
 -- What one descriptor fewer does to the counts of owners.
-use Rattle.std.proofs.Common.{◌≡◌, ◌≢◌, ◌<◌, ◌+◌, ◌-◌, ◌==◌, ◌&&◌, ◌||◌, ℕ, suc, cond, Bool, true, false, not, List, [], ◌∷◌, map, sum, length}
-use Rattle.std.proofs.Common.{count_by, Option, Some, None, option_map, refl, sym, ap, ◌∙◌, arith, get_or, set, slice_set, slice_index_or, length-set}
-use Rattle.std.proofs.Common.{if◌then◌else◌, inl, inr}
+use Rattle.std.proofs.Common.{◌≡◌, ◌≢◌, ◌<◌, ◌+◌, ◌-◌, ◌==◌, ◌&&◌, ◌||◌, ℕ, suc, cond, Bool, true, false, not, List, [], ◌∷◌, map, sum, length, count_by, Some}
+use Rattle.std.proofs.Common.{Option, None, option_map, refl, sym, ap, ◌∙◌, arith, get_or, set, slice_set, slice_index_or, length-set, if◌then◌else◌, inl, inr}
 use Rattle.std.specs.List.{list_any, range_with_len}
-use Rattle.std.proofs.lemmas.Bool.{eq-eqb}
-use Rattle.std.proofs.lemmas.Bool.Decides.{eqb_tells}
-use Rattle.std.proofs.lemmas.List.{same_lists, get_or_default, get_or-set_same, get_or-set_other}
-use Rattle.std.proofs.lemmas.List.FromFn.{get_or-map-range_with_len, length-map-range_with_len}
-use Rattle.std.proofs.lemmas.List.Sums.{sum-map, sum_by-cons, sum_by-set}
-use Rattle.ix_model.specs.world.World.{Process, at, put, change, living}
-use Rattle.ix_model.specs.world.Owners.{is_at, owns, owned}
-use Rattle.ix_model.specs.rows.OnPaths.{is_home}
-use Rattle.ix_model.proofs.tables.Finds.{in_table, sum_put}
-use Rattle.ix_model.proofs.words.Living.{is_living, not_ended}
+use Rattle.std.proofs.{lemmas.Bool.eq-eqb, lemmas.Bool.Decides.eqb_tells, lemmas.List.{same_lists, get_or_default, get_or-set_same, get_or-set_other}}
+use Rattle.std.proofs.{lemmas.List.FromFn.{get_or-map-range_with_len, length-map-range_with_len}, lemmas.List.Sums.{sum-map, sum_by-cons, sum_by-set}}
+use Rattle.ix_model.specs.{world.{World.{Process, at, put, change, living}, Owners.{is_at, owns, owned}}, rows.OnPaths.is_home}
+use Rattle.ix_model.proofs.{tables.Finds.{in_table, sum_put}, words.Living.{is_living, not_ended}}
 use Rattle.ix_tables.specs.Parts.{named_by, owners_of, homes_of}
 use Rattle.ix_fcalls.proofs.Counting.{count_changed}
 

@@ -1,14 +1,9 @@
 -- What is carried over where some of what stood is gone.
-use Rattle.std.proofs.Common.{◌≡◌, ◌≢◌, ◌<◌, ◌&&◌, ℕ, zero, suc, Bool, true, false, List, [], ◌∷◌, length, Option, Some, None, is_some, refl, sym, ap}
-use Rattle.std.proofs.Common.{◌∙◌, arith, get_or, set, length-set, if◌then◌else◌, inl, inr}
-use Rattle.std.proofs.lemmas.Bool.Decides.{eqb_tells}
-use Rattle.std.proofs.lemmas.List.{same_lists, get_or_default, get_or-set_other}
-use Rattle.ix_model.specs.world.World.{World, at, put, change}
-use Rattle.ix_model.specs.world.Contents.{keep, carried, holds_nothing}
-use Rattle.ix_model.specs.laws.Clean.{IsClean}
-use Rattle.ix_model.proofs.tables.Tables.{seen_changed}
-use Rattle.ix_model.proofs.tables.Finds.{at_put, passes_some}
-use Rattle.ix_model.proofs.clean.Carrying.{length-keep, get_or-keep, carried_same}
+use Rattle.std.proofs.Common.{◌≡◌, ◌≢◌, ◌<◌, ◌&&◌, ℕ, zero, suc, Bool, true, false, List, [], ◌∷◌, length, Option, Some, None, is_some, refl, sym, ap, ◌∙◌, set}
+use Rattle.std.proofs.Common.{arith, get_or, length-set, if◌then◌else◌, inl, inr}
+use Rattle.std.proofs.lemmas.{Bool.Decides.eqb_tells, List.{same_lists, get_or_default, get_or-set_other}}
+use Rattle.ix_model.specs.{world.{World.{World, at, put, change}, Contents.{keep, carried, holds_nothing}}, laws.Clean.IsClean}
+use Rattle.ix_model.proofs.{tables.{Tables.seen_changed, Finds.{at_put, passes_some}}, clean.Carrying.{length-keep, get_or-keep, carried_same}}
 use Rattle.ix_model.proofs.words.Lasts.{Lasts, lasting_itself}
 use Rattle.ix_fcalls.specs.Remaining.{Remains, Leaves}
 

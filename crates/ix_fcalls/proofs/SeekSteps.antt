@@ -1,27 +1,17 @@
 -- What a seek comes to as a step of the world.
 use Rattle.std.proofs.Common.{◌≡◌, ℕ, true, false, nat_le, List, [], Option, Some, None, refl, sym, ap, subst, ◌∙◌, slice_set}
 use Rattle.ix_label.specs.Category.{join}
-use Rattle.ix_model.specs.world.World.{World, Frame, Object, Process, at, change, living, is_pipe}
-use Rattle.ix_model.specs.world.Contents.{after_seek}
-use Rattle.ix_model.specs.laws.Sound.{Sound}
+use Rattle.ix_model.specs.{world.{World.{World, Frame, Object, Process, at, change, living, is_pipe}, Contents.after_seek}, laws.Sound.Sound}
+use Rattle.ix_model.specs.{rows.Outcomes.{Refuse, Pass}, rows.OnDescriptors.{seek_fd, float_entry}, rows.Table.verdict, rows.Telling.{told, nothing_told}}
+use Rattle.ix_model.specs.{rows.Walks.{OpenFile, behind, opened}, history.Step.{step, answer, plainly, edited, seek_answer}, declared.reply.Reply.Reply}
 use Rattle.ix_model.specs.declared.refusal.Refusal.TheVariants as refusal
-use Rattle.ix_model.specs.rows.Outcomes.{Refuse, Pass}
 use Rattle.ix_model.specs.rows.Rows.{◌>>=◌, ◌>>◌, on_pass, pass, need, some, only_if, refuse, frame, object, process, change_open}
-use Rattle.ix_model.specs.rows.OnDescriptors.{seek_fd, float_entry}
-use Rattle.ix_model.specs.rows.Table.{verdict}
-use Rattle.ix_model.specs.rows.Telling.{told, nothing_told}
-use Rattle.ix_model.specs.rows.Walks.{OpenFile, behind, opened}
-use Rattle.ix_model.specs.history.Step.{step, answer, plainly, edited, seek_answer}
 use Rattle.ix_model.specs.history.Events as op
-use Rattle.ix_model.specs.declared.reply.Reply.{Reply}
 use Rattle.ix_model.specs.declared.reply.Reply.TheVariants as reply
 use Rattle.ix_model.proofs.frames.Floats.{Floats}
 use Rattle.ix_tables.specs.Parts.{Parts}
-use Rattle.ix_fcalls.specs.Around.{Around, frame_of, world_of}
-use Rattle.ix_fcalls.specs.Counted.{Keeps}
-use Rattle.ix_fcalls.specs.Filed.{Answers}
-use Rattle.ix_fcalls.proofs.Answering.{answers_said, answers_edited}
-use Rattle.ix_fcalls.proofs.Unmoved.{floats_seek}
+use Rattle.ix_fcalls.specs.{Around.{Around, frame_of, world_of}, Counted.Keeps, Filed.Answers}
+use Rattle.ix_fcalls.proofs.{Answering.{answers_said, answers_edited}, Unmoved.floats_seek}
 
 -- ---- the row
 module _ (pid fd offset : ℕ) (f : Frame) (e : OpenFile) (x : Object) (is : behind f pid fd ≡ Some e) (there : at f.objects e.entry.object ≡ Some x) where

@@ -1,22 +1,13 @@
 -- What an open entry of a sound world stands for, and still does when labels have changed.
-use Rattle.std.proofs.Common.{◌≡◌, ◌<◌, ◌≤◌, ◌==◌, ℕ, Bool, true, false, inl, inr, not, ◌&&◌, ◌||◌, List, Option, Some, None, is_some, unwrap_or}
-use Rattle.std.proofs.Common.{length, slice_index_or, refl, sym, ap, subst, ◌∙◌, arith}
-use Rattle.std.specs.Option.{option_map_or}
-use Rattle.std.proofs.lemmas.Bool.{or_cases, and_parts, eqb-true}
-use Rattle.ix_model.specs.world.World.{World, Object, Open, Process, at, is_file, is_dir, is_pipe}
-use Rattle.ix_model.specs.world.Contents.{on_pipe, holding_of, holds_nothing}
-use Rattle.ix_model.specs.laws.Sound.{LengthsSound, Sound}
-use Rattle.ix_model.specs.rows.Walks.{OpenFile, behind, node, nothing}
-use Rattle.ix_model.specs.declared.reply.Kind.{Kind}
+use Rattle.std.proofs.Common.{◌≡◌, ◌<◌, ◌≤◌, ◌==◌, ℕ, Bool, true, false, inl, inr, not, ◌&&◌, ◌||◌, List, Option, Some, None, is_some, unwrap_or, length, refl}
+use Rattle.std.proofs.Common.{slice_index_or, sym, ap, subst, ◌∙◌, arith}
+use Rattle.std.{specs.Option.option_map_or, proofs.lemmas.Bool.{or_cases, and_parts, eqb-true}}
+use Rattle.ix_model.specs.world.{World.{World, Object, Open, Process, at, is_file, is_dir, is_pipe}, Contents.{on_pipe, holding_of, holds_nothing}}
+use Rattle.ix_model.specs.{laws.Sound.{LengthsSound, Sound}, rows.Walks.{OpenFile, behind, node, nothing}, declared.reply.Kind.Kind}
 use Rattle.ix_model.specs.declared.reply.Kind.TheVariants as kind
-use Rattle.ix_model.proofs.words.Standing.{behind_is, stands}
-use Rattle.ix_model.proofs.tables.Tables.{seen_same}
-use Rattle.ix_model.proofs.frames.Floats.{Floats, object_but, open_but}
+use Rattle.ix_model.proofs.{words.Standing.{behind_is, stands}, tables.Tables.seen_same, frames.Floats.{Floats, object_but, open_but}}
 use Rattle.ix_tables.specs.Parts.{Parts}
-use Rattle.ix_fcalls.specs.declared.open_file.OpenFile.{OpenFile as Found}
-use Rattle.ix_fcalls.specs.Counted.{Keeps}
-use Rattle.ix_fcalls.specs.Views.{behind_of}
-use Rattle.ix_fcalls.specs.Serving.{Serves}
+use Rattle.ix_fcalls.specs.{declared.open_file.OpenFile.{OpenFile as Found}, Counted.Keeps, Views.behind_of, Serving.Serves}
 use Rattle.ix_fcalls.specs.Around.{Around, frame_of, world_of}
 
 -- an end is 0 or 1

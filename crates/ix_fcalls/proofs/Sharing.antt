@@ -1,13 +1,9 @@
 -- What one process more does to the counts.
-use Rattle.std.proofs.Common.{◌≡◌, ◌+◌, ◌<◌, ◌≤◌, ◌==◌, ◌&&◌, ℕ, not, cond, true, false, List, [], ◌∷◌, ◌++◌, Option, Some, None, map, sum, set}
-use Rattle.std.proofs.Common.{get_or, take, length, count_by, is_some, refl, sym, ap, ◌∙◌, subst, arith, inl, inr, length-set, length-take-le}
-use Rattle.std.proofs.Common.{slice_set, slice_index_or, if◌then◌else◌}
-use Rattle.std.proofs.lemmas.Bool.{cases_lt}
-use Rattle.std.proofs.lemmas.List.{get_or_past, take_all}
-use Rattle.std.proofs.lemmas.List.Sums.{sum-map, sum_by_push, count_by-le-length}
-use Rattle.ix_model.specs.world.World.{Process, at}
-use Rattle.ix_model.specs.world.Owners.{is_at}
-use Rattle.ix_model.specs.rows.OnPaths.{is_home}
+use Rattle.std.proofs.Common.{◌≡◌, ◌+◌, ◌<◌, ◌≤◌, ◌==◌, ◌&&◌, ℕ, not, cond, true, false, List, [], ◌∷◌, ◌++◌, Option, Some, None, map, sum, set, get_or, take}
+use Rattle.std.proofs.Common.{length, count_by, is_some, refl, sym, ap, ◌∙◌, subst, arith, inl, inr, length-set, length-take-le, slice_set, slice_index_or}
+use Rattle.std.proofs.Common.{if◌then◌else◌}
+use Rattle.std.proofs.lemmas.{Bool.cases_lt, List.{get_or_past, take_all, Sums.{sum-map, sum_by_push, count_by-le-length}}}
+use Rattle.ix_model.specs.{world.{World.{Process, at}, Owners.is_at}, rows.OnPaths.is_home}
 use Rattle.ix_tables.specs.Parts.{Parts, named_by}
 use Rattle.ix_fcalls.specs.Counted.{IsCounted}
 use Rattle.ix_fcalls.proofs.Counting.{one, counts_are, one_more, count_more, stands_within, owners_long, owners_at, homes_long, homes_at, owners_few, homes_few}

@@ -1,16 +1,9 @@
 -- How much there is at an end of an object, by what is told of it.
 use Rattle.std.proofs.Common.{◌≡◌, ◌<◌, ◌≤◌, ◌==◌, nat_lt, ◌&&◌, ◌||◌, ℕ, Bool, true, false, Option, Some, None, length, if◌then◌else◌, refl, sym, ap, ◌∙◌}
-use Rattle.std.specs.Option.{option_and_then}
-use Rattle.std.proofs.lemmas.Bool.{eq-eqb, eqb-true, false_from_ne_true, le-ltb, lt-ltb}
-use Rattle.ix_model.specs.world.World.{Object, at}
-use Rattle.ix_model.specs.world.Contents.{held_at, side}
-use Rattle.ix_model.specs.history.Views.{has_side}
-use Rattle.ix_model.specs.rows.Walks.{node}
-use Rattle.ix_model.specs.declared.reply.Kind.{Kind}
+use Rattle.std.{specs.Option.option_and_then, proofs.lemmas.Bool.{eq-eqb, eqb-true, false_from_ne_true, le-ltb, lt-ltb}}
+use Rattle.ix_model.specs.{world.{World.{Object, at}, Contents.{held_at, side}}, history.Views.has_side, rows.Walks.node, declared.reply.Kind.Kind}
 use Rattle.ix_model.specs.declared.reply.Kind.TheVariants as kind
-use Rattle.ix_tables.specs.Parts.{Parts}
-use Rattle.ix_tables.specs.Views.{Shows, object_by}
-use Rattle.ix_tables.specs.declared.row.ObjectRow.{ObjectRow}
+use Rattle.ix_tables.specs.{Parts.Parts, Views.{Shows, object_by}, declared.row.ObjectRow.ObjectRow}
 use Rattle.ix_fcalls.specs.Spots.{size_in}
 
 -- whether an object of that kind has that end

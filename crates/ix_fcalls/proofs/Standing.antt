@@ -1,17 +1,11 @@
 -- In a sound world an object stands wherever a walk ends.
-use Rattle.std.proofs.Common.{◌≡◌, ℕ, true, false, not, List, Option, Some, None, is_some, refl, subst}
-use Rattle.std.specs.Option.{option_map_or}
-use Rattle.ix_model.specs.laws.Sound.{Sound, NamesSound}
-use Rattle.ix_model.specs.world.Naming.{PathOf, last_name}
-use Rattle.ix_model.specs.world.World.{Process, Object, Frame, at, is_dir, is_pipe}
-use Rattle.ix_model.specs.rows.Outcomes.{Outcome, Pass}
-use Rattle.ix_model.specs.rows.Walks.{Sought, walked_to, found_object, object_at}
+use Rattle.std.{proofs.Common.{◌≡◌, ℕ, true, false, not, List, Option, Some, None, is_some, refl, subst}, specs.Option.option_map_or}
+use Rattle.ix_model.specs.{laws.Sound.{Sound, NamesSound}, world.{Naming.{PathOf, last_name}, World.{Process, Object, Frame, at, is_dir, is_pipe}}}
+use Rattle.ix_model.specs.rows.{Outcomes.{Outcome, Pass}, Walks.{Sought, walked_to, found_object, object_at}}
 use Rattle.ix_model.specs.rows.Walks as walks
-use Rattle.ix_model.proofs.words.Ends.{Ends, Anything, ends_bind, ends_there}
-use Rattle.ix_model.proofs.words.There.{child_named}
-use Rattle.ix_model.proofs.words.Walked.{Leads, along_itself, leads_walked_to}
-use Rattle.ix_model.proofs.frames.Frames as frames
+use Rattle.ix_model.proofs.words.{Ends.{Ends, Anything, ends_bind, ends_there}, There.child_named, Walked.{Leads, along_itself, leads_walked_to}}
 use Rattle.ix_model.proofs.frames.Frames.{follows_itself}
+use Rattle.ix_model.proofs.frames.Frames as frames
 use Rattle.ix_tables.specs.Parts.{Parts}
 use Rattle.ix_fcalls.specs.Around.{Around, frame_of, world_of}
 

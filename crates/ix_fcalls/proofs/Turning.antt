@@ -1,16 +1,9 @@
 -- Which call a step is, and how it stands in the whole world.
 use Rattle.std.proofs.Common.{◌≡◌, ℕ, true, List, Option, refl, ap, subst, ◌∙◌}
-use Rattle.ix_model.specs.world.World.{World, Process}
-use Rattle.ix_model.specs.history.Calls.{op_of}
-use Rattle.ix_model.specs.history.Events.{Op}
-use Rattle.ix_model.specs.history.Step.{step}
-use Rattle.ix_model.specs.declared.call.Call.{Call}
+use Rattle.ix_model.specs.{world.World.{World, Process}, history.{Calls.op_of, Events.Op, Step.step}, declared.{call.Call.Call, reply.Reply.Reply}}
 use Rattle.ix_model.specs.declared.call.Call.TheVariants as call
-use Rattle.ix_model.specs.declared.reply.Reply.{Reply}
 use Rattle.ix_tables.specs.Parts.{Parts, parts_of}
-use Rattle.ix_fcalls.specs.Around.{Around, around, world_of}
-use Rattle.ix_fcalls.specs.Counted.{IsCounted}
-use Rattle.ix_fcalls.specs.Filed.{Answers, is_filed, is_plain}
+use Rattle.ix_fcalls.specs.{Around.{Around, around, world_of}, Counted.IsCounted, Filed.{Answers, is_filed, is_plain}}
 
 -- a call that the files answer, and none of those that look at what is held or edit it
 pub plain_left : (c : Call) → is_filed (op_of c) ≡ true

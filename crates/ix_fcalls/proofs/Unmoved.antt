@@ -1,24 +1,18 @@
 -- What calls on bytes leave as it was: the frame but for labels, and so what lengths tell and what there is to read.
-use Rattle.std.proofs.Common.{◌≡◌, ◌==◌, ◌+◌, ◌-◌, ◌++◌, ℕ, Bool, false, not, ◌&&◌, ◌||◌, nat_lt, List, length, drop, Option, Some, None, refl, ap, ◌∙◌, if◌then◌else◌, slice_set}
+use Rattle.std.proofs.Common.{◌≡◌, ◌==◌, ◌+◌, ◌-◌, ◌++◌, ℕ, Bool, false, not, ◌&&◌, ◌||◌, nat_lt, List, length, drop, Option, Some, None, refl, ap, ◌∙◌}
+use Rattle.std.proofs.Common.{if◌then◌else◌, slice_set}
 use Rattle.std.specs.Option.{option_map_or, option_and_then}
-use Rattle.ix_model.specs.world.World.{Frame, Content, Process, is_pipe, fs_at}
+use Rattle.ix_model.specs.{world.World.{Frame, Content, Process, is_pipe, fs_at}, declared.config.FsSpec.FsSpec}
+use Rattle.ix_model.specs.rows.{OnDescriptors.{LengthChecks, seek_fd, float_entry}, Table.{verdict, row}, Walks.{OpenFile, opened}}
 use Rattle.ix_model.specs.world.Contents.{on_pipe, readable, after_read, after_write, side, change_side, holding_of, offset_of, spliced}
-use Rattle.ix_model.specs.rows.OnDescriptors.{LengthChecks, seek_fd, float_entry}
-use Rattle.ix_model.specs.rows.Table.{verdict, row}
-use Rattle.ix_model.specs.rows.Telling.{nothing_told, told_of_write, told_of_file_write, told_of_pipe_write, told_of_cut, blocks_on, blocks_beside}
-use Rattle.ix_model.specs.rows.Telling.{blocks_for, blocks_where, lies_on, fs_of_object, length_then}
-use Rattle.ix_model.specs.rows.Walks.{OpenFile, opened}
+use Rattle.ix_model.specs.rows.Telling.{nothing_told, told_of_write, told_of_file_write, told_of_pipe_write, told_of_cut, blocks_on, blocks_beside, blocks_for}
+use Rattle.ix_model.specs.rows.Telling.{blocks_where, lies_on, fs_of_object, length_then}
 use Rattle.ix_model.specs.history.Events as op
-use Rattle.ix_model.specs.declared.config.FsSpec.{FsSpec}
-use Rattle.ix_model.proofs.tables.Blocks.{blocks_from}
-use Rattle.ix_model.proofs.tables.Tables.{seen_same}
-use Rattle.ix_model.proofs.words.Keeps.{Keeps as KeepsRow, keeping}
-use Rattle.ix_model.proofs.words.Lasts.{decided}
+use Rattle.ix_model.proofs.{tables.{Blocks.blocks_from, Tables.seen_same}, words.{Keeps.{Keeps as KeepsRow, keeping}, Lasts.decided}}
 use Rattle.ix_model.proofs.frames.Floats.{Floats, floats_itself, floats_change_open, object_but}
 use Rattle.ix_model.proofs.sound.FloatingRows.{floats_read_fd, floats_write_fd, floats_cut_fd}
 use Rattle.ix_tables.specs.Parts.{Parts}
-use Rattle.ix_fcalls.specs.Around.{Around, world_of}
-use Rattle.ix_fcalls.specs.Counted.{Keeps}
+use Rattle.ix_fcalls.specs.{Around.{Around, world_of}, Counted.Keeps}
 
 -- ---- these calls change labels alone in the frame
 pub floats_read : (m : LengthChecks) (place pid fd count : ℕ) (f : Frame) → Floats f (verdict m place pid (op.ReadFd fd count) f).frame

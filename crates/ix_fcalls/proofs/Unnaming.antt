@@ -2,26 +2,14 @@
 use Rattle.std.proofs.Common.{◌≡◌, ◌<◌, ◌==◌, ℕ, Bool, false, not, List, length, Option, is_some, slice_index_or, length-set, refl, sym, ap, ◌∙◌, subst}
 use Rattle.std.specs.List.{list_any}
 use Rattle.ix_label.specs.Category.{Categories}
-use Rattle.ix_model.specs.laws.Sound.{Sound}
-use Rattle.ix_model.specs.world.World.{Process, Object, Open, Holding, at, change, is_ended}
-use Rattle.ix_model.specs.world.Contents.{carried, holds_nothing}
-use Rattle.ix_model.specs.rows.Outcomes.{Outcome, Pass}
-use Rattle.ix_model.specs.rows.Rows.{observe, affect}
-use Rattle.ix_model.specs.rows.Lifetimes.{let_go_object}
-use Rattle.ix_model.specs.rows.OnPaths.{is_home}
-use Rattle.ix_model.proofs.tables.Tables.{SameBut, seen_same, length_same}
-use Rattle.ix_model.proofs.words.Keeps.{Holds}
+use Rattle.ix_model.specs.{laws.Sound.Sound, world.{World.{Process, Object, Open, Holding, at, change, is_ended}, Contents.{carried, holds_nothing}}}
+use Rattle.ix_model.specs.rows.{Outcomes.{Outcome, Pass}, Rows.{observe, affect}, Lifetimes.let_go_object, OnPaths.is_home}
+use Rattle.ix_model.proofs.{tables.Tables.{SameBut, seen_same, length_same}, words.Keeps.Holds}
 use Rattle.ix_model.proofs.frames.Floats.{Floats, process_but, floats_itself, floats_observe}
-use Rattle.ix_tables.specs.Parts.{Parts}
-use Rattle.ix_tables.specs.Views.{object_let_go}
-use Rattle.ix_fcalls.specs.Around.{Around, frame_of, world_of}
-use Rattle.ix_fcalls.specs.Counted.{IsCounted, Keeps}
-use Rattle.ix_fcalls.specs.Remaining.{Remains, Leaves}
-use Rattle.ix_fcalls.proofs.Counting.{counted_same, homes_at}
-use Rattle.ix_fcalls.proofs.Releasing.{any_counted}
-use Rattle.ix_fcalls.proofs.Remaining.{taken, cleared, remains_changed, remains_taken, left_carried}
-use Rattle.ix_fcalls.proofs.GivenUp.{goes, let_go_is, length-taken, object_step}
-use Rattle.ix_fcalls.proofs.Leading.{standing_still}
+use Rattle.ix_tables.specs.{Parts.Parts, Views.object_let_go}
+use Rattle.ix_fcalls.specs.{Around.{Around, frame_of, world_of}, Counted.{IsCounted, Keeps}, Remaining.{Remains, Leaves}}
+use Rattle.ix_fcalls.proofs.{Counting.{counted_same, homes_at}, Releasing.any_counted, Remaining.{taken, cleared, remains_changed, remains_taken, left_carried}}
+use Rattle.ix_fcalls.proofs.{GivenUp.{goes, let_go_is, length-taken, object_step}, Leading.standing_still}
 
 -- where the count of homes is above 0 somebody is at home
 pub home_is : (t : Parts) (ps : List (Option Process)) (n : ℕ) → IsCounted t ps → n < length t.objects → not (slice_index_or t.homes n 0 == 0) ≡ list_any (is_home n) ps

@@ -1,9 +1,7 @@
 -- One step of a walk, with the labels joined as it goes.
 use Rattle.std.proofs.Common.{◌≡◌, ℕ, List, [], ◌∷◌, Option, Some, None, true, false, refl, sym, ap, ◌∙◌}
-use Rattle.ix_label.specs.Category.{Categories, bottom, join}
-use Rattle.ix_label.specs.Lattice.{join-bottom, join-bottom_right, join-assoc}
-use Rattle.ix_model.specs.world.World.{Object, is_dir}
-use Rattle.ix_model.specs.rows.Walks.{Walk, Sought, node, child, walk_from, looking_into, lacking, join_all}
+use Rattle.ix_label.specs.{Category.{Categories, bottom, join}, Lattice.{join-bottom, join-bottom_right, join-assoc}}
+use Rattle.ix_model.specs.{world.World.{Object, is_dir}, rows.Walks.{Walk, Sought, node, child, walk_from, looking_into, lacking, join_all}}
 use Rattle.ix_model.specs.rows.Walks as sought
 use Rattle.ix_fcalls.specs.Views.{Seen, seen_in}
 

@@ -1,12 +1,9 @@
 -- The row of a write, once its tests are passed.
 use Rattle.std.proofs.Common.{◌≡◌, ℕ, Some, refl}
-use Rattle.ix_model.specs.declared.refusal.Refusal.{Refusal}
-use Rattle.ix_model.specs.declared.reply.Reply.TheVariants as reply
-use Rattle.ix_model.specs.world.World.{Frame, Object, Process, at, living}
-use Rattle.ix_model.specs.rows.Outcomes.{Refuse, Pass}
-use Rattle.ix_model.specs.rows.Rows.{◌>>=◌, ◌>>◌, on_pass, pass, need, some, refuse, frame, object, process, affect}
+use Rattle.ix_model.specs.{declared.refusal.Refusal.Refusal, world.World.{Frame, Object, Process, at, living}, rows.Outcomes.{Refuse, Pass}}
+use Rattle.ix_model.specs.{rows.Rows.{◌>>=◌, ◌>>◌, on_pass, pass, need, some, refuse, frame, object, process, affect}, rows.Walks.{OpenFile, opened}}
 use Rattle.ix_model.specs.rows.OnDescriptors.{LengthChecks, write_fd, float_entry}
-use Rattle.ix_model.specs.rows.Walks.{OpenFile, opened}
+use Rattle.ix_model.specs.declared.reply.Reply.TheVariants as reply
 use Rattle.ix_fcalls.specs.Tested.{ToWrite}
 
 module _ (t : LengthChecks) (pid fd : ℕ) (f : Frame) (e : OpenFile) (x : Object) (tested : ToWrite t f pid fd e x) (p : Process) (lives : living (at f.processes pid) ≡ Some p) where

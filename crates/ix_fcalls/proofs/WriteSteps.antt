@@ -1,25 +1,16 @@
 -- What a write comes to as a step of the world.
 use Rattle.std.proofs.Common.{◌≡◌, ◌-◌, ℕ, Bool, true, false, List, [], length, Option, Some, None, refl, sym, ap, subst, ◌∙◌, if◌then◌else◌}
 use Rattle.std.proofs.lemmas.Bool.{not-true}
-use Rattle.ix_model.specs.world.World.{World, Frame, Content, Process}
-use Rattle.ix_model.specs.world.Contents.{on_pipe, after_write, side, holding_of}
-use Rattle.ix_model.specs.laws.Sound.{Sound}
-use Rattle.ix_model.specs.rows.OnDescriptors.{LengthChecks}
-use Rattle.ix_model.specs.rows.Table.{verdict}
+use Rattle.ix_model.specs.{world.{World.{World, Frame, Content, Process}, Contents.{on_pipe, after_write, side, holding_of}}, laws.Sound.Sound}
+use Rattle.ix_model.specs.{rows.OnDescriptors.LengthChecks, rows.Table.verdict, rows.Walks.{OpenFile, behind}, declared.reply.Reply.Reply}
 use Rattle.ix_model.specs.rows.Telling.{told, nothing_told, told_of_write, told_of_pipe_write, told_of_file_write}
-use Rattle.ix_model.specs.rows.Walks.{OpenFile, behind}
 use Rattle.ix_model.specs.history.Step.{step, answer, plainly, edited, write_answer}
 use Rattle.ix_model.specs.history.Events as op
-use Rattle.ix_model.specs.declared.reply.Reply.{Reply}
 use Rattle.ix_model.specs.declared.reply.Reply.TheVariants as reply
-use Rattle.ix_model.proofs.frames.Floats.{Floats}
-use Rattle.ix_model.proofs.clean.Cleaning.{wrote}
+use Rattle.ix_model.proofs.{frames.Floats.Floats, clean.Cleaning.wrote}
 use Rattle.ix_tables.specs.Parts.{Parts}
-use Rattle.ix_fcalls.specs.Around.{Around, frame_of, world_of}
-use Rattle.ix_fcalls.specs.Counted.{Keeps}
-use Rattle.ix_fcalls.specs.Filed.{Answers}
-use Rattle.ix_fcalls.proofs.Answering.{answers_said, answers_edited}
-use Rattle.ix_fcalls.proofs.Unmoved.{floats_write, told_write_same, after_write_same, content_same}
+use Rattle.ix_fcalls.specs.{Around.{Around, frame_of, world_of}, Counted.Keeps, Filed.Answers}
+use Rattle.ix_fcalls.proofs.{Answering.{answers_said, answers_edited}, Unmoved.{floats_write, told_write_same, after_write_same, content_same}}
 
 write_none : (w : World) (place pid fd : ℕ) (new : List ℕ) → behind w.frame pid fd ≡ None
     → step w place pid (op.WriteFd fd new) ≡ plainly w (verdict nothing_told place pid (op.WriteFd fd new) w.frame)

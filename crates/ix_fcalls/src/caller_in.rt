@@ -1,9 +1,6 @@
-ghost use Rattle.std.specs.Prelude.{◌≡◌, ◌<◌, Some, None, IfSome, not, true, false};
-ghost use Rattle.std.specs.Option.{option_map_or};
-ghost use Rattle.ix_model.specs.world.World.{at, put, change, living, lowest_free};
-ghost use Rattle.ix_model.specs.world.Callers.{with_caller};
-ghost use Rattle.ix_fcalls.specs.Around.{with_who, process_of};
-ghost use Rattle.ix_fcalls.specs.Calling.{IsCalling};
+ghost use Rattle.std.specs.{Prelude.{◌≡◌, ◌<◌, Some, None, IfSome, not, true, false}, Option.{option_map_or}};
+ghost use Rattle.ix_model.specs.world.{World.{at, put, change, living, lowest_free}, Callers.{with_caller}};
+ghost use Rattle.ix_fcalls.specs.{Around.{with_who, process_of}, Calling.{IsCalling}};
 
 use ix_label::Label;
 use ix_model::{Caller, Obj};
@@ -30,12 +27,10 @@ pub struct CallerIn<R: Others> {
 }
 
 impl<R: Others> Model for CallerIn<R> {
-    ghost use Rattle.std.specs.Prelude.{List, Option};
-    ghost use Rattle.std.specs.Coded.{codes};
+    ghost use Rattle.std.specs.{Prelude.{List, Option}, Coded.{codes}};
     ghost use Rattle.ix_label.specs.contracts.label.Label as label_type;
     ghost use Rattle.ix_model.specs.world.World.{Process};
-    ghost use Rattle.ix_fcalls.specs.Around.{with_who};
-    ghost use Rattle.ix_fcalls.specs.Calling.{IsCalling};
+    ghost use Rattle.ix_fcalls.specs.{Around.{with_who}, Calling.{IsCalling}};
 
     ghost Value = { List (Option Process) };
 

@@ -1,6 +1,5 @@
 ghost use Rattle.std.specs.Prelude.{◌≡◌, ◌<◌, true};
-ghost use Rattle.ix_model.specs.rows.Walks.{node};
-ghost use Rattle.ix_model.specs.world.World.{claimed_by, is_pipe};
+ghost use Rattle.ix_model.specs.{rows.Walks.{node}, world.World.{claimed_by, is_pipe}};
 ghost use Rattle.ix_fcalls.specs.Claiming.{Claims, Unclaims};
 
 use crate::files::Files;

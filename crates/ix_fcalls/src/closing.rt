@@ -1,18 +1,7 @@
-ghost use Rattle.std.specs.Prelude.{◌≡◌, ◌<◌, OnErr, OnOk, None, Some, true, false, if◌then◌else◌};
-ghost use Rattle.std.specs.List.{list_any};
-ghost use Rattle.std.specs.Option.{option_map_or};
-ghost use Rattle.ix_model.specs.laws.Sound.{Sound};
-ghost use Rattle.ix_model.specs.rows.Lifetimes.{has_lost, let_go};
-ghost use Rattle.ix_model.specs.rows.OnDescriptors.{close_fd};
-ghost use Rattle.ix_model.specs.rows.Outcomes.{Pass, RowIs};
-ghost use Rattle.ix_model.specs.rows.Walks.{behind, node};
-ghost use Rattle.ix_model.specs.world.Contents.{carried};
-ghost use Rattle.ix_model.specs.world.Owners.{has_end};
-ghost use Rattle.ix_model.specs.world.World.{at, change, put, is_on, is_pipe, no_claims};
-ghost use Rattle.ix_fcalls.specs.Around.{frame_of, world_of};
-ghost use Rattle.ix_fcalls.specs.Counted.{IsCounted};
-ghost use Rattle.ix_fcalls.specs.Views.{behind_of};
-ghost use Rattle.ix_fcalls.specs.Remaining.{Leaves};
+ghost use Rattle.std.specs.{Prelude.{◌≡◌, ◌<◌, OnErr, OnOk, None, Some, true, false, if◌then◌else◌}, List.{list_any}, Option.{option_map_or}};
+ghost use Rattle.ix_model.specs.{laws.Sound.{Sound}, world.{Contents.{carried}, Owners.{has_end}, World.{at, change, put, is_on, is_pipe, no_claims}}};
+ghost use Rattle.ix_model.specs.rows.{Lifetimes.{has_lost, let_go}, OnDescriptors.{close_fd}, Outcomes.{Pass, RowIs}, Walks.{behind, node}};
+ghost use Rattle.ix_fcalls.specs.{Around.{frame_of, world_of}, Counted.{IsCounted}, Views.{behind_of}, Remaining.{Leaves}};
 
 use crate::caller_in::{CallerIn, Others};
 use crate::files::Files;

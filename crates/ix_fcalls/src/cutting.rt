@@ -1,18 +1,8 @@
-ghost use Rattle.std.specs.Prelude.{◌≡◌, ◌≤◌, ◌||◌, OnErr, ℕ, List, Some, false, nat_lt};
-ghost use Rattle.std.specs.Option.{option_map_or};
+ghost use Rattle.std.specs.{Prelude.{◌≡◌, ◌≤◌, ◌||◌, OnErr, ℕ, List, Some, false, nat_lt}, Option.{option_map_or}};
 ghost use Rattle.ix_model.specs.history.Events as op;
-ghost use Rattle.ix_model.specs.history.Step.{step};
-ghost use Rattle.ix_model.specs.laws.Sound.{Sound};
-ghost use Rattle.ix_model.specs.rows.Outcomes.{RowIs};
-ghost use Rattle.ix_model.specs.rows.OnDescriptors.{cut_fd, seek_fd};
-ghost use Rattle.ix_model.specs.rows.Telling.{nothing_told, told_of_cut};
-ghost use Rattle.ix_model.specs.world.Contents.{after_cut};
-ghost use Rattle.ix_model.specs.world.World.{at, is_pipe};
-ghost use Rattle.ix_fcalls.specs.Around.{frame_of, world_of};
-ghost use Rattle.ix_fcalls.specs.Counted.{IsCounted, Keeps};
-ghost use Rattle.ix_fcalls.specs.Filed.{Answers};
-ghost use Rattle.ix_fcalls.specs.Views.{behind_of};
-ghost use Rattle.ix_fcalls.specs.Serving.{Serves};
+ghost use Rattle.ix_model.specs.{history.Step.{step}, laws.Sound.{Sound}, world.{Contents.{after_cut}, World.{at, is_pipe}}};
+ghost use Rattle.ix_model.specs.rows.{Outcomes.{RowIs}, OnDescriptors.{cut_fd, seek_fd}, Telling.{nothing_told, told_of_cut}};
+ghost use Rattle.ix_fcalls.specs.{Around.{frame_of, world_of}, Counted.{IsCounted, Keeps}, Filed.{Answers}, Views.{behind_of}, Serving.{Serves}};
 ghost use Rattle.ix_fcalls.specs.Telling.{told_of};
 
 use crate::caller_in::{CallerIn, Others};

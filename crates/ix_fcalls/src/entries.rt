@@ -1,11 +1,7 @@
-ghost use Rattle.std.specs.Prelude.{◌≡◌, ◌-◌, Some, false};
-ghost use Rattle.std.specs.Option.{option_map_or};
+ghost use Rattle.std.specs.{Prelude.{◌≡◌, ◌-◌, Some, false}, Option.{option_map_or}};
 ghost use Rattle.ix_label.specs.Category.{join};
-ghost use Rattle.ix_model.specs.laws.Sound.{Sound};
-ghost use Rattle.ix_model.specs.rows.Walks.{node};
-ghost use Rattle.ix_model.specs.world.World.{at, change, is_pipe, held, claimed_by_another};
-ghost use Rattle.ix_fcalls.specs.Around.{world_of};
-ghost use Rattle.ix_fcalls.specs.Views.{behind_of};
+ghost use Rattle.ix_model.specs.{laws.Sound.{Sound}, rows.Walks.{node}, world.World.{at, change, is_pipe, held, claimed_by_another}};
+ghost use Rattle.ix_fcalls.specs.{Around.{world_of}, Views.{behind_of}};
 
 use crate::caller_in::{CallerIn, Others};
 use crate::files::Files;

@@ -1,18 +1,9 @@
 ghost use Rattle.std.specs.Prelude.{◌≡◌, ◌<◌, ◌≤◌, is_some, length, IsTrue, IfOk, IfSome, true, false};
 ghost use Rattle.ix_label.specs.Category.{leq};
-ghost use Rattle.ix_model.specs.history.Calls.{op_of};
-ghost use Rattle.ix_model.specs.history.Step.{step};
-ghost use Rattle.ix_model.specs.laws.Sound.{Sound};
-ghost use Rattle.ix_model.specs.opening.Opening.{opening_world};
-ghost use Rattle.ix_model.specs.opening.Valid.{is_valid};
-ghost use Rattle.ix_model.specs.rows.Walks.{node};
-ghost use Rattle.ix_model.specs.world.World.{at, change, ceiling_of, is_pipe, lives};
-ghost use Rattle.ix_tables.specs.Views.{Shows, object_by};
-ghost use Rattle.ix_tables.specs.Parts.{parts_of};
-ghost use Rattle.ix_fcalls.specs.Around.{Moment, around, world_of, with_who};
-ghost use Rattle.ix_fcalls.specs.Filed.{Answers, is_filed};
-ghost use Rattle.ix_fcalls.specs.Moving.{reply_of};
-ghost use Rattle.ix_fcalls.specs.Tested.{IsKnown};
+ghost use Rattle.ix_model.specs.{history.{Calls.{op_of}, Step.{step}}, laws.Sound.{Sound}, opening.{Opening.{opening_world}, Valid.{is_valid}}};
+ghost use Rattle.ix_model.specs.{rows.Walks.{node}, world.World.{at, change, ceiling_of, is_pipe, lives}};
+ghost use Rattle.ix_tables.specs.{Views.{Shows, object_by}, Parts.{parts_of}};
+ghost use Rattle.ix_fcalls.specs.{Around.{Moment, around, world_of, with_who}, Filed.{Answers, is_filed}, Moving.{reply_of}, Tested.{IsKnown}};
 
 use crate::moved::Moved;
 use ix_label::{Label, Steps};

@@ -1,10 +1,6 @@
 ghost use Rattle.std.specs.Prelude.{◌≡◌, ℕ, ◌<◌, length, map, OnErr, OnOk, is_some};
-ghost use Rattle.ix_model.specs.rows.Outcomes.{RowIs};
-ghost use Rattle.ix_model.specs.rows.Rows.{observe, affect};
-ghost use Rattle.ix_model.specs.rows.Walks.{node};
-ghost use Rattle.ix_model.specs.world.Owners.{names_in_all};
-ghost use Rattle.ix_fcalls.specs.Around.{frame_of};
-ghost use Rattle.ix_fcalls.specs.Counted.{IsCounted, Keeps};
+ghost use Rattle.ix_model.specs.{rows.{Outcomes.{RowIs}, Rows.{observe, affect}, Walks.{node}}, world.Owners.{names_in_all}};
+ghost use Rattle.ix_fcalls.specs.{Around.{frame_of}, Counted.{IsCounted, Keeps}};
 
 use crate::caller_in::{CallerIn, Others};
 use crate::files::Files;

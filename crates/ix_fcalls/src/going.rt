@@ -1,12 +1,8 @@
 ghost use Rattle.std.specs.Prelude.{◌≡◌, ◌<◌, ◌≤◌, Some, length, count_by, is_some, OnErr};
-ghost use Rattle.ix_model.specs.laws.Sound.{Sound};
-ghost use Rattle.ix_model.specs.rows.Outcomes.{RowIs};
-ghost use Rattle.ix_model.specs.rows.OnPaths.{change_dir};
-ghost use Rattle.ix_model.specs.world.World.{Process, at, change, living};
+ghost use Rattle.ix_model.specs.{laws.Sound.{Sound}, rows.{Outcomes.{RowIs}, OnPaths.{change_dir}}};
+ghost use Rattle.ix_model.specs.world.{World.{Process, at, change, living}, Paths.{path_of}};
 ghost use Rattle.ix_tables.specs.Parts.{homes_of};
-ghost use Rattle.ix_fcalls.specs.Around.{frame_of, world_of};
-ghost use Rattle.ix_fcalls.specs.Counted.{IsCounted, Keeps};
-ghost use Rattle.ix_model.specs.world.Paths.{path_of};
+ghost use Rattle.ix_fcalls.specs.{Around.{frame_of, world_of}, Counted.{IsCounted, Keeps}};
 
 use crate::caller_in::{CallerIn, Others};
 use crate::files::Files;

@@ -1,14 +1,8 @@
 ghost use Rattle.std.specs.Prelude.{◌≡◌, ◌<◌, None, Some, true};
-ghost use Rattle.ix_model.specs.laws.Sound.{Sound};
-ghost use Rattle.ix_model.specs.rows.Lifetimes.{let_go_all, let_go_if_held};
-ghost use Rattle.ix_model.specs.rows.Outcomes.{Pass};
-ghost use Rattle.ix_model.specs.world.Contents.{carried};
-ghost use Rattle.ix_model.specs.world.World.{Process, at, change, lives, put};
+ghost use Rattle.ix_model.specs.{laws.Sound.{Sound}, rows.{Lifetimes.{let_go_all, let_go_if_held}, Outcomes.{Pass}}};
+ghost use Rattle.ix_model.specs.world.{Contents.{carried}, World.{Process, at, change, lives, put}};
 ghost use Rattle.ix_tables.specs.Parts.{parts_of};
-ghost use Rattle.ix_fcalls.specs.Around.{Moment, around, frame_of, world_of, with_who};
-ghost use Rattle.ix_fcalls.specs.Calling.{IsCalling};
-ghost use Rattle.ix_fcalls.specs.Counted.{IsCounted};
-ghost use Rattle.ix_fcalls.specs.Remaining.{Leaves};
+ghost use Rattle.ix_fcalls.specs.{Around.{Moment, around, frame_of, world_of, with_who}, Calling.{IsCalling}, Counted.{IsCounted}, Remaining.{Leaves}};
 
 use crate::caller_in::{CallerIn, Others};
 use crate::files::Files;

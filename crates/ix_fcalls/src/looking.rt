@@ -1,10 +1,6 @@
 ghost use Rattle.std.specs.Prelude.{◌≡◌, OnErr};
-ghost use Rattle.ix_model.specs.laws.Sound.{Sound};
-ghost use Rattle.ix_model.specs.rows.OnPaths.{stat_at, list_at};
-ghost use Rattle.ix_model.specs.rows.Outcomes.{RowIs};
-ghost use Rattle.ix_fcalls.specs.Around.{frame_of, world_of};
-ghost use Rattle.ix_fcalls.specs.Counted.{IsCounted, Keeps};
-ghost use Rattle.ix_model.specs.world.Paths.{path_of};
+ghost use Rattle.ix_model.specs.{laws.Sound.{Sound}, rows.{OnPaths.{stat_at, list_at}, Outcomes.{RowIs}}, world.Paths.{path_of}};
+ghost use Rattle.ix_fcalls.specs.{Around.{frame_of, world_of}, Counted.{IsCounted, Keeps}};
 
 use crate::caller_in::{CallerIn, Others};
 use crate::files::Files;

@@ -1,20 +1,10 @@
-ghost use Rattle.std.specs.Prelude.{◌≡◌, ◌<◌, OnErr, Some, None, length, nat_lt, slice_set, true, false};
-ghost use Rattle.std.specs.Option.{option_map_or};
-ghost use Rattle.ix_model.specs.laws.Sound.{Sound};
-ghost use Rattle.ix_model.specs.rows.OnPaths.{link_at, make, new_object};
-ghost use Rattle.ix_model.specs.rows.Outcomes.{RowIs};
-ghost use Rattle.ix_model.specs.world.Naming.{last_name};
-ghost use Rattle.ix_model.specs.world.Numbers.{fs_number};
-ghost use Rattle.ix_model.specs.world.Contents.{holds_nothing};
-ghost use Rattle.ix_model.specs.world.Directories.{with_name};
-ghost use Rattle.ix_model.specs.world.Owners.{names_in_all};
-ghost use Rattle.ix_model.specs.world.World.{at, change, put, is_dir, is_file, is_pipe};
-ghost use Rattle.ix_model.specs.rows.Walks.{node, child, nothing};
-ghost use Rattle.ix_tables.specs.Views.{object_by, vacant_inode};
-ghost use Rattle.ix_fcalls.specs.Around.{frame_of, world_of};
-ghost use Rattle.ix_fcalls.specs.Counted.{IsCounted, Keeps};
-ghost use Rattle.ix_model.specs.world.NameRefs.{name_of};
+ghost use Rattle.std.specs.{Prelude.{◌≡◌, ◌<◌, OnErr, Some, None, length, nat_lt, slice_set, true, false}, Option.{option_map_or}};
+ghost use Rattle.ix_model.specs.{laws.Sound.{Sound}, rows.{OnPaths.{link_at, make, new_object}, Outcomes.{RowIs}, Walks.{node, child, nothing}}};
+ghost use Rattle.ix_model.specs.{world.Naming.{last_name}, world.Numbers.{fs_number}, world.Contents.{holds_nothing}, world.Directories.{with_name}};
+ghost use Rattle.ix_model.specs.{world.Owners.{names_in_all}, world.World.{at, change, put, is_dir, is_file, is_pipe}, world.NameRefs.{name_of}};
 ghost use Rattle.ix_model.specs.world.Paths.{path_of};
+ghost use Rattle.ix_tables.specs.Views.{object_by, vacant_inode};
+ghost use Rattle.ix_fcalls.specs.{Around.{frame_of, world_of}, Counted.{IsCounted, Keeps}};
 
 use crate::caller_in::{CallerIn, Others};
 use crate::files::Files;

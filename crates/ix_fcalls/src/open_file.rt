@@ -1,11 +1,6 @@
-ghost use Rattle.std.specs.Prelude.{◌≡◌, ◌<◌, IfSome, is_some, slice_index_or, true};
-ghost use Rattle.std.proofs.Common.{option_map};
-ghost use Rattle.ix_model.specs.rows.Walks.{behind};
-ghost use Rattle.ix_model.specs.world.Contents.{offset_of};
-ghost use Rattle.ix_model.specs.world.World.{at, lives};
-ghost use Rattle.ix_fcalls.specs.Around.{frame_of, world_of};
-ghost use Rattle.ix_fcalls.specs.Claiming.{entry_of};
-ghost use Rattle.ix_fcalls.specs.Views.{behind_of};
+ghost use Rattle.std.{specs.Prelude.{◌≡◌, ◌<◌, IfSome, is_some, slice_index_or, true}, proofs.Common.{option_map}};
+ghost use Rattle.ix_model.specs.{rows.Walks.{behind}, world.{Contents.{offset_of}, World.{at, lives}}};
+ghost use Rattle.ix_fcalls.specs.{Around.{frame_of, world_of}, Claiming.{entry_of}, Views.{behind_of}};
 
 use crate::caller_in::{CallerIn, Others};
 use crate::files::Files;

@@ -1,13 +1,9 @@
-ghost use Rattle.std.specs.Prelude.{◌≡◌, ◌+◌, ◌<◌, ◌≤◌, ℕ, length, count_by, is_none, is_some, IsTrue, OnErr, IfSome, Some, None, true, slice_index_or, slice_set};
+ghost use Rattle.std.specs.Prelude.{◌≡◌, ◌+◌, ◌<◌, ◌≤◌, ℕ, length, count_by, is_none, is_some, IsTrue, OnErr, IfSome, Some, None, true, slice_index_or};
+ghost use Rattle.std.specs.Prelude.{slice_set};
 ghost use Rattle.ix_label.specs.Category.{bottom};
-ghost use Rattle.ix_model.specs.laws.Sound.{Sound};
-ghost use Rattle.ix_model.specs.rows.OnDescriptors.{dup_fd, make_pipe, pipe_end};
-ghost use Rattle.ix_model.specs.rows.OnPaths.{open_at};
-ghost use Rattle.ix_model.specs.rows.Outcomes.{RowIs};
-ghost use Rattle.ix_model.specs.world.World.{at, put, change, living, lowest_free};
-ghost use Rattle.ix_fcalls.specs.Around.{frame_of, world_of};
-ghost use Rattle.ix_fcalls.specs.Counted.{IsCounted, IsClear, Keeps, has_free, free_beside};
-ghost use Rattle.ix_model.specs.world.Paths.{path_of};
+ghost use Rattle.ix_model.specs.{laws.Sound.{Sound}, rows.{OnDescriptors.{dup_fd, make_pipe, pipe_end}, OnPaths.{open_at}, Outcomes.{RowIs}}};
+ghost use Rattle.ix_model.specs.world.{World.{at, put, change, living, lowest_free}, Paths.{path_of}};
+ghost use Rattle.ix_fcalls.specs.{Around.{frame_of, world_of}, Counted.{IsCounted, IsClear, Keeps, has_free, free_beside}};
 
 use crate::caller_in::{CallerIn, Others, free_fd};
 use crate::files::Files;

@@ -1,10 +1,8 @@
-ghost use Rattle.std.specs.Prelude.{◌≡◌, Some};
-ghost use Rattle.std.proofs.Common.{option_map};
+ghost use Rattle.std.{specs.Prelude.{◌≡◌, Some}, proofs.Common.{option_map}};
 ghost use Rattle.ix_fresh.specs.Touched.{label_of_entry};
 ghost use Rattle.ix_model.specs.rows.Walks.{node};
 ghost use Rattle.ix_tables.specs.Views.{frame_alone};
-ghost use Rattle.ix_fcalls.specs.Claiming.{entry_of};
-ghost use Rattle.ix_fcalls.specs.Spots.{size_in, spot_in, spot_through, view_in};
+ghost use Rattle.ix_fcalls.specs.{Claiming.{entry_of}, Spots.{size_in, spot_in, spot_through, view_in}};
 
 use crate::files::Files;
 use ix_label::Label;

@@ -1,6 +1,5 @@
 ghost use Rattle.std.specs.Prelude.{◌≡◌, ◌+◌, ◌<◌, ◌≤◌, ◌++◌, ◌∷◌, ℕ, List, Option, [], length, count_by, is_some, Some, true, false, slice_index_or};
-ghost use Rattle.ix_model.specs.world.World.{Process, at};
-ghost use Rattle.ix_model.specs.world.Owners.{is_at};
+ghost use Rattle.ix_model.specs.world.{World.{Process, at}, Owners.{is_at}};
 ghost use Rattle.ix_fcalls.specs.Counted.{IsCounted};
 
 use crate::files::Files;

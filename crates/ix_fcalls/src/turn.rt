@@ -1,15 +1,7 @@
 ghost use Rattle.std.specs.Prelude.{◌≡◌, ◌≤◌, ℕ, List, IsTrue, OnErr, OnOk};
-ghost use Rattle.ix_model.specs.history.Calls.{op_of};
-ghost use Rattle.ix_model.specs.history.Step.{step};
-ghost use Rattle.ix_model.specs.laws.Sound.{Sound};
-ghost use Rattle.ix_model.specs.rows.Outcomes.{RowIs};
-ghost use Rattle.ix_model.specs.rows.Table.{row, verdict};
-ghost use Rattle.ix_fcalls.specs.Around.{frame_of, world_of, with_who};
-ghost use Rattle.ix_fcalls.specs.Calling.{IsCalling};
-ghost use Rattle.ix_fcalls.specs.Counted.{IsCounted};
+ghost use Rattle.ix_model.specs.{history.{Calls.{op_of}, Step.{step}}, laws.Sound.{Sound}, rows.{Outcomes.{RowIs}, Table.{row, verdict}}};
+ghost use Rattle.ix_fcalls.specs.{Around.{frame_of, world_of, with_who}, Calling.{IsCalling}, Counted.{IsCounted}, Moving.{reply_of}, Tested.{IsKnown}};
 ghost use Rattle.ix_fcalls.specs.Filed.{Answers, IsLook, Leaves, is_filed, is_plain, lets_go};
-ghost use Rattle.ix_fcalls.specs.Moving.{reply_of};
-ghost use Rattle.ix_fcalls.specs.Tested.{IsKnown};
 ghost use Rattle.ix_fcalls.specs.Telling.{FileThere, TellsOfFile, size_told, told_of, with_size};
 
 use crate::caller_in::{CallerIn, Others};

@@ -1,17 +1,9 @@
-ghost use Rattle.std.specs.Prelude.{◌≡◌, ◌<◌, [], OnErr, OnOk, Some, None, length, slice_set, true};
-ghost use Rattle.std.specs.List.{list_any};
-ghost use Rattle.ix_model.specs.laws.Sound.{Sound};
-ghost use Rattle.ix_model.specs.rows.OnPaths.{is_home, unlink_at, remove_dir};
-ghost use Rattle.ix_model.specs.rows.Outcomes.{RowIs};
-ghost use Rattle.ix_model.specs.rows.Walks.{node, child};
-ghost use Rattle.ix_model.specs.world.Contents.{carried, holds_nothing};
-ghost use Rattle.ix_model.specs.world.Directories.{without_name};
-ghost use Rattle.ix_model.specs.world.World.{change, put, is_dir, is_file};
+ghost use Rattle.std.specs.{Prelude.{◌≡◌, ◌<◌, [], OnErr, OnOk, Some, None, length, slice_set, true}, List.{list_any}};
+ghost use Rattle.ix_model.specs.{laws.Sound.{Sound}, rows.{OnPaths.{is_home, unlink_at, remove_dir}, Outcomes.{RowIs}, Walks.{node, child}}};
+ghost use Rattle.ix_model.specs.{world.Contents.{carried, holds_nothing}, world.Directories.{without_name}, world.World.{change, put, is_dir, is_file}};
+ghost use Rattle.ix_model.specs.{world.NameRefs.{name_of}, world.Paths.{path_of}};
 ghost use Rattle.ix_tables.specs.Views.{object_let_go};
-ghost use Rattle.ix_fcalls.specs.Around.{frame_of, world_of};
-ghost use Rattle.ix_fcalls.specs.Counted.{IsCounted};
-ghost use Rattle.ix_model.specs.world.NameRefs.{name_of};
-ghost use Rattle.ix_model.specs.world.Paths.{path_of};
+ghost use Rattle.ix_fcalls.specs.{Around.{frame_of, world_of}, Counted.{IsCounted}};
 
 use crate::caller_in::{CallerIn, Others};
 use crate::files::Files;

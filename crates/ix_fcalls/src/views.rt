@@ -1,10 +1,5 @@
-ghost use Rattle.std.specs.Prelude.{◌≡◌, ◌++◌, length, take, drop, min, Some};
-ghost use Rattle.std.specs.Option.{option_and_then, option_map};
-ghost use Rattle.std.specs.Prelude.{slice_get};
-ghost use Rattle.ix_model.specs.history.Views.{names_there};
-ghost use Rattle.ix_model.specs.world.Directories.{IsBehind};
-ghost use Rattle.ix_model.specs.world.NameRefs.{name_of};
-ghost use Rattle.ix_model.specs.world.World.{at};
+ghost use Rattle.std.specs.{Prelude.{◌≡◌, ◌++◌, length, take, drop, min, Some, slice_get}, Option.{option_and_then, option_map}};
+ghost use Rattle.ix_model.specs.{history.Views.{names_there}, world.{Directories.{IsBehind}, NameRefs.{name_of}, World.{at}}};
 ghost use Rattle.ix_fcalls.specs.Spots.{bytes_in};
 
 use crate::files::Files;

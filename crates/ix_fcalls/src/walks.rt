@@ -1,13 +1,8 @@
 ghost use Rattle.std.specs.Prelude.{◌≡◌, ℕ, Some, IsSome, ◌<◌, length, OnOk, IfOk};
-ghost use Rattle.ix_model.specs.laws.Sound.{Sound};
-ghost use Rattle.ix_model.specs.rows.OnPaths.{links_of};
-ghost use Rattle.ix_model.specs.rows.Outcomes.{RowIs, RowMeans};
+ghost use Rattle.ix_model.specs.{laws.Sound.{Sound}, rows.OnPaths.{links_of}, rows.Outcomes.{RowIs, RowMeans}, world.Paths.{names_left, path_of}};
 ghost use Rattle.ix_model.specs.rows.Walks.{walk, walked_to, node, found_object, vacant, object_at, spot_at, missing, lacking};
 ghost use Rattle.ix_tables.specs.Views.{Shows, frame_alone, object_by};
-ghost use Rattle.ix_fcalls.specs.Around.{frame_of, world_of};
-ghost use Rattle.ix_fcalls.specs.Counted.{IsCounted};
-ghost use Rattle.ix_fcalls.specs.Views.{NamedWell, sought_of, spot_of, seen_of, seen_in};
-ghost use Rattle.ix_model.specs.world.Paths.{names_left, path_of};
+ghost use Rattle.ix_fcalls.specs.{Around.{frame_of, world_of}, Counted.{IsCounted}, Views.{NamedWell, sought_of, spot_of, seen_of, seen_in}};
 
 use crate::caller_in::{CallerIn, Others};
 use crate::files::Files;

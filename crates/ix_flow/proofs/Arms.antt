@@ -1,42 +1,20 @@
 -- What tracks stand for after an entry that reads nothing, from what their sides stand for.
 use Rattle.std.proofs.Common.{◌≡◌, ◌≤◌, ◌+◌, ◌&&◌, ℕ, false, List, [], ◌∷◌, length, Option, Some, None, is_some, option_map, refl, sym, ap, ◌∙◌, subst, arith}
-use Rattle.std.proofs.lemmas.List.{length-append}
-use Rattle.std.specs.Prelude.{slice_get}
+use Rattle.std.{proofs.lemmas.List.length-append, specs.Prelude.slice_get}
 use Rattle.ix_label.specs.Category.{Categories}
-use Rattle.ix_model.specs.laws.Sound.{Sound}
-use Rattle.ix_model.specs.world.World.{HoldingOf, at}
-use Rattle.ix_model.specs.world.Contents.{held_at, side}
-use Rattle.ix_model.specs.history.Events.{Event}
+use Rattle.ix_model.specs.{laws.Sound.Sound, world.{World.{HoldingOf, at}, Contents.{held_at, side}}, rows.Walks.behind, declared.views.ProcView.ProcView}
+use Rattle.ix_model.specs.history.{Events.Event, History.{History, world_of, next, with_entry}, Views.shown_of}
 use Rattle.ix_model.specs.history.Events as op
 use Rattle.ix_model.specs.declared.reply.Reply.TheVariants as reply
-use Rattle.ix_model.specs.history.History.{History, world_of, next, with_entry}
-use Rattle.ix_model.proofs.sound.Soundly.{sound_step}
-use Rattle.ix_model.proofs.words.Runs.{world_of-push}
+use Rattle.ix_model.proofs.{sound.Soundly.sound_step, words.Runs.world_of-push}
 use Rattle.ix_fcalls.specs.Spots.{view_through}
-use Rattle.ix_model.specs.history.Views.{shown_of}
-use Rattle.ix_model.specs.rows.Walks.{behind}
-use Rattle.ix_model.specs.declared.views.ProcView.{ProcView}
 use Rattle.ix_open.specs.declared.view.OpenView.{OpenView}
-use Rattle.ix_flow.specs.Origins.{Marked, Origin, origins_of}
-use Rattle.ix_flow.specs.Lines.{Counts, lines_of_entry, pieces_read, with_pieces}
-use Rattle.ix_flow.specs.Lowerings.{label_of}
-use Rattle.ix_flow.specs.Marks.{marks_of}
-use Rattle.ix_flow.specs.Sides.{origin_at, source_in}
-use Rattle.ix_flow.specs.Tracking.{AreFalls, AreSides, AreTracks, IsTracked, IsUnder, counts_of, side_of}
-use Rattle.ix_flow.specs.declared.falls.Falls.{Falls}
-use Rattle.ix_flow.specs.declared.side.Side.{Side}
-use Rattle.ix_flow.specs.declared.sides.Sides.{Sides}
-use Rattle.ix_flow.specs.declared.source.Source.{Source}
+use Rattle.ix_flow.specs.{Origins.{Marked, Origin, origins_of}, Lines.{Counts, lines_of_entry, pieces_read, with_pieces}, Lowerings.label_of, Marks.marks_of}
+use Rattle.ix_flow.specs.{Sides.{origin_at, source_in}, Tracking.{AreFalls, AreSides, AreTracks, IsTracked, IsUnder, counts_of, side_of}}
+use Rattle.ix_flow.specs.declared.{falls.Falls.Falls, side.Side.Side, sides.Sides.Sides, source.Source.Source, tracks.Tracks.Tracks}
 use Rattle.ix_flow.specs.declared.source.Source.TheVariants as source
-use Rattle.ix_flow.specs.declared.tracks.Tracks.{Tracks}
-use Rattle.ix_flow.proofs.Counting.{counts_more}
-use Rattle.ix_flow.proofs.NewObjects.{Stood}
-use Rattle.ix_flow.proofs.ReadMarks.{kept_is, reads_nothing, tells_nothing}
-use Rattle.ix_flow.proofs.Quiet.{falls_quiet}
-use Rattle.ix_flow.proofs.Relabelling.{sets_label}
-use Rattle.ix_flow.proofs.Staying.{origins_past}
-use Rattle.ix_flow.proofs.Through.{kept_marks}
-use Rattle.ix_flow.proofs.Tracked.{sides_next}
+use Rattle.ix_flow.proofs.{Counting.counts_more, NewObjects.Stood, ReadMarks.{kept_is, reads_nothing, tells_nothing}, Quiet.falls_quiet, Relabelling.sets_label}
+use Rattle.ix_flow.proofs.{Staying.origins_past, Through.kept_marks, Tracked.sides_next}
 
 -- ---- labels
 -- with more labels, each where it was, what sides stand for stays

@@ -1,35 +1,17 @@
 -- What tracks stand for after a claim.
-use Rattle.std.proofs.Common.{◌≡◌, ◌≢◌, ◌≤◌, ◌<◌, ◌+◌, ◌==◌, ◌&&◌, nat_lt, not, ℕ, Bool, true, false, true≢false}
-use Rattle.std.proofs.Common.{[], length, Option, Some, None, is_some, option_map, if◌then◌else◌, refl, sym, ap, ◌∙◌, arith, inl, inr}
-use Rattle.std.specs.Option.{option_map_or, option_and_then}
-use Rattle.std.proofs.lemmas.Bool.{and_parts, not-true, or_right}
-use Rattle.std.proofs.lemmas.Bool.Decides.{eqb_tells}
-use Rattle.std.proofs.lemmas.List.{get_or-set_other}
-use Rattle.ix_model.specs.laws.Sound.{Sound, ShapesSound}
-use Rattle.ix_model.specs.world.World.{World, Frame, HoldingOf, Object, at, is_file, is_pipe}
+use Rattle.std.proofs.Common.{◌≡◌, ◌≢◌, ◌≤◌, ◌<◌, ◌+◌, ◌==◌, ◌&&◌, nat_lt, not, ℕ, Bool, true, false, true≢false, [], length, Option, Some, None, is_some, refl}
+use Rattle.std.proofs.Common.{option_map, if◌then◌else◌, sym, ap, ◌∙◌, arith, inl, inr}
+use Rattle.std.{specs.Option.{option_map_or, option_and_then}, proofs.lemmas.{Bool.{and_parts, not-true, or_right, Decides.eqb_tells}, List.get_or-set_other}}
+use Rattle.ix_model.specs.{laws.Sound.{Sound, ShapesSound}, world.World.{World, Frame, HoldingOf, Object, at, is_file, is_pipe}, rows.Walks.{OpenFile, behind}}
 use Rattle.ix_model.specs.world.Contents.{cleared, held_at, holding_of, holds_nothing, nothing_held, side}
-use Rattle.ix_model.specs.rows.Walks.{OpenFile, behind}
-use Rattle.ix_model.specs.history.Step.{is_whole}
-use Rattle.ix_model.specs.history.Events.{Op, Event}
+use Rattle.ix_model.specs.history.{Step.is_whole, Events.{Op, Event}, History.{History, world_of, next, with_entry}, Views.{has_side, size_at}}
 use Rattle.ix_model.specs.history.Events as op
-use Rattle.ix_model.specs.history.History.{History, world_of, next, with_entry}
-use Rattle.ix_model.specs.history.Views.{has_side, size_at}
 use Rattle.ix_model.specs.declared.reply.Reply.TheVariants as reply
-use Rattle.ix_model.proofs.paths_and_pipes.Wholes.{becomes_empty}
-use Rattle.ix_model.proofs.sound.Soundly.{sound_step}
-use Rattle.ix_model.proofs.words.Runs.{world_of-push}
+use Rattle.ix_model.proofs.{paths_and_pipes.Wholes.becomes_empty, sound.Soundly.sound_step, words.Runs.world_of-push}
 use Rattle.ix_open.specs.declared.view.OpenView.{OpenView}
-use Rattle.ix_flow.specs.Origins.{origins_of}
-use Rattle.ix_flow.specs.Lines.{lines_of_entry}
-use Rattle.ix_flow.specs.Marks.{marks_of}
-use Rattle.ix_flow.specs.Moves.{edited, emptied_there}
-use Rattle.ix_flow.specs.Tracking.{AreTracks, side_of}
-use Rattle.ix_flow.specs.declared.sides.Sides.{Sides}
-use Rattle.ix_flow.specs.declared.tracks.Tracks.{Tracks}
-use Rattle.ix_flow.proofs.Arms.{followed, unmoved}
-use Rattle.ix_flow.proofs.Forgotten.{forgotten_sides, nothing_there}
-use Rattle.ix_flow.proofs.NewObjects.{Stood, stood_step}
-use Rattle.ix_flow.proofs.Staying.{marks_next}
+use Rattle.ix_flow.specs.{Origins.origins_of, Lines.lines_of_entry, Marks.marks_of, Moves.{edited, emptied_there}, Tracking.{AreTracks, side_of}}
+use Rattle.ix_flow.specs.declared.{sides.Sides.Sides, tracks.Tracks.Tracks}
+use Rattle.ix_flow.proofs.{Arms.{followed, unmoved}, Forgotten.{forgotten_sides, nothing_there}, NewObjects.{Stood, stood_step}, Staying.marks_next}
 use Rattle.ix_flow.proofs.Through.{kept_marks, not_opened, through}
 
 -- ---- whole paths

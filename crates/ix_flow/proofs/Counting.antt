@@ -1,20 +1,13 @@
 -- How many reads and lines there are after one entry more, and at most.
-use Rattle.std.proofs.Common.{◌≡◌, ◌≤◌, ◌+◌, ◌*◌, ℕ, suc, Bool, true, false, List, [], ◌∷◌, ◌++◌, length, Option, Some, if◌then◌else◌, refl, sym, ap, ◌∙◌, arith, append-nil, append_assoc}
-use Rattle.std.proofs.Common.{subst}
+use Rattle.std.proofs.Common.{◌≡◌, ◌≤◌, ◌+◌, ◌*◌, ℕ, suc, Bool, true, false, List, [], ◌∷◌, ◌++◌, length, Option, Some, if◌then◌else◌, refl, sym, ap, ◌∙◌}
+use Rattle.std.proofs.Common.{arith, append-nil, append_assoc, subst}
 use Rattle.std.proofs.lemmas.List.{length-map, length-take}
-use Rattle.ix_model.specs.world.Contents.{offset_of, readable_in}
-use Rattle.ix_model.specs.rows.Walks.{OpenFile, behind}
-use Rattle.ix_model.specs.history.Step.{step}
-use Rattle.ix_model.specs.history.Events.{Op, Event}
+use Rattle.ix_model.specs.{world.Contents.{offset_of, readable_in}, rows.Walks.{OpenFile, behind}, declared.reply.Reply.Reply}
+use Rattle.ix_model.specs.history.{Step.step, Events.{Op, Event}, History.{History, world_of, next, with_entry}}
 use Rattle.ix_model.specs.history.Events as op
-use Rattle.ix_model.specs.history.History.{History, world_of, next, with_entry}
-use Rattle.ix_model.specs.declared.reply.Reply.{Reply}
 use Rattle.ix_model.specs.declared.reply.Reply.TheVariants as reply
-use Rattle.ix_flow.specs.Origins.{Origin, origins_of}
-use Rattle.ix_flow.specs.Marks.{marks_of, marks_read, read_by, read_through}
-use Rattle.ix_flow.specs.Lines.{Counts, Piece, follows, in_front, pieces_from, pieces_read, with_pieces}
-use Rattle.ix_flow.specs.Tracking.{counts_from, counts_of}
-use Rattle.ix_flow.proofs.ReadWorlds.{read_few}
+use Rattle.ix_flow.{specs.Origins.{Origin, origins_of}, specs.Marks.{marks_of, marks_read, read_by, read_through}, specs.Tracking.{counts_from, counts_of}}
+use Rattle.ix_flow.{specs.Lines.{Counts, Piece, follows, in_front, pieces_from, pieces_read, with_pieces}, proofs.ReadWorlds.read_few}
 
 -- ---- one entry more
 counts_push : (h : History) (n : Counts) (events : List Event) (e : Event) → counts_from h n (events ++ e ∷ []) ≡ with_pieces (pieces_read (record h { events = h.events ++ events }) e)

@@ -1,35 +1,18 @@
 -- What tracks stand for after a cut.
 use Rattle.std.proofs.Common.{◌≡◌, ◌≤◌, ◌+◌, ℕ, true, false, List, [], length, Option, Some, None, option_map, refl, sym, ap, ◌∙◌, subst}
-use Rattle.std.specs.Option.{option_map_or}
-use Rattle.std.proofs.lemmas.Bool.{not-true}
+use Rattle.std.{specs.Option.option_map_or, proofs.lemmas.Bool.not-true}
 use Rattle.ix_label.specs.Category.{Categories}
-use Rattle.ix_model.specs.world.World.{World, Frame, HoldingOf, is_pipe}
-use Rattle.ix_model.specs.world.Contents.{offset_of, on_pipe, on_side, resized}
-use Rattle.ix_model.specs.rows.Walks.{OpenFile, behind}
-use Rattle.ix_model.specs.rows.OnDescriptors.{LengthChecks, cut_fd}
-use Rattle.ix_model.specs.rows.Table.{row, verdict}
-use Rattle.ix_model.specs.rows.Telling.{told}
-use Rattle.ix_model.specs.history.AuditLog.{is_answer}
-use Rattle.ix_model.specs.history.Step.{answer, cut_answer, plainly, step}
-use Rattle.ix_model.specs.history.Events.{Op, Event}
-use Rattle.ix_model.specs.history.Events as op
-use Rattle.ix_model.specs.history.History.{History, world_of, next, with_entry}
+use Rattle.ix_model.specs.{world.{World.{World, Frame, HoldingOf, is_pipe}, Contents.{offset_of, on_pipe, on_side, resized}}, history.AuditLog.is_answer}
+use Rattle.ix_model.specs.rows.{Walks.{OpenFile, behind}, OnDescriptors.{LengthChecks, cut_fd}, Table.{row, verdict}, Telling.told}
+use Rattle.ix_model.specs.{history.Step.{answer, cut_answer, plainly, step}, history.Events.{Op, Event}, history.History.{History, world_of, next, with_entry}}
 use Rattle.ix_model.specs.declared.reply.Reply.{Reply}
+use Rattle.ix_model.specs.history.Events as op
 use Rattle.ix_model.specs.declared.reply.Reply.TheVariants as reply
-use Rattle.ix_model.proofs.words.Answered.{passed}
-use Rattle.ix_model.proofs.words.Ends.{Ends, Anything, ends_bind, ends_need, ends_object, ends_opened, ends_then}
+use Rattle.ix_model.proofs.words.{Answered.passed, Ends.{Ends, Anything, ends_bind, ends_need, ends_object, ends_opened, ends_then}}
 use Rattle.ix_open.specs.declared.view.OpenView.{OpenView}
-use Rattle.ix_flow.specs.Origins.{Marked, gap_mark}
-use Rattle.ix_flow.specs.Lines.{lines_of_entry}
-use Rattle.ix_flow.specs.Marks.{marks_of}
-use Rattle.ix_flow.specs.Moves.{cut_there, edited}
-use Rattle.ix_flow.specs.Tracking.{AreSides, AreTracks, HasEnd}
-use Rattle.ix_flow.specs.declared.sides.Sides.{Sides}
-use Rattle.ix_flow.specs.declared.tracks.Tracks.{Tracks}
-use Rattle.ix_flow.proofs.Arms.{followed, kept_sides, unmoved}
-use Rattle.ix_flow.proofs.NewObjects.{Stood, stood_step}
-use Rattle.ix_flow.proofs.ReadWorlds.{ends_anyway}
-use Rattle.ix_flow.proofs.Staying.{marks_next}
+use Rattle.ix_flow.specs.{Origins.{Marked, gap_mark}, Lines.lines_of_entry, Marks.marks_of, Moves.{cut_there, edited}, Tracking.{AreSides, AreTracks, HasEnd}}
+use Rattle.ix_flow.specs.declared.{sides.Sides.Sides, tracks.Tracks.Tracks}
+use Rattle.ix_flow.proofs.{Arms.{followed, kept_sides, unmoved}, NewObjects.{Stood, stood_step}, ReadWorlds.ends_anyway, Staying.marks_next}
 use Rattle.ix_flow.proofs.Through.{Through, has_end, kept_marks, not_opened, through, viewed}
 
 -- ---- what stands behind the descriptor

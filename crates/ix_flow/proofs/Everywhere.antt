@@ -1,18 +1,13 @@
 -- What is known of everything that is held stays known of it after an edit.
-use Rattle.std.proofs.Common.{◌≡◌, ◌+◌, ◌-◌, ◌==◌, nat_le, ℕ, Bool, true, false, not, ◌&&◌, List, ◌++◌}
-use Rattle.std.proofs.Common.{length, take, drop, replicate, Option, Some, None, is_some, if◌then◌else◌, refl, sym, ap, arith, subst}
-use Rattle.std.specs.Prelude.{All}
-use Rattle.std.proofs.lemmas.List.Elements.{All-append, All-nil, All-drop, All-replicate, All-take}
-use Rattle.ix_model.specs.world.World.{World, Frame, Content, HoldingOf, at}
-use Rattle.ix_model.specs.world.Contents.{held_at, kept, nothing_held, offset_of, on_pipe, on_side, resized, side, with_side, written_over}
-use Rattle.ix_model.specs.rows.Walks.{OpenFile, behind}
-use Rattle.ix_model.specs.history.Step.{Given, is_whole}
-use Rattle.ix_model.specs.history.Events.{Op}
-use Rattle.ix_model.specs.history.Events as op
+use Rattle.std.proofs.Common.{◌≡◌, ◌+◌, ◌-◌, ◌==◌, nat_le, ℕ, Bool, true, false, not, ◌&&◌, List, ◌++◌, length, take, drop, replicate, Option, Some, None, refl}
+use Rattle.std.proofs.Common.{is_some, if◌then◌else◌, sym, ap, arith, subst}
+use Rattle.std.{specs.Prelude.All, proofs.lemmas.List.Elements.{All-append, All-nil, All-drop, All-replicate, All-take}}
+use Rattle.ix_model.specs.{world.World.{World, Frame, Content, HoldingOf, at}, rows.Walks.{OpenFile, behind}, history.{Step.{Given, is_whole}, Events.Op}}
 use Rattle.ix_model.specs.declared.reply.Reply.{Reply}
+use Rattle.ix_model.specs.world.Contents.{held_at, kept, nothing_held, offset_of, on_pipe, on_side, resized, side, with_side, written_over}
+use Rattle.ix_model.specs.history.Events as op
 use Rattle.ix_model.specs.declared.reply.Reply.TheVariants as reply
-use Rattle.ix_model.proofs.clean.Carrying.{get_or-keep}
-use Rattle.ix_model.proofs.sound.Lengths.{set_either}
+use Rattle.ix_model.proofs.{clean.Carrying.get_or-keep, sound.Lengths.set_either}
 use Rattle.ix_flow.specs.Moves.{taken, put_there, cut_there, emptied_there, edited, moved}
 
 -- of everything in both lists

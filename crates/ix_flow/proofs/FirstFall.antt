@@ -1,19 +1,10 @@
 -- The places at which an object is let down, and the first of them behind a place.
-use Rattle.std.proofs.Common.{◌≡◌, ◌≢◌, ◌≤◌, ◌<◌, ◌+◌, ◌-◌, ◌*◌, ◌^◌, ◌==◌, ◌&&◌, cond, is_some, nat_lt, ℕ, suc, Bool, true}
-use Rattle.std.proofs.Common.{false, true≢false, List, [], ◌∷◌, ◌++◌, length, Some, None, if◌then◌else◌, refl, sym, ap, ◌∙◌, arith, inl, inr}
-use Rattle.std.proofs.lemmas.Bool.{eq-eqb, lt-ltb, ltb-false, ltb-true, ne_eqb}
-use Rattle.std.proofs.lemmas.Bool.Decides.{eqb_tells}
-use Rattle.std.specs.BTreeMap.{get}
-use Rattle.std.specs.Ordering.{is_gt, nat_cmp}
-use Rattle.std.specs.declared.cmp.Ordering.TheVariants.{Less, Equal, Greater}
-use Rattle.ix_model.specs.opening.Opening.{opening_world}
-use Rattle.ix_model.specs.history.History.{History}
-use Rattle.ix_model.specs.world.World.{World}
-use Rattle.ix_model.specs.history.Step.{step_of, run}
-use Rattle.ix_model.specs.history.Events.{Event}
-use Rattle.ix_flow.specs.Lowerings.{falls, first_fall}
-use Rattle.ix_flow.specs.Tracking.{AreFalls, falls_at}
-use Rattle.ix_flow.specs.declared.falls.Falls.{Falls}
+use Rattle.std.proofs.Common.{◌≡◌, ◌≢◌, ◌≤◌, ◌<◌, ◌+◌, ◌-◌, ◌*◌, ◌^◌, ◌==◌, ◌&&◌, cond, is_some, nat_lt, ℕ, suc, Bool, true, false, true≢false, List, [], ◌∷◌}
+use Rattle.std.proofs.Common.{◌++◌, length, Some, None, if◌then◌else◌, refl, sym, ap, ◌∙◌, arith, inl, inr}
+use Rattle.std.proofs.lemmas.Bool.{eq-eqb, lt-ltb, ltb-false, ltb-true, ne_eqb, Decides.eqb_tells}
+use Rattle.std.specs.{BTreeMap.get, Ordering.{is_gt, nat_cmp}, declared.cmp.Ordering.TheVariants.{Less, Equal, Greater}}
+use Rattle.ix_model.specs.{opening.Opening.opening_world, history.{History.History, Step.{step_of, run}, Events.Event}, world.World.World}
+use Rattle.ix_flow.specs.{Lowerings.{falls, first_fall}, Tracking.{AreFalls, falls_at}, declared.falls.Falls.Falls}
 
 -- ---- one place
 at_first : (w : World) (place : ℕ) (e : Event) (events : List Event) (o that : ℕ) → that ≡ place → falls_at w place (e ∷ events) o that ≡ falls w.frame (step_of w place e).world.frame o

@@ -1,9 +1,7 @@
 -- The lines of entries one after the other, and the last line.
 use Rattle.std.proofs.Common.{◌≡◌, false, List, [], ◌∷◌, ◌++◌, Result, Ok, Err, OnOk, is_err, refl, sym, ap, ◌∙◌, append-nil, append_assoc}
-use Rattle.ix_model.specs.history.Events.{Event}
-use Rattle.ix_model.specs.history.History.{History, with_entry}
-use Rattle.ix_flow.specs.Laws.{FlowsAreLinesAndAnEnd, LinesGoOn}
-use Rattle.ix_flow.specs.Lines.{Counts, end_line, lines_from, lines_of_entry, pieces_read, with_pieces}
+use Rattle.ix_model.specs.history.{Events.Event, History.{History, with_entry}}
+use Rattle.ix_flow.specs.{Laws.{FlowsAreLinesAndAnEnd, LinesGoOn}, Lines.{Counts, end_line, lines_from, lines_of_entry, pieces_read, with_pieces}}
 use Rattle.ix_flow.specs.Tracking.{counts_from, lines_after}
 
 -- what holds of a result that is no error

@@ -1,29 +1,13 @@
 -- What sides stand for after an object was forgotten, which holds nothing.
-use Rattle.std.proofs.Common.{◌≡◌, ◌<◌, ◌+◌, ◌==◌, ◌&&◌, ℕ, Bool, true, false, true≢false, List, [], ◌∷◌}
-use Rattle.std.proofs.Common.{length, Option, Some, None, is_some, if◌then◌else◌, refl, sym, ap, ◌∙◌, subst, arith, inl, inr}
-use Rattle.std.specs.Option.{option_and_then}
-use Rattle.std.proofs.lemmas.Bool.Decides.{eqb_tells}
-use Rattle.std.proofs.lemmas.List.{length-map}
+use Rattle.std.proofs.Common.{◌≡◌, ◌<◌, ◌+◌, ◌==◌, ◌&&◌, ℕ, Bool, true, false, true≢false, List, [], ◌∷◌, length, Option, Some, None, is_some, if◌then◌else◌}
+use Rattle.std.proofs.Common.{refl, sym, ap, ◌∙◌, subst, arith, inl, inr}
+use Rattle.std.{specs.Option.option_and_then, proofs.lemmas.{Bool.Decides.eqb_tells, List.length-map}}
 use Rattle.ix_label.specs.Category.{Categories}
-use Rattle.ix_model.specs.laws.Sound.{Sound}
-use Rattle.ix_model.specs.world.World.{World, HoldingOf, Object, at}
-use Rattle.ix_model.specs.world.Contents.{held_at, holding_of, nothing_held, side}
-use Rattle.ix_model.specs.history.Events.{Event}
-use Rattle.ix_model.specs.history.History.{History, world_of, next, with_entry}
-use Rattle.ix_model.specs.history.Views.{has_side, size_at}
-use Rattle.ix_model.proofs.clean.Carrying.{get_or-keep}
-use Rattle.ix_model.proofs.sound.Carried.{there_is}
-use Rattle.ix_model.proofs.words.Runs.{world_of-push}
-use Rattle.ix_flow.specs.Origins.{Marked, origins_of}
-use Rattle.ix_flow.specs.Marks.{marks_of}
-use Rattle.ix_flow.specs.Tracking.{AreSides, IsTracked, side_of}
-use Rattle.ix_flow.specs.declared.side.Side.{Side}
-use Rattle.ix_flow.specs.declared.sides.Sides.{Sides}
-use Rattle.ix_flow.proofs.Mapping.{held_side}
-use Rattle.ix_flow.proofs.Marking.{marked_run}
-use Rattle.ix_flow.proofs.ReadMarks.{kept_is}
-use Rattle.ix_flow.proofs.Staying.{origins_past}
-use Rattle.ix_flow.proofs.Through.{kept_marks}
+use Rattle.ix_model.specs.{laws.Sound.Sound, world.{World.{World, HoldingOf, Object, at}, Contents.{held_at, holding_of, nothing_held, side}}}
+use Rattle.ix_model.specs.history.{Events.Event, History.{History, world_of, next, with_entry}, Views.{has_side, size_at}}
+use Rattle.ix_model.proofs.{clean.Carrying.get_or-keep, sound.Carried.there_is, words.Runs.world_of-push}
+use Rattle.ix_flow.specs.{Origins.{Marked, origins_of}, Marks.marks_of, Tracking.{AreSides, IsTracked, side_of}, declared.{side.Side.Side, sides.Sides.Sides}}
+use Rattle.ix_flow.proofs.{Mapping.held_side, Marking.marked_run, ReadMarks.kept_is, Staying.origins_past, Through.kept_marks}
 use Rattle.ix_flow.proofs.Tracked.{kind_stays, tracked_next}
 
 -- ---- what is nothing

@@ -1,17 +1,11 @@
 -- The last run that begins at or before a number, in runs that ascend: what a run more and one fewer make of it.
-use Rattle.std.proofs.Common.{◌≡◌, ◌≤◌, ◌<◌, ◌==◌, nat_le, nat_lt, ℕ, suc, Bool, true, false, not, ◌&&◌, cond, List, [], ◌∷◌, ◌++◌, if◌then◌else◌, refl, sym, ap, ◌∙◌, subst, arith, true≢false, ◌⊎◌}
-use Rattle.std.proofs.Common.{inl, inr}
-use Rattle.std.specs.List.{filter, AllByRecursion}
-use Rattle.std.specs.List.Sorted.{IsStrictlySortedBy}
-use Rattle.std.specs.BTreeMap.{insert_entry}
-use Rattle.std.specs.Map.{keys_of, remove_entry}
-use Rattle.std.specs.Ordering.{match_ordering, nat_cmp, is_eq, is_le, is_lt}
-use Rattle.std.specs.declared.cmp.Ordering.TheVariants.{Less, Equal, Greater}
-use Rattle.std.proofs.lemmas.Bool.Decides.{eqb_tells}
-use Rattle.std.proofs.lemmas.Bool.{eq-eqb, eqb-true, le-leb, leb-false, leb-true, lt-leb, ltb-false, ltb-true}
-use Rattle.ix_flow.specs.Sides.{Begins, NoneBegins, last_source, source_in}
+use Rattle.std.proofs.Common.{◌≡◌, ◌≤◌, ◌<◌, ◌==◌, nat_le, nat_lt, ℕ, suc, Bool, true, false, not, ◌&&◌, cond, List, [], ◌∷◌, ◌++◌, if◌then◌else◌, refl, sym}
+use Rattle.std.proofs.Common.{ap, ◌∙◌, subst, arith, true≢false, ◌⊎◌, inl, inr}
+use Rattle.std.specs.{List.{filter, AllByRecursion, Sorted.IsStrictlySortedBy}, BTreeMap.insert_entry, Map.{keys_of, remove_entry}}
+use Rattle.std.specs.{Ordering.{match_ordering, nat_cmp, is_eq, is_le, is_lt}, declared.cmp.Ordering.TheVariants.{Less, Equal, Greater}}
+use Rattle.std.proofs.lemmas.Bool.{Decides.eqb_tells, eq-eqb, eqb-true, le-leb, leb-false, leb-true, lt-leb, ltb-false, ltb-true}
+use Rattle.ix_flow.specs.{Sides.{Begins, NoneBegins, last_source, source_in}, declared.source.Source.Source}
 use Rattle.ix_flow.specs.declared.source.Source.TheVariants as source
-use Rattle.ix_flow.specs.declared.source.Source.{Source}
 
 -- ---- three ways
 data Ways (a b : ℕ) : Type 0 where

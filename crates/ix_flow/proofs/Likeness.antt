@@ -1,14 +1,11 @@
 -- What a side stands for after it was changed, number by number.
-use Rattle.std.proofs.Common.{◌≡◌, ◌≤◌, ◌<◌, ◌+◌, ◌-◌, nat_le, max, ℕ, zero, suc, Bool, true, false, List, ◌++◌, length, take, drop, replicate, if◌then◌else◌, refl, sym, ap, ◌∙◌, subst, arith, get_or}
-use Rattle.std.proofs.Common.{◌⊎◌, inl, inr, length-append, append-nil, true≢false}
-use Rattle.std.proofs.lemmas.Bool.{le-leb, leb-false, leb-true, lt-leb}
+use Rattle.std.proofs.Common.{◌≡◌, ◌≤◌, ◌<◌, ◌+◌, ◌-◌, nat_le, max, ℕ, zero, suc, Bool, true, false, List, ◌++◌, length, take, drop, replicate, if◌then◌else◌}
+use Rattle.std.proofs.Common.{refl, sym, ap, ◌∙◌, subst, arith, get_or, ◌⊎◌, inl, inr, length-append, append-nil, true≢false}
+use Rattle.std.proofs.{lemmas.Bool.{le-leb, leb-false, leb-true, lt-leb}, Math.ListN.get_or-append}
 use Rattle.std.proofs.lemmas.List.{append_assoc, get_or-append_right, get_or-drop, get_or-replicate, get_or-take, length-drop, length-replicate, length-take}
-use Rattle.std.proofs.Math.ListN.{get_or-append}
 use Rattle.ix_model.specs.world.Contents.{written_over}
-use Rattle.ix_flow.specs.Origins.{Origin, Written, Gap}
-use Rattle.ix_flow.specs.Sides.{IsLike, numbered, origin_at, source_in, start_of}
-use Rattle.ix_flow.specs.declared.side.Side.{Side}
-use Rattle.ix_flow.specs.declared.source.Source.{Source}
+use Rattle.ix_flow.specs.{Origins.{Origin, Written, Gap}, Sides.{IsLike, numbered, origin_at, source_in, start_of}}
+use Rattle.ix_flow.specs.declared.{side.Side.Side, source.Source.Source}
 use Rattle.ix_flow.specs.declared.source.Source.TheVariants as source
 
 -- ---- numbered origins

@@ -1,20 +1,12 @@
 -- The line of a piece, written part by part.
-use Rattle.std.proofs.Common.{◌≡◌, ◌≤◌, ◌+◌, ◌-◌, ℕ, suc, List, [], ◌∷◌, ◌++◌, length, take, drop, codes, Option, sym, ap, ◌∙◌, append_assoc, get_or, subst, arith}
-use Rattle.std.specs.List.{flat_map}
-use Rattle.std.specs.Fmt.{decimal}
-use Rattle.std.proofs.lemmas.Option.{get_or_from_slice_get}
-use Rattle.ix_label.specs.Category.{Categories, bottom}
-use Rattle.ix_label.specs.Spelling.{spelling}
+use Rattle.std.proofs.Common.{◌≡◌, ◌≤◌, ◌+◌, ◌-◌, ℕ, suc, List, [], ◌∷◌, ◌++◌, length, take, drop, codes, Option, sym, ap, ◌∙◌, append_assoc, get_or, subst}
+use Rattle.std.proofs.Common.{arith}
+use Rattle.std.{specs.{List.flat_map, Fmt.decimal}, proofs.lemmas.Option.get_or_from_slice_get}
+use Rattle.ix_label.specs.{Category.{Categories, bottom}, Spelling.spelling}
 use Rattle.ix_label.specs.declared.form.Form.TheVariants as form
-use Rattle.ix_model.specs.opening.Opening.{opening_world}
-use Rattle.ix_model.specs.history.History.{History}
-use Rattle.ix_flow.specs.Origins.{Origin, Written, InConfig}
-use Rattle.ix_flow.specs.Lines.{Piece, piece_line, pieces_from, place_text}
-use Rattle.ix_flow.specs.Lowerings.{first_fall, label_of, via}
-use Rattle.ix_flow.specs.Reads.{between}
-use Rattle.ix_flow.specs.Sides.{origin_at}
-use Rattle.ix_flow.specs.Tracking.{IsUnder}
-use Rattle.ix_flow.specs.declared.source.Source.{Source}
+use Rattle.ix_model.specs.{opening.Opening.opening_world, history.History.History}
+use Rattle.ix_flow.specs.{Origins.{Origin, Written, InConfig}, Lines.{Piece, piece_line, pieces_from, place_text}, Lowerings.{first_fall, label_of, via}}
+use Rattle.ix_flow.specs.{Reads.between, Sides.origin_at, Tracking.IsUnder, declared.source.Source.Source}
 use Rattle.ix_flow.specs.declared.source.Source.TheVariants as source
 
 -- what is put behind a text in seven parts

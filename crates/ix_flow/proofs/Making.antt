@@ -1,29 +1,15 @@
 -- What tracks stand for after an object was made.
-use Rattle.std.proofs.Common.{◌≡◌, ◌≤◌, ◌<◌, ◌+◌, ℕ, Bool, true, false, true≢false, [], length, Some, None, is_some, option_map, refl, sym, ap, ◌∙◌, subst, ◌⊎◌, inl, inr}
-use Rattle.ix_model.specs.world.Naming.{PathOf}
-use Rattle.ix_model.specs.world.World.{World, at}
-use Rattle.ix_model.specs.rows.Walks.{OpenFile, behind}
-use Rattle.ix_model.specs.history.AuditLog.{is_answer}
-use Rattle.ix_model.specs.history.Step.{step}
-use Rattle.ix_model.specs.history.Events.{Op, Event}
+use Rattle.std.proofs.Common.{◌≡◌, ◌≤◌, ◌<◌, ◌+◌, ℕ, Bool, true, false, true≢false, [], length, Some, None, is_some, option_map, refl, sym, ap, ◌∙◌, subst, ◌⊎◌}
+use Rattle.std.proofs.Common.{inl, inr}
+use Rattle.ix_model.specs.{world.{Naming.PathOf, World.{World, at}}, rows.Walks.{OpenFile, behind}, declared.ids.Fd.Fd}
+use Rattle.ix_model.specs.history.{AuditLog.is_answer, Step.step, Events.{Op, Event}, History.{History, world_of, next, with_entry}}
 use Rattle.ix_model.specs.history.Events as op
-use Rattle.ix_model.specs.history.History.{History, world_of, next, with_entry}
-use Rattle.ix_model.specs.declared.ids.Fd.{Fd}
 use Rattle.ix_model.specs.declared.reply.Reply.TheVariants as reply
 use Rattle.ix_model.proofs.words.Runs.{world_of-push}
 use Rattle.ix_open.specs.declared.view.OpenView.{OpenView}
-use Rattle.ix_flow.specs.Lines.{lines_of_entry}
-use Rattle.ix_flow.specs.Marks.{marks_of}
-use Rattle.ix_flow.specs.Moves.{edited}
-use Rattle.ix_flow.specs.Tracking.{AreTracks, side_of}
-use Rattle.ix_flow.specs.declared.sides.Sides.{Sides}
-use Rattle.ix_flow.specs.declared.tracks.Tracks.{Tracks}
-use Rattle.ix_flow.proofs.Arms.{followed, unmoved}
-use Rattle.ix_flow.proofs.Forgotten.{forgotten_sides, nothing_kept}
-use Rattle.ix_flow.proofs.NewObjects.{MadeOne, OneNew, Stood, created, made_dir, piped}
-use Rattle.ix_flow.proofs.Relabelling.{sets_label}
-use Rattle.ix_flow.proofs.Staying.{marks_next}
-use Rattle.ix_flow.proofs.Through.{kept_marks}
+use Rattle.ix_flow.specs.{Lines.lines_of_entry, Marks.marks_of, Moves.edited, Tracking.{AreTracks, side_of}, declared.{sides.Sides.Sides, tracks.Tracks.Tracks}}
+use Rattle.ix_flow.proofs.{Arms.{followed, unmoved}, Forgotten.{forgotten_sides, nothing_kept}, NewObjects.{MadeOne, OneNew, Stood, created, made_dir, piped}}
+use Rattle.ix_flow.proofs.{Relabelling.sets_label, Staying.marks_next, Through.kept_marks}
 
 -- whether a call makes an object
 abbrev pub makes : Op → Bool

@@ -1,18 +1,14 @@
 -- What is made of each thing held is made of it after each edit as before.
-use Rattle.std.proofs.Common.{◌≡◌, ◌+◌, ◌-◌, ◌==◌, nat_le, ℕ, zero, suc, Bool, true, false, not, ◌&&◌, List, [], ◌∷◌}
-use Rattle.std.proofs.Common.{◌++◌, length, map, take, drop, replicate, Option, Some, None, is_some, if◌then◌else◌, refl, sym, ap, ◌∙◌, set}
-use Rattle.std.proofs.Math.ListN.{get_or-map}
-use Rattle.std.proofs.lemmas.List.{length-map, map-append, map-set, take-map, drop-map}
-use Rattle.ix_model.specs.world.World.{World, Frame, Content, HoldingOf, at}
-use Rattle.ix_model.specs.world.Contents.{filled, held_at, keep, kept, nothing_held, offset_of, on_pipe, on_side, readable_in, resized, side, with_side, written_over}
-use Rattle.ix_model.specs.rows.Walks.{OpenFile}
-use Rattle.ix_model.specs.history.Step.{Given, is_whole}
-use Rattle.ix_model.specs.history.Events.{Op}
-use Rattle.ix_model.specs.history.Events as op
+use Rattle.std.proofs.Common.{◌≡◌, ◌+◌, ◌-◌, ◌==◌, nat_le, ℕ, zero, suc, Bool, true, false, not, ◌&&◌, List, [], ◌∷◌, ◌++◌, length, map, take, drop, replicate}
+use Rattle.std.proofs.Common.{Option, Some, None, is_some, if◌then◌else◌, refl, sym, ap, ◌∙◌, set}
+use Rattle.std.proofs.{Math.ListN.get_or-map, lemmas.List.{length-map, map-append, map-set, take-map, drop-map}}
+use Rattle.ix_model.specs.{world.World.{World, Frame, Content, HoldingOf, at}, rows.Walks.OpenFile, history.{Step.{Given, is_whole}, Events.Op}}
 use Rattle.ix_model.specs.declared.reply.Reply.{Reply}
+use Rattle.ix_model.specs.world.Contents.{filled, held_at, keep, kept, nothing_held, offset_of, on_pipe, on_side, readable_in, resized, side, with_side}
+use Rattle.ix_model.specs.world.Contents.{written_over}
+use Rattle.ix_model.specs.history.Events as op
 use Rattle.ix_model.specs.declared.reply.Reply.TheVariants as reply
-use Rattle.ix_flow.specs.Origins.{each}
-use Rattle.ix_flow.specs.Moves.{taken, put_there, cut_there, emptied_there, edited, moved}
+use Rattle.ix_flow.specs.{Origins.each, Moves.{taken, put_there, cut_there, emptied_there, edited, moved}}
 
 module _ {A B : Type 0} (F : A → B) where
   -- ---- lists

@@ -1,22 +1,13 @@
 -- The marked run, looked at as bytes, is the run.
-use Rattle.std.proofs.Common.{◌≡◌, ℕ, suc, List, [], ◌∷◌, map, take, Option, Some, refl, sym, ap, ◌∙◌}
-use Rattle.std.proofs.lemmas.List.{take-map}
-use Rattle.ix_model.specs.world.World.{World, Holding, HoldingOf}
-use Rattle.ix_model.specs.world.Contents.{offset_of, readable, readable_in}
-use Rattle.ix_model.specs.rows.Walks.{OpenFile, behind}
-use Rattle.ix_model.specs.opening.Opening.{opening_world}
-use Rattle.ix_model.specs.history.Step.{Given, step_of, run}
-use Rattle.ix_model.specs.history.Events.{Op, Event}
-use Rattle.ix_model.specs.history.Events as op
-use Rattle.ix_model.specs.history.History.{History, world_of, next}
+use Rattle.std.proofs.{Common.{◌≡◌, ℕ, suc, List, [], ◌∷◌, map, take, Option, Some, refl, sym, ap, ◌∙◌}, lemmas.List.take-map}
+use Rattle.ix_model.specs.{world.{World.{World, Holding, HoldingOf}, Contents.{offset_of, readable, readable_in}}, rows.Walks.{OpenFile, behind}}
+use Rattle.ix_model.specs.{opening.Opening.opening_world, history.{Step.{Given, step_of, run}, Events.{Op, Event}, History.{History, world_of, next}}}
 use Rattle.ix_model.specs.declared.reply.Reply.{Reply}
+use Rattle.ix_model.specs.history.Events as op
 use Rattle.ix_model.specs.declared.reply.Reply.TheVariants as reply
-use Rattle.ix_flow.specs.Origins.{Origin, Written, InConfig, Marked, each, bytes_of, gap_mark, marked_from}
-use Rattle.ix_flow.specs.Moves.{moved, bytes_written}
-use Rattle.ix_flow.specs.Marks.{marked_all, opening_marks, marks_after, marks_from, marks_of, read_through, read_by}
-use Rattle.ix_flow.specs.Laws.{BytesAreTheRuns}
-use Rattle.ix_flow.proofs.Mapping.{moved_map, readable_map}
-use Rattle.ix_flow.proofs.Moving.{step_held, step_bytes, front_of, fronts}
+use Rattle.ix_flow.specs.{Origins.{Origin, Written, InConfig, Marked, each, bytes_of, gap_mark, marked_from}, Moves.{moved, bytes_written}}
+use Rattle.ix_flow.specs.{Marks.{marked_all, opening_marks, marks_after, marks_from, marks_of, read_through, read_by}, Laws.BytesAreTheRuns}
+use Rattle.ix_flow.proofs.{Mapping.{moved_map, readable_map}, Moving.{step_held, step_bytes, front_of, fronts}}
 
 -- the byte of a mark
 abbrev pub byte_of : Marked → ℕ

@@ -1,16 +1,14 @@
 -- What a step does to the bytes that objects hold is what a call does to whatever they hold.
-use Rattle.std.proofs.Common.{◌≡◌, ℕ, zero, suc, Bool, true, false, not, ◌&&◌, List, [], ◌∷◌, length, take, Option, Some, None, if◌then◌else◌, refl, sym, ap, ◌∙◌, set}
-use Rattle.ix_model.specs.world.World.{World, Frame, Content, Holding}
+use Rattle.std.proofs.Common.{◌≡◌, ℕ, zero, suc, Bool, true, false, not, ◌&&◌, List, [], ◌∷◌, length, take, Option, Some, None, if◌then◌else◌, refl, sym, ap}
+use Rattle.std.proofs.Common.{◌∙◌, set}
+use Rattle.ix_model.{specs.world.World.{World, Frame, Content, Holding, is_ended, at}, specs.rows.Walks.{OpenFile, behind}, specs.history.Events.Op}
+use Rattle.ix_model.{specs.declared.reply.Reply.Reply, proofs.words.Answered.step_frame}
 use Rattle.ix_model.specs.world.Contents.{after_cut, after_exit, after_read, after_seek, after_write, carried, emptied, kept, on_pipe, readable}
-use Rattle.ix_model.specs.world.World.{is_ended, at}
-use Rattle.ix_model.specs.rows.Walks.{OpenFile, behind}
-use Rattle.ix_model.specs.history.Step.{answer, step, plainly, read_answer, write_answer, cut_answer, seek_answer, stat_answer, exit_answer, wait_answer, pex_answer, is_whole}
-use Rattle.ix_model.specs.history.Events.{Op}
+use Rattle.ix_model.specs.history.Step.{answer, step, plainly, read_answer, write_answer, cut_answer, seek_answer, stat_answer, exit_answer, wait_answer}
+use Rattle.ix_model.specs.history.Step.{pex_answer, is_whole}
 use Rattle.ix_model.specs.history.Events as op
 use Rattle.ix_model.specs.declared.reply.Kind.TheVariants as kind
-use Rattle.ix_model.specs.declared.reply.Reply.{Reply}
 use Rattle.ix_model.specs.declared.reply.Reply.TheVariants as reply
-use Rattle.ix_model.proofs.words.Answered.{step_frame}
 use Rattle.ix_flow.specs.Moves.{taken, put_there, cut_there, emptied_there, edited, moved, bytes_written}
 
 either_held : (b : Bool) (x y : Content) (v w : List Holding) → x.holdings ≡ v → y.holdings ≡ w → (if b then x else y).holdings ≡ (if b then v else w)

@@ -1,45 +1,24 @@
 -- Which objects are new after an entry: those that a making call tells.
-use Rattle.std.proofs.Common.{◌≡◌, ◌≢◌, ◌<◌, ℕ, Bool, true, false, true≢false, List, length, Option, Some, None, is_some, option_map, refl, sym, ap, ◌∙◌, subst, ◌⊎◌, inl, inr}
-use Rattle.std.specs.List.{list_all}
-use Rattle.std.proofs.lemmas.List.{get_or-set_same, get_or-set_other}
+use Rattle.std.proofs.Common.{◌≡◌, ◌≢◌, ◌<◌, ℕ, Bool, true, false, true≢false, List, length, Option, Some, None, is_some, option_map, refl, sym, ap, ◌∙◌, subst}
+use Rattle.std.proofs.Common.{◌⊎◌, inl, inr}
+use Rattle.std.{specs.List.list_all, proofs.lemmas.List.{get_or-set_same, get_or-set_other}}
 use Rattle.ix_label.specs.Category.{Categories, bottom}
-use Rattle.ix_model.specs.world.Naming.{PathOf}
-use Rattle.ix_model.specs.world.World.{Frame, World, Object, Process, Open, at, put, change, living, lowest_free}
-use Rattle.ix_model.specs.world.Numbers.{free_pipe}
+use Rattle.ix_model.specs.world.{Naming.PathOf, World.{Frame, World, Object, Process, Open, at, put, change, living, lowest_free}, Numbers.free_pipe}
+use Rattle.ix_model.specs.{rows.Walks.{OpenFile, behind, behind_of, entry_at, missing, walked_to}, rows.OnPaths.{make, create_at, make_dir, new_object}}
+use Rattle.ix_model.specs.{rows.Refusals.keeps_label, rows.OnProcesses.end_process, rows.OnDescriptors.{LengthChecks, make_pipe, pipe_end}, rows.Telling.told}
+use Rattle.ix_model.specs.{rows.Auditing.logged, rows.Table.{row, verdict}, history.{AuditLog.is_answer, Step.{step, answer, plainly}, Events.Op}}
+use Rattle.ix_model.specs.{laws.Laws.Refused, declared.{audit.AuditLine.AuditLine, ids.Fd.Fd, refusal.Refusal.Refusal, reply.{Kind.Kind, Reply.Reply}}}
 use Rattle.ix_model.specs.rows.Rows.{change_object, change_process, change_open, put_object, put_open, put_process, add_process, affect, observe}
-use Rattle.ix_model.specs.rows.Walks.{OpenFile, behind, behind_of, entry_at, missing, walked_to}
-use Rattle.ix_model.specs.rows.OnPaths.{make, create_at, make_dir, new_object}
-use Rattle.ix_model.specs.rows.Refusals.{keeps_label}
-use Rattle.ix_model.specs.rows.OnProcesses.{end_process}
-use Rattle.ix_model.specs.rows.OnDescriptors.{LengthChecks, make_pipe, pipe_end}
-use Rattle.ix_model.specs.rows.Auditing.{logged}
-use Rattle.ix_model.specs.rows.Table.{row, verdict}
-use Rattle.ix_model.specs.rows.Telling.{told}
-use Rattle.ix_model.specs.history.AuditLog.{is_answer}
-use Rattle.ix_model.specs.history.Step.{step, answer, plainly}
-use Rattle.ix_model.specs.history.Events.{Op}
 use Rattle.ix_model.specs.history.Events as op
-use Rattle.ix_model.specs.laws.Laws.{Refused}
-use Rattle.ix_model.specs.declared.audit.AuditLine.{AuditLine}
 use Rattle.ix_model.specs.declared.call.Mode.TheVariants as mode
-use Rattle.ix_model.specs.declared.ids.Fd.{Fd}
-use Rattle.ix_model.specs.declared.refusal.Refusal.{Refusal}
-use Rattle.ix_model.specs.declared.reply.Kind.{Kind}
 use Rattle.ix_model.specs.declared.reply.Kind.TheVariants as kind
-use Rattle.ix_model.specs.declared.reply.Reply.{Reply}
 use Rattle.ix_model.specs.declared.reply.Reply.TheVariants as reply
-use Rattle.ix_model.proofs.tables.Finds.{at_put, at_change}
-use Rattle.ix_model.proofs.tables.FreeNumbers.{free_inode_is, free_pipe_is, lowest_free_is}
-use Rattle.ix_model.proofs.tables.Tables.{at_changed}
-use Rattle.ix_model.proofs.words.Living.{is_living, not_ended, lives_as}
-use Rattle.ix_model.proofs.words.Ends.{Ends, Anything, ends_kept, ends_bind, ends_then, ends_pass, ends_frame}
-use Rattle.ix_model.proofs.words.Ends.{ends_need, ends_some, ends_caller, ends_object, ends_change_object, ends_change_caller, ends_put_open}
-use Rattle.ix_model.proofs.words.Endings.{ends_put_object}
+use Rattle.ix_model.proofs.tables.{Finds.{at_put, at_change}, FreeNumbers.{free_inode_is, free_pipe_is, lowest_free_is}, Tables.at_changed}
+use Rattle.ix_model.proofs.{words.Living.{is_living, not_ended, lives_as}, words.Endings.ends_put_object, words.Keeps.{Holds, Keeps, keeping}}
+use Rattle.ix_model.proofs.{words.Rowwise.{Change, Making, Words, changes_of, kept_row}, words.Lasts.decided, words.Answered.{step_frame, passed}}
 use Rattle.ix_model.proofs.refused.RefusedSteps.{refused_step}
-use Rattle.ix_model.proofs.words.Keeps.{Holds, Keeps, keeping}
-use Rattle.ix_model.proofs.words.Rowwise.{Change, Making, Words, changes_of, kept_row}
-use Rattle.ix_model.proofs.words.Lasts.{decided}
-use Rattle.ix_model.proofs.words.Answered.{step_frame, passed}
+use Rattle.ix_model.proofs.words.Ends.{Ends, Anything, ends_kept, ends_bind, ends_then, ends_pass, ends_frame, ends_need, ends_some, ends_caller, ends_object}
+use Rattle.ix_model.proofs.words.Ends.{ends_change_object, ends_change_caller, ends_put_open}
 
 -- what stands in the second frame stood in the first
 pub record Stood (f g : Frame) : Type 0 where

@@ -1,42 +1,20 @@
 -- What tracks stand for before the first entry.
-use Rattle.std.proofs.Common.{◌≡◌, ◌≢◌, ◌<◌, ◌+◌, ◌*◌, ℕ, zero, suc, get_or, replicate, Bool, true, false, List, []}
-use Rattle.std.proofs.Common.{◌∷◌, length, Option, Some, None, is_some, option_map, if◌then◌else◌, refl, sym, ap, ◌∙◌, subst, arith, inl, inr}
-use Rattle.std.specs.Prelude.{slice_get}
-use Rattle.std.specs.BTreeMap.{get}
-use Rattle.std.specs.Ordering.{nat_cmp}
-use Rattle.std.specs.Option.{option_map_or, option_and_then}
-use Rattle.std.proofs.lemmas.Bool.Decides.{eqb_tells}
+use Rattle.std.proofs.Common.{◌≡◌, ◌≢◌, ◌<◌, ◌+◌, ◌*◌, ℕ, zero, suc, get_or, replicate, Bool, true, false, List, [], ◌∷◌, length, Option, Some, None, is_some}
+use Rattle.std.proofs.Common.{option_map, if◌then◌else◌, refl, sym, ap, ◌∙◌, subst, arith, inl, inr}
+use Rattle.std.{specs.{Prelude.slice_get, BTreeMap.get, Ordering.nat_cmp, Option.{option_map_or, option_and_then}}, proofs.lemmas.Bool.Decides.eqb_tells}
 use Rattle.ix_label.specs.Category.{Categories, bottom}
-use Rattle.ix_model.specs.laws.Sound.{Sound}
-use Rattle.ix_model.specs.world.World.{World, HoldingOf, Holding, Object, at, is_dir}
-use Rattle.ix_model.specs.world.Contents.{held_at, holding_of, holds_nothing, nothing_held, side}
-use Rattle.ix_model.specs.opening.Opening.{bare_objects, bare_world, opening_world, placed, with_object, with_objects}
-use Rattle.ix_model.specs.history.AuditLog.{label_at}
-use Rattle.ix_model.specs.history.History.{History, world_of}
-use Rattle.ix_model.specs.history.Views.{has_side, size_at, view_of}
-use Rattle.ix_model.specs.declared.config.Config.{Config}
-use Rattle.ix_model.specs.declared.config.ObjSpec.{ObjSpec}
-use Rattle.ix_model.specs.declared.reply.Kind.{Kind}
+use Rattle.ix_model.specs.{laws.Sound.Sound, opening.Opening.{bare_objects, bare_world, opening_world, placed, with_object, with_objects}}
+use Rattle.ix_model.specs.world.{World.{World, HoldingOf, Holding, Object, at, is_dir}, Contents.{held_at, holding_of, holds_nothing, nothing_held, side}}
+use Rattle.ix_model.specs.history.{AuditLog.label_at, History.{History, world_of}, Views.{has_side, size_at, view_of}}
+use Rattle.ix_model.specs.declared.{config.{Config.Config, ObjSpec.ObjSpec}, reply.Kind.Kind, views.ObjView.ObjView}
 use Rattle.ix_model.specs.declared.reply.Kind.TheVariants as kind
-use Rattle.ix_model.specs.declared.views.ObjView.{ObjView}
-use Rattle.ix_model.proofs.sound.Carried.{there_is}
-use Rattle.ix_model.proofs.tables.Finds.{in_table}
-use Rattle.ix_model.proofs.sound.Lengths.{set_either}
-use Rattle.ix_model.proofs.words.Runs.{world_of-none}
-use Rattle.ix_flow.specs.Origins.{InConfig, Marked, Origin, marked_from, origins_of}
-use Rattle.ix_flow.specs.Lowerings.{label_of}
-use Rattle.ix_flow.specs.Marks.{marks_of}
+use Rattle.ix_model.proofs.{sound.{Carried.there_is, Lengths.set_either}, tables.Finds.in_table, words.Runs.world_of-none}
+use Rattle.ix_flow.specs.{Origins.{InConfig, Marked, Origin, marked_from, origins_of}, Lowerings.label_of, Marks.marks_of}
 use Rattle.ix_flow.specs.Sides.{IsLike, StandsIn, numbered, origin_at, source_in}
 use Rattle.ix_flow.specs.Tracking.{AreLabelled, AreOpened, AreTracks, IsTracked, IsUnder, counts_from, falls_at, side_of}
-use Rattle.ix_flow.specs.declared.labels.Labels.{Labels}
-use Rattle.ix_flow.specs.declared.side.Side.{Side}
-use Rattle.ix_flow.specs.declared.sides.Sides.{Sides}
-use Rattle.ix_flow.specs.declared.source.Source.{Source}
+use Rattle.ix_flow.specs.declared.{labels.Labels.Labels, side.Side.Side, sides.Sides.Sides, source.Source.Source, tracks.Tracks.Tracks}
 use Rattle.ix_flow.specs.declared.source.Source.TheVariants as source
-use Rattle.ix_flow.specs.declared.tracks.Tracks.{Tracks}
-use Rattle.ix_flow.proofs.Arms.{tracked_more}
-use Rattle.ix_flow.proofs.SideEdits.{origins_marked}
-use Rattle.ix_flow.proofs.Staying.{marks_first}
+use Rattle.ix_flow.proofs.{Arms.tracked_more, SideEdits.origins_marked, Staying.marks_first}
 
 -- ---- no second lists
 line_second : (w : World) (spec : ObjSpec) → ((n : ℕ) → (held_at w.content.holdings n).second ≡ []) → (n : ℕ) → (held_at (with_object w spec).content.holdings n).second ≡ []

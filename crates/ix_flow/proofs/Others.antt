@@ -1,29 +1,15 @@
 -- What tracks stand for after any other entry.
 use Rattle.std.proofs.Common.{◌≡◌, ◌≤◌, ◌+◌, ◌++◌, ℕ, Bool, true, false, true≢false, List, [], length, refl, sym, ap, ◌∙◌, append-nil}
-use Rattle.std.specs.Borrow.{Bor}
-use Rattle.std.specs.List.{list_all}
+use Rattle.std.specs.{Borrow.Bor, List.list_all}
 use Rattle.ix_label.specs.Category.{Categories}
-use Rattle.ix_model.specs.history.Calls.{op_of}
-use Rattle.ix_model.specs.history.Events.{Op, Event}
+use Rattle.ix_model.specs.history.{Calls.op_of, Events.{Op, Event}, History.{History, world_of, with_entry}}
+use Rattle.ix_model.specs.declared.{call.Call.Call, ids.Fd.Fd, path.Path.Path, reply.Reply.Reply}
 use Rattle.ix_model.specs.history.Events as op
-use Rattle.ix_model.specs.history.History.{History, world_of, with_entry}
-use Rattle.ix_model.specs.declared.call.Call.{Call}
 use Rattle.ix_model.specs.declared.call.Call.TheVariants as call
-use Rattle.ix_model.specs.declared.ids.Fd.{Fd}
-use Rattle.ix_model.specs.declared.path.Path.{Path}
-use Rattle.ix_model.specs.declared.reply.Reply.{Reply}
 use Rattle.ix_model.proofs.words.Rowwise.{changes_of}
-use Rattle.ix_flow.specs.Following.{Follows, FollowsInto}
-use Rattle.ix_flow.specs.Lines.{lines_of_entry}
-use Rattle.ix_flow.specs.Marks.{marks_of}
-use Rattle.ix_flow.specs.Moves.{edited}
-use Rattle.ix_flow.specs.Tracking.{AreTracks}
+use Rattle.ix_flow.specs.{Following.{Follows, FollowsInto}, Lines.lines_of_entry, Marks.marks_of, Moves.edited, Tracking.AreTracks}
 use Rattle.ix_flow.specs.declared.tracks.Tracks.{Tracks}
-use Rattle.ix_flow.proofs.Arms.{led, few_then, unmoved}
-use Rattle.ix_flow.proofs.NewObjects.{makes_none, stood_step}
-use Rattle.ix_flow.proofs.Relabelling.{sets_label}
-use Rattle.ix_flow.proofs.Staying.{marks_next}
-use Rattle.ix_flow.proofs.Through.{kept_marks}
+use Rattle.ix_flow.proofs.{Arms.{led, few_then, unmoved}, NewObjects.{makes_none, stood_step}, Relabelling.sets_label, Staying.marks_next, Through.kept_marks}
 
 -- whether a call moves nothing, makes no object and sets no object's label
 abbrev pub is_quiet : Op → Bool

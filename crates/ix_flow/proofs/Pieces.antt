@@ -1,19 +1,11 @@
 -- What is known of all that was read is known of its pieces.
 use Rattle.std.proofs.Common.{◌≡◌, ℕ, suc, Bool, true, false, List, [], ◌∷◌, Option, Some, None, if◌then◌else◌, refl, ap, ◌∙◌, subst}
-use Rattle.std.specs.Prelude.{All}
-use Rattle.std.specs.Option.{option_map_or}
-use Rattle.std.proofs.lemmas.List.Elements.{All-cons, All-head, All-map, All-nil, All-tail}
+use Rattle.std.{specs.{Prelude.All, Option.option_map_or}, proofs.lemmas.List.Elements.{All-cons, All-head, All-map, All-nil, All-tail}}
 use Rattle.ix_label.specs.Category.{bottom}
-use Rattle.ix_model.specs.rows.Walks.{OpenFile, behind}
-use Rattle.ix_model.specs.history.AuditLog.{of_process}
-use Rattle.ix_model.specs.history.Events.{Op, Event}
+use Rattle.ix_model.specs.{rows.Walks.{OpenFile, behind}, history.{AuditLog.of_process, Events.{Op, Event}, History.{History, world_of, next}}}
 use Rattle.ix_model.specs.history.Events as op
-use Rattle.ix_model.specs.history.History.{History, world_of, next}
-use Rattle.ix_flow.specs.Origins.{Origin, Marked, origins_of}
-use Rattle.ix_flow.specs.Marks.{marks_of, marks_read, read_by, read_through}
-use Rattle.ix_flow.specs.Laws.{IsAccountedFor, LinesAreAccountedFor}
-use Rattle.ix_flow.specs.Lines.{Piece, follows, in_front, object_read, pieces_from}
-use Rattle.ix_flow.proofs.Staying.{readers_above}
+use Rattle.ix_flow.{specs.Origins.{Origin, Marked, origins_of}, specs.Marks.{marks_of, marks_read, read_by, read_through}, proofs.Staying.readers_above}
+use Rattle.ix_flow.{specs.Laws.{IsAccountedFor, LinesAreAccountedFor}, specs.Lines.{Piece, follows, in_front, object_read, pieces_from}}
 
 module _ (P : Origin → Type 0) where
   one_more : (n : ℕ) (x : Origin) (pieces : List Piece) → P x → All (λ (p : Piece). P p.origin) pieces → All (λ (p : Piece). P p.origin) (in_front n x pieces)

@@ -1,17 +1,10 @@
 -- One entry more: what it makes of the marks, of labels and of lowerings.
-use Rattle.std.proofs.Common.{◌≡◌, ◌≤◌, ◌<◌, ◌+◌, ◌==◌, ◌&&◌, nat_lt, ℕ, zero, suc, Bool, true, false, List}
-use Rattle.std.proofs.Common.{[], ◌∷◌, ◌++◌, length, Option, Some, None, if◌then◌else◌, refl, sym, ap, ◌∙◌, arith, subst, append-nil}
-use Rattle.std.specs.Prelude.{slice_get}
-use Rattle.std.proofs.lemmas.List.{append_assoc}
-use Rattle.std.proofs.lemmas.Bool.{eq-eqb, eqb-true, le-ltb, lt-ltb}
+use Rattle.std.proofs.Common.{◌≡◌, ◌≤◌, ◌<◌, ◌+◌, ◌==◌, ◌&&◌, nat_lt, ℕ, zero, suc, Bool, true, false, List, [], ◌∷◌, ◌++◌, length, Option, Some, None, refl}
+use Rattle.std.proofs.Common.{if◌then◌else◌, sym, ap, ◌∙◌, arith, subst, append-nil}
+use Rattle.std.{specs.Prelude.slice_get, proofs.lemmas.{List.append_assoc, Bool.{eq-eqb, eqb-true, le-ltb, lt-ltb}}}
 use Rattle.ix_label.specs.Category.{bottom}
-use Rattle.ix_model.specs.world.World.{World, HoldingOf}
-use Rattle.ix_model.specs.history.AuditLog.{of_process}
-use Rattle.ix_model.specs.history.Step.{step_of, run}
-use Rattle.ix_model.specs.history.Events.{Event}
-use Rattle.ix_flow.specs.Origins.{Marked}
-use Rattle.ix_flow.specs.Marks.{marks_after, marks_from}
-use Rattle.ix_flow.specs.Lowerings.{falls, first_fall, caller_label}
+use Rattle.ix_model.specs.{world.World.{World, HoldingOf}, history.{AuditLog.of_process, Step.{step_of, run}, Events.Event}}
+use Rattle.ix_flow.specs.{Origins.Marked, Marks.{marks_after, marks_from}, Lowerings.{falls, first_fall, caller_label}}
 
 -- ---- what holds of no entries, and of one more wherever it holds, holds of all
 pub by_pushes : (P : List Event → Type 0) → P [] → ((events : List Event) (e : Event) → P events → P (events ++ e ∷ [])) → (events : List Event) → P events

@@ -1,21 +1,13 @@
 -- An entry that sets no object's label lets nothing down.
 use Rattle.std.proofs.Common.{◌≡◌, ◌<◌, ◌+◌, ◌^◌, not, ℕ, Bool, true, false, true≢false, [], ◌∷◌, length, Option, Some, None, refl, sym, ◌∙◌, arith, inl, inr}
-use Rattle.std.specs.Option.{option_map_or}
-use Rattle.std.proofs.lemmas.Bool.Decides.{eqb_tells}
-use Rattle.std.proofs.lemmas.List.{length-append}
+use Rattle.std.{specs.Option.option_map_or, proofs.lemmas.{Bool.Decides.eqb_tells, List.length-append}}
 use Rattle.ix_label.specs.Category.{leq}
-use Rattle.ix_model.specs.world.World.{World, Object, at}
-use Rattle.ix_model.specs.opening.Opening.{opening_world}
+use Rattle.ix_model.specs.{world.World.{World, Object, at}, opening.Opening.opening_world}
+use Rattle.ix_model.specs.history.{Step.step_of, Events.Event, History.{History, world_of, with_entry}}
 use Rattle.ix_model.specs.history.Lowering as low
-use Rattle.ix_model.specs.history.Step.{step_of}
-use Rattle.ix_model.specs.history.Events.{Event}
-use Rattle.ix_model.specs.history.History.{History, world_of, with_entry}
 use Rattle.ix_iso.proofs.Lowerings.{lowerings_logged}
-use Rattle.ix_flow.specs.Lowerings.{falls}
-use Rattle.ix_flow.specs.Tracking.{AreFalls}
-use Rattle.ix_flow.specs.declared.falls.Falls.{Falls}
-use Rattle.ix_flow.proofs.FirstFall.{falls_last, falls_push, none_late}
-use Rattle.ix_flow.proofs.Relabelling.{down_by_label, sets_label}
+use Rattle.ix_flow.specs.{Lowerings.falls, Tracking.AreFalls, declared.falls.Falls.Falls}
+use Rattle.ix_flow.proofs.{FirstFall.{falls_last, falls_push, none_late}, Relabelling.{down_by_label, sets_label}}
 
 no_fall : (w : World) (place : ℕ) (e : Event) → sets_label e.op ≡ false → (o : ℕ) → falls w.frame (step_of w place e).world.frame o ≡ false
 unfolding falls

@@ -1,33 +1,19 @@
 -- What the code knows of a read that it has followed comes to its lines and its tracks.
-use Rattle.std.proofs.Common.{◌≡◌, ◌≤◌, ◌<◌, ◌+◌, ◌-◌, ◌++◌, ◌^◌, ℕ, Bool, true, false, List, [], ◌∷◌, length, drop, Some, None, option_map, if◌then◌else◌, refl, sym, ap, ◌∙◌, subst, arith}
-use Rattle.std.proofs.Common.{append-nil, inl, inr}
-use Rattle.std.specs.List.{flat_map}
-use Rattle.std.specs.Option.{option_map_or}
-use Rattle.std.proofs.lemmas.Bool.{cases_lt}
-use Rattle.std.proofs.lemmas.List.{length-append}
+use Rattle.std.proofs.Common.{◌≡◌, ◌≤◌, ◌<◌, ◌+◌, ◌-◌, ◌++◌, ◌^◌, ℕ, Bool, true, false, List, [], ◌∷◌, length, drop, Some, None, option_map, if◌then◌else◌, sym}
+use Rattle.std.proofs.Common.{refl, ap, ◌∙◌, subst, arith, append-nil, inl, inr}
+use Rattle.std.{specs.{List.flat_map, Option.option_map_or}, proofs.lemmas.{Bool.cases_lt, List.length-append}}
 use Rattle.ix_label.specs.Category.{Categories}
-use Rattle.ix_model.specs.world.World.{at, is_pipe}
-use Rattle.ix_model.specs.world.Contents.{offset_of, on_side}
-use Rattle.ix_model.specs.rows.Walks.{OpenFile, behind}
-use Rattle.ix_model.specs.history.Events.{Event}
+use Rattle.ix_model.specs.{world.{World.{at, is_pipe}, Contents.{offset_of, on_side}}, rows.Walks.{OpenFile, behind}, declared.reply.Reply.Reply}
+use Rattle.ix_model.specs.history.{Events.Event, History.{History, world_of, next, with_entry}}
 use Rattle.ix_model.specs.history.Events as op
-use Rattle.ix_model.specs.history.History.{History, world_of, next, with_entry}
-use Rattle.ix_model.specs.declared.reply.Reply.{Reply}
 use Rattle.ix_model.specs.declared.reply.Reply.TheVariants as reply
 use Rattle.ix_open.specs.declared.view.OpenView.{OpenView}
-use Rattle.ix_flow.specs.Following.{IsStep}
-use Rattle.ix_flow.specs.Origins.{Origin}
-use Rattle.ix_flow.specs.Marks.{marks_of}
-use Rattle.ix_flow.specs.Lines.{lines_of_entry, piece_line, pieces_from, pieces_read}
-use Rattle.ix_flow.specs.Reads.{IsWithin, between}
-use Rattle.ix_flow.specs.Sides.{IsLike}
-use Rattle.ix_flow.specs.Tracking.{AreFalls, AreLabelled, AreSides, AreTracks, HasEnd, side_of}
-use Rattle.ix_flow.specs.declared.side.Side.{Side}
-use Rattle.ix_flow.specs.declared.sides.Sides.{Sides}
-use Rattle.ix_flow.specs.declared.tracks.Tracks.{Tracks}
-use Rattle.ix_flow.proofs.ReadMarks.{from, origins_at}
-use Rattle.ix_flow.proofs.ReadWorlds.{Reading, reading}
-use Rattle.ix_flow.proofs.ReadTracks.{SideRead, drained, has_end, lines_are, pieces_are, read_idle, read_opened, read_piped, read_tracks, read_view, side_read, side_there}
+use Rattle.ix_flow.specs.{Following.IsStep, Origins.Origin, Marks.marks_of, Lines.{lines_of_entry, piece_line, pieces_from, pieces_read}, Sides.IsLike}
+use Rattle.ix_flow.specs.{Reads.{IsWithin, between}, Tracking.{AreFalls, AreLabelled, AreSides, AreTracks, HasEnd, side_of}}
+use Rattle.ix_flow.specs.declared.{side.Side.Side, sides.Sides.Sides, tracks.Tracks.Tracks}
+use Rattle.ix_flow.proofs.{ReadMarks.{from, origins_at}, ReadWorlds.{Reading, reading}}
+use Rattle.ix_flow.proofs.ReadTracks.{SideRead, drained, has_end, lines_are, pieces_are, read_idle, read_opened, read_piped, read_tracks, read_view, side_read}
+use Rattle.ix_flow.proofs.ReadTracks.{side_there}
 
 module _ (now h : History) (e : Event) (fd limit : ℕ) (r : Reply) (step : IsStep h now r e) (is : e.op ≡ op.ReadFd fd limit) (t : Tracks) (are : AreTracks t h)
     (short : length now.events ≤ 6800000) where

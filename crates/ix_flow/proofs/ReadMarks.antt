@@ -1,28 +1,18 @@
 -- The origins that a read gives, and what it leaves of those that stand.
-use Rattle.std.proofs.Common.{◌≡◌, ◌≤◌, ◌<◌, ◌+◌, ◌==◌, ◌&&◌, ℕ, suc, Bool, true, false, List, [], ◌∷◌, length, take, drop, Option, Some, is_some, if◌then◌else◌, refl, sym, ap}
-use Rattle.std.proofs.Common.{◌∙◌, arith, inl, inr}
-use Rattle.std.specs.List.{flat_map}
-use Rattle.std.specs.Option.{option_map_or}
-use Rattle.std.proofs.lemmas.Bool.{eq-eqb, eqb-true, ne_eqb}
-use Rattle.std.proofs.lemmas.Bool.Decides.{eqb_tells}
+use Rattle.std.proofs.Common.{◌≡◌, ◌≤◌, ◌<◌, ◌+◌, ◌==◌, ◌&&◌, ℕ, suc, Bool, true, false, List, [], ◌∷◌, length, take, drop, Option, Some, is_some, refl, sym}
+use Rattle.std.proofs.Common.{if◌then◌else◌, ap, ◌∙◌, arith, inl, inr}
+use Rattle.std.{specs.{List.flat_map, Option.option_map_or}, proofs.lemmas.Bool.{eq-eqb, eqb-true, ne_eqb}, proofs.lemmas.Bool.Decides.eqb_tells}
 use Rattle.std.proofs.lemmas.List.{get_or-set_other, get_or-set_same, drop-map, length-drop, length-map, length-take, take-map}
-use Rattle.ix_model.specs.laws.Sound.{Sound}
-use Rattle.ix_model.specs.world.World.{World, Frame, HoldingOf, at, is_pipe}
+use Rattle.ix_model.specs.{laws.Sound.Sound, world.World.{World, Frame, HoldingOf, at, is_pipe}, rows.Walks.{OpenFile, behind}, declared.reply.Reply.Reply}
 use Rattle.ix_model.specs.world.Contents.{held_at, kept, nothing_held, offset_of, on_side, readable_in, side, with_side}
-use Rattle.ix_model.specs.rows.Walks.{OpenFile, behind}
-use Rattle.ix_model.specs.history.Events.{Op, Event}
+use Rattle.ix_model.specs.history.{Events.{Op, Event}, History.{History, world_of, next, with_entry}}
 use Rattle.ix_model.specs.history.Events as op
-use Rattle.ix_model.specs.history.History.{History, world_of, next, with_entry}
-use Rattle.ix_model.specs.declared.reply.Reply.{Reply}
 use Rattle.ix_model.specs.declared.reply.Reply.TheVariants as reply
 use Rattle.ix_model.proofs.clean.Carrying.{get_or-keep, length-keep}
-use Rattle.ix_flow.specs.Origins.{each, Marked, Origin, Written, gap_mark, marked_from, origins_of}
-use Rattle.ix_flow.specs.Moves.{bytes_written, edited, taken}
+use Rattle.ix_flow.specs.{Origins.{each, Marked, Origin, Written, gap_mark, marked_from, origins_of}, Moves.{bytes_written, edited, taken}}
 use Rattle.ix_flow.specs.Lines.{Piece, follows, in_front, lines_of_entry, object_read, piece_line, pieces_from, pieces_read}
 use Rattle.ix_flow.specs.Marks.{marks_of, marks_read, read_by, read_through}
-use Rattle.ix_flow.proofs.Marking.{marked_run}
-use Rattle.ix_flow.proofs.ReadWorlds.{Reading, reading}
-use Rattle.ix_flow.proofs.Staying.{marks_next, marks_read_is}
+use Rattle.ix_flow.proofs.{Marking.marked_run, ReadWorlds.{Reading, reading}, Staying.{marks_next, marks_read_is}}
 
 -- the origins that an end of an object can read
 abbrev pub origins_at : History → ℕ → ℕ → List Origin

@@ -1,42 +1,22 @@
 -- What tracks stand for after a read: the bytes that it gave are told, and a pipe's are gone.
-use Rattle.std.proofs.Common.{◌≡◌, ◌≤◌, ◌<◌, ◌+◌, ◌-◌, ◌==◌, ◌&&◌, ◌^◌, ℕ, Bool, true, false, List, [], ◌∷◌, length, take, drop, Some, None, is_some, option_map, if◌then◌else◌, refl}
-use Rattle.std.proofs.Common.{sym, ap, ◌∙◌, subst, arith}
-use Rattle.std.specs.Prelude.{All}
-use Rattle.std.specs.List.{flat_map}
-use Rattle.std.specs.Option.{option_map_or}
-use Rattle.std.proofs.lemmas.List.{length-map}
-use Rattle.std.proofs.lemmas.List.Elements.{All-drop}
+use Rattle.std.proofs.Common.{◌≡◌, ◌≤◌, ◌<◌, ◌+◌, ◌-◌, ◌==◌, ◌&&◌, ◌^◌, ℕ, Bool, true, false, List, [], ◌∷◌, length, take, drop, Some, None, is_some, refl, sym}
+use Rattle.std.proofs.Common.{option_map, if◌then◌else◌, ap, ◌∙◌, subst, arith}
+use Rattle.std.{specs.{Prelude.All, List.flat_map, Option.option_map_or}, proofs.lemmas.List.{length-map, Elements.All-drop}}
 use Rattle.ix_label.specs.Category.{Categories}
-use Rattle.ix_model.specs.laws.Sound.{Sound}
-use Rattle.ix_model.specs.world.World.{HoldingOf, at, is_pipe}
-use Rattle.ix_model.specs.world.Contents.{held_at, offset_of, on_side, side}
-use Rattle.ix_model.specs.rows.Walks.{OpenFile, behind}
-use Rattle.ix_model.specs.history.Step.{step}
-use Rattle.ix_model.specs.history.Events.{Event}
+use Rattle.ix_model.specs.{laws.Sound.Sound, world.{World.{HoldingOf, at, is_pipe}, Contents.{held_at, offset_of, on_side, side}}}
+use Rattle.ix_model.specs.{rows.Walks.{OpenFile, behind}, history.{Step.step, Events.Event, History.{History, world_of, next, with_entry}}}
 use Rattle.ix_model.specs.history.Events as op
-use Rattle.ix_model.specs.history.History.{History, world_of, next, with_entry}
 use Rattle.ix_model.specs.declared.reply.Reply.TheVariants as reply
 use Rattle.ix_open.specs.declared.view.OpenView.{OpenView}
-use Rattle.ix_model.proofs.sound.Soundly.{sound_step}
-use Rattle.ix_model.proofs.words.Runs.{world_of-push}
-use Rattle.ix_flow.specs.Origins.{each, Marked, Origin, origins_of}
-use Rattle.ix_flow.specs.Marks.{marks_of}
+use Rattle.ix_model.proofs.{sound.Soundly.sound_step, words.Runs.world_of-push}
+use Rattle.ix_flow.specs.{Origins.{each, Marked, Origin, origins_of}, Marks.marks_of, Reads.between, Sides.IsLike}
 use Rattle.ix_flow.specs.Lines.{Counts, Piece, lines_of_entry, piece_line, pieces_from, pieces_read, with_pieces}
-use Rattle.ix_flow.specs.Reads.{between}
-use Rattle.ix_flow.specs.Sides.{IsLike}
 use Rattle.ix_flow.specs.Tracking.{AreLabelled, AreSides, AreTracks, HasEnd, IsTracked, counts_of, side_of}
-use Rattle.ix_flow.specs.declared.side.Side.{Side}
-use Rattle.ix_flow.specs.declared.sides.Sides.{Sides}
-use Rattle.ix_flow.specs.declared.tracks.Tracks.{Tracks}
-use Rattle.ix_flow.proofs.Counting.{counts_more}
-use Rattle.ix_flow.proofs.Marking.{marked_run}
-use Rattle.ix_flow.proofs.NewObjects.{Stood, stood_step}
-use Rattle.ix_flow.proofs.ReadMarks.{from, origins_after, origins_at, origins_idle, pieces_some, read_lines, read_pieces, read_there, reads_nothing, taken_side, tells_nothing}
-use Rattle.ix_flow.proofs.ReadWorlds.{Reading}
-use Rattle.ix_flow.proofs.Staying.{IsPast, origins_past}
-use Rattle.ix_flow.proofs.Quiet.{falls_quiet}
-use Rattle.ix_flow.proofs.Relabelling.{sets_label}
-use Rattle.ix_flow.proofs.Tracked.{sides_next, tracks_idle}
+use Rattle.ix_flow.specs.declared.{side.Side.Side, sides.Sides.Sides, tracks.Tracks.Tracks}
+use Rattle.ix_flow.proofs.{Counting.counts_more, Marking.marked_run, NewObjects.{Stood, stood_step}, ReadWorlds.Reading, Staying.{IsPast, origins_past}}
+use Rattle.ix_flow.proofs.{Quiet.falls_quiet, Relabelling.sets_label, Tracked.{sides_next, tracks_idle}}
+use Rattle.ix_flow.proofs.ReadMarks.{from, origins_after, origins_at, origins_idle, pieces_some, read_lines, read_pieces, read_there, reads_nothing, taken_side}
+use Rattle.ix_flow.proofs.ReadMarks.{tells_nothing}
 
 -- a read makes nothing
 none_made : (h : History) (e : Event) (fd limit : ℕ) → e.op ≡ op.ReadFd fd limit → Stood (world_of h).frame (next h e).world.frame

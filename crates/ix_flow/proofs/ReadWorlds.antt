@@ -1,35 +1,16 @@
 -- What stands behind the descriptor of a read, before and after it, and what the read gives and moves.
 use Rattle.std.proofs.Common.{◌≡◌, ◌≤◌, ◌<◌, ◌+◌, ◌==◌, ◌&&◌, ◌||◌, nat_le, ℕ, Bool, true, false, true≢false, length, set, take, drop, Option, Some, is_some}
 use Rattle.std.proofs.Common.{if◌then◌else◌, refl, sym, ap, ◌∙◌, arith, inl, inr}
-use Rattle.std.specs.Option.{option_map_or}
-use Rattle.std.proofs.Math.Bool.{and-false}
-use Rattle.std.proofs.lemmas.Bool.{leb-true}
-use Rattle.std.proofs.lemmas.Bool.Decides.{eqb_tells}
-use Rattle.std.proofs.lemmas.List.{get_or-set_same, length-take}
-use Rattle.ix_model.specs.laws.Clean.{IsClean}
-use Rattle.ix_model.specs.laws.Sound.{Sound}
-use Rattle.ix_model.specs.world.World.{World, Frame, Content, Object, at, is_pipe}
-use Rattle.ix_model.specs.world.Contents.{after_read, carried, change_side, readable, offset_of, on_pipe}
-use Rattle.ix_model.specs.rows.Outcomes.{Outcome, Refuse, Pass}
-use Rattle.ix_model.specs.rows.Walks.{OpenFile, behind}
-use Rattle.ix_model.specs.rows.Table.{row, verdict}
-use Rattle.ix_model.specs.rows.Telling.{told}
-use Rattle.ix_model.specs.rows.OnDescriptors.{LengthChecks, read_fd}
-use Rattle.ix_model.specs.history.Step.{Given, answer, step, step_of, plainly, read_answer}
-use Rattle.ix_model.specs.history.Events.{Event}
-use Rattle.ix_model.specs.history.Freshness.{closes}
+use Rattle.std.{specs.Option.option_map_or, proofs.{Math.Bool.and-false, lemmas.{Bool.{leb-true, Decides.eqb_tells}, List.{get_or-set_same, length-take}}}}
+use Rattle.ix_model.specs.{laws.{Clean.IsClean, Sound.Sound}, world.World.{World, Frame, Content, Object, at, is_pipe}, rows.Outcomes.{Outcome, Refuse, Pass}}
+use Rattle.ix_model.specs.{world.Contents.{after_read, carried, change_side, readable, offset_of, on_pipe}, rows.Walks.{OpenFile, behind}, rows.Telling.told}
+use Rattle.ix_model.specs.{rows.Table.{row, verdict}, rows.OnDescriptors.{LengthChecks, read_fd}, history.Events.Event, history.Freshness.closes}
+use Rattle.ix_model.specs.{history.Step.{Given, answer, step, step_of, plainly, read_answer}, history.History.{History, world_of, next, with_entry}}
+use Rattle.ix_model.specs.declared.reply.{Kind.Kind, Reply.Reply}
 use Rattle.ix_model.specs.history.Events as op
-use Rattle.ix_model.specs.history.History.{History, world_of, next, with_entry}
-use Rattle.ix_model.specs.declared.reply.Kind.{Kind}
-use Rattle.ix_model.specs.declared.reply.Reply.{Reply}
 use Rattle.ix_model.specs.declared.reply.Reply.TheVariants as reply
-use Rattle.ix_model.proofs.clean.Carrying.{carried_decided}
-use Rattle.ix_model.proofs.sound.Carried.{there_is}
-use Rattle.ix_model.proofs.tables.Finds.{in_table}
-use Rattle.ix_model.proofs.words.Answered.{passed}
-use Rattle.ix_model.proofs.words.Ends.{Ends, Anything, ends_bind, ends_need, ends_object, ends_opened, ends_then}
-use Rattle.ix_model.proofs.words.Runs.{world_of-push}
-use Rattle.ix_model.proofs.words.Standing.{behind_is, stands}
+use Rattle.ix_model.proofs.{clean.Carrying.carried_decided, sound.Carried.there_is, tables.Finds.in_table, words.Answered.passed, words.Runs.world_of-push}
+use Rattle.ix_model.proofs.{words.Ends.{Ends, Anything, ends_bind, ends_need, ends_object, ends_opened, ends_then}, words.Standing.{behind_is, stands}}
 use Rattle.ix_fresh.proofs.Remaining.{descriptors_remain}
 use Rattle.ix_flow.proofs.Rows.{read_answers}
 

@@ -1,33 +1,18 @@
 -- A call that lets an object down is told by the last line of the log.
-use Rattle.std.proofs.Common.{◌≡◌, ◌≤◌, ◌<◌, ◌+◌, ℕ, zero, suc, Bool, true, false, List, [], ◌∷◌, ◌++◌, length, Option, Some, None, option_map, if◌then◌else◌, refl, sym, ap, ◌∙◌, subst, arith}
-use Rattle.std.specs.Prelude.{slice_get}
-use Rattle.std.specs.Option.{option_map_or}
-use Rattle.std.proofs.lemmas.Bool.{not-true}
+use Rattle.std.proofs.Common.{◌≡◌, ◌≤◌, ◌<◌, ◌+◌, ℕ, zero, suc, Bool, true, false, List, [], ◌∷◌, ◌++◌, length, Option, Some, None, option_map, if◌then◌else◌}
+use Rattle.std.proofs.Common.{refl, sym, ap, ◌∙◌, subst, arith}
+use Rattle.std.{specs.{Prelude.slice_get, Option.option_map_or}, proofs.lemmas.Bool.not-true}
 use Rattle.ix_label.specs.Category.{Categories, leq}
-use Rattle.ix_model.specs.world.Naming.{PathOf}
-use Rattle.ix_model.specs.world.World.{World, Frame, Object, at}
+use Rattle.ix_model.specs.world.{Naming.PathOf, World.{World, Frame, Object, at}}
 use Rattle.ix_model.specs.opening.Opening.{opening_world, placed, with_object, with_objects, bare_world}
-use Rattle.ix_model.specs.rows.Walks.{object_at}
-use Rattle.ix_model.specs.rows.Auditing.{audit_line}
-use Rattle.ix_model.specs.rows.OnLabels.{set_label}
-use Rattle.ix_model.specs.rows.Table.{row}
-use Rattle.ix_model.specs.rows.Telling.{told}
-use Rattle.ix_model.specs.history.AuditLog.{audit_log, lines_added, is_licensed, line_of_act}
-use Rattle.ix_model.specs.history.Step.{step, step_of}
-use Rattle.ix_model.specs.history.Events.{Op, Event}
+use Rattle.ix_model.specs.rows.{Walks.object_at, Auditing.audit_line, OnLabels.set_label, Table.row, Telling.told}
+use Rattle.ix_model.specs.history.{AuditLog.{audit_log, lines_added, is_licensed, line_of_act}, Step.{step, step_of}, Events.{Op, Event}}
+use Rattle.ix_model.specs.declared.{config.{Config.Config, ObjSpec.ObjSpec}, audit.AuditLine.AuditLine, refusal.Refusal.Refusal, reply.Reply.Reply}
 use Rattle.ix_model.specs.history.Events as op
-use Rattle.ix_model.specs.declared.config.Config.{Config}
-use Rattle.ix_model.specs.declared.config.ObjSpec.{ObjSpec}
 use Rattle.ix_model.specs.declared.audit.Act.TheVariants as act
-use Rattle.ix_model.specs.declared.audit.AuditLine.{AuditLine}
-use Rattle.ix_model.specs.declared.refusal.Refusal.{Refusal}
-use Rattle.ix_model.specs.declared.reply.Reply.{Reply}
 use Rattle.ix_model.proofs.tables.Tables.{at_changed}
-use Rattle.ix_model.proofs.words.Answered.{step_frame}
+use Rattle.ix_model.proofs.words.{Answered.step_frame, Keeps.Holds, Lasts.decided, RowEnds.{ends_allowed, ends_movable, ends_logged}}
 use Rattle.ix_model.proofs.words.Ends.{Ends, ends_kept, kept_ends, ends_bind, ends_then, ends_pass, ends_only_if, ends_object, ends_change_object}
-use Rattle.ix_model.proofs.words.Keeps.{Holds}
-use Rattle.ix_model.proofs.words.Lasts.{decided}
-use Rattle.ix_model.proofs.words.RowEnds.{ends_allowed, ends_movable, ends_logged}
 use Rattle.ix_iso.proofs.Facts.{Looking, looking_found}
 
 -- ---- a label is set

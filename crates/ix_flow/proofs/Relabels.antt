@@ -1,42 +1,22 @@
 -- What tracks stand for after a call that sets an object's label.
-use Rattle.std.proofs.Common.{◌≡◌, ◌≢◌, ◌≤◌, ◌<◌, ◌+◌, ◌^◌, ◌==◌, ◌&&◌, ◌||◌, not, ℕ, Bool, true, false, true≢false}
-use Rattle.std.proofs.Common.{[], ◌∷◌, ◌++◌, length, Option, Some, None, is_some, refl, sym, ap, ◌∙◌, arith, inl, inr}
-use Rattle.std.specs.Prelude.{slice_get}
-use Rattle.std.specs.Option.{option_map_or}
-use Rattle.std.proofs.lemmas.Bool.{eq-eqb, ne_eqb}
-use Rattle.std.proofs.lemmas.Bool.Decides.{eqb_tells}
-use Rattle.std.proofs.lemmas.List.{length-append, append_cancel_left}
+use Rattle.std.proofs.Common.{◌≡◌, ◌≢◌, ◌≤◌, ◌<◌, ◌+◌, ◌^◌, ◌==◌, ◌&&◌, ◌||◌, not, ℕ, Bool, true, false, true≢false, [], ◌∷◌, ◌++◌, length, Option, Some, None}
+use Rattle.std.proofs.Common.{is_some, refl, sym, ap, ◌∙◌, arith, inl, inr}
+use Rattle.std.specs.{Prelude.slice_get, Option.option_map_or}
+use Rattle.std.proofs.lemmas.{Bool.{eq-eqb, ne_eqb, Decides.eqb_tells}, List.{length-append, append_cancel_left}}
 use Rattle.ix_label.specs.Category.{Categories, leq}
-use Rattle.ix_model.specs.world.Naming.{PathOf}
-use Rattle.ix_model.specs.world.World.{World, Frame, Object, at}
-use Rattle.ix_model.specs.opening.Opening.{opening_world}
-use Rattle.ix_model.specs.rows.Auditing.{audit_line}
-use Rattle.ix_model.specs.history.AuditLog.{audit_log}
+use Rattle.ix_model.specs.{world.{Naming.PathOf, World.{World, Frame, Object, at}}, opening.Opening.opening_world, rows.Auditing.audit_line}
+use Rattle.ix_model.specs.{history.{AuditLog.audit_log, Events.Event, History.{History, world_of, next, with_entry}}, declared.audit.AuditLine.AuditLine}
 use Rattle.ix_model.specs.history.Lowering as low
-use Rattle.ix_model.specs.history.Events.{Event}
 use Rattle.ix_model.specs.history.Events as op
-use Rattle.ix_model.specs.history.History.{History, world_of, next, with_entry}
 use Rattle.ix_model.specs.declared.audit.Act.TheVariants as act
-use Rattle.ix_model.specs.declared.audit.AuditLine.{AuditLine}
 use Rattle.ix_model.specs.declared.reply.Reply.TheVariants as reply
-use Rattle.ix_model.proofs.told.Logs.{logged_run}
-use Rattle.ix_model.proofs.words.Runs.{world_of-push}
+use Rattle.ix_model.proofs.{told.Logs.logged_run, words.Runs.world_of-push}
 use Rattle.ix_iso.proofs.Lowerings.{lowerings_logged}
-use Rattle.ix_flow.specs.Lines.{lines_of_entry}
-use Rattle.ix_flow.specs.Lowerings.{falls}
-use Rattle.ix_flow.specs.Marks.{marks_of}
-use Rattle.ix_flow.specs.Moves.{edited}
-use Rattle.ix_flow.specs.Tracking.{AreFalls, AreTracks, is_noted, let_down}
-use Rattle.ix_flow.specs.declared.falls.Falls.{Falls}
-use Rattle.ix_flow.specs.declared.tracks.Tracks.{Tracks}
-use Rattle.ix_flow.proofs.Arms.{kept_sides, tracks_now}
-use Rattle.ix_flow.proofs.FirstFall.{falls_last, falls_push, none_late}
-use Rattle.ix_flow.proofs.NewObjects.{Stood, stood_step}
-use Rattle.ix_flow.proofs.Pushing.{stands_last}
-use Rattle.ix_flow.proofs.ReadMarks.{reads_nothing, tells_nothing}
-use Rattle.ix_flow.proofs.Relabelling.{LetDown, Nothing, Says, log_within, opening_log, says_step, within_at}
-use Rattle.ix_flow.proofs.Staying.{marks_next}
-use Rattle.ix_flow.proofs.Through.{kept_marks}
+use Rattle.ix_flow.specs.{Lines.lines_of_entry, Lowerings.falls, Marks.marks_of, Moves.edited, Tracking.{AreFalls, AreTracks, is_noted, let_down}}
+use Rattle.ix_flow.specs.declared.{falls.Falls.Falls, tracks.Tracks.Tracks}
+use Rattle.ix_flow.proofs.{Arms.{kept_sides, tracks_now}, FirstFall.{falls_last, falls_push, none_late}, NewObjects.{Stood, stood_step}, Pushing.stands_last}
+use Rattle.ix_flow.proofs.{ReadMarks.{reads_nothing, tells_nothing}, Relabelling.{LetDown, Nothing, Says, log_within, opening_log, says_step, within_at}}
+use Rattle.ix_flow.proofs.{Staying.marks_next, Through.kept_marks}
 
 -- ---- what is noted
 module _ (h : History) (e : Event) where

@@ -1,13 +1,8 @@
 -- What is known of labels where a read gave bytes, or a write told how many it wrote.
 use Rattle.std.proofs.Common.{◌≡◌, ℕ, true, List, Option, Some, refl, sym, ap, subst}
-use Rattle.ix_model.specs.world.World.{World, Frame}
-use Rattle.ix_model.specs.rows.Walks.{OpenFile, behind}
-use Rattle.ix_model.specs.rows.Table.{row, verdict}
-use Rattle.ix_model.specs.rows.Telling.{told}
-use Rattle.ix_model.specs.history.AuditLog.{is_answer}
-use Rattle.ix_model.specs.history.Step.{answer, step, plainly, read_answer, write_answer}
+use Rattle.ix_model.specs.{world.World.{World, Frame}, rows.{Walks.{OpenFile, behind}, Table.{row, verdict}, Telling.told}, declared.reply.Reply.Reply}
+use Rattle.ix_model.specs.history.{AuditLog.is_answer, Step.{answer, step, plainly, read_answer, write_answer}}
 use Rattle.ix_model.specs.history.Events as op
-use Rattle.ix_model.specs.declared.reply.Reply.{Reply}
 use Rattle.ix_model.specs.declared.reply.Reply.TheVariants as reply
 use Rattle.ix_model.proofs.words.Answered.{passed, step_frame}
 use Rattle.ix_iso.proofs.Facts.{ReadFacts, ReadKnown, read_known, WriteFacts, WriteKnown, write_known}

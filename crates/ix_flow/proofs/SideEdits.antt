@@ -1,21 +1,14 @@
 -- The sides of all objects after one of them was changed.
-use Rattle.std.proofs.Common.{◌≡◌, ◌≢◌, ◌<◌, ◌+◌, ◌*◌, ◌==◌, ℕ, suc, Bool, true, false, true≢false, List, [], ◌∷◌}
-use Rattle.std.proofs.Common.{length, Option, Some, None, is_some, slice_get, if◌then◌else◌, refl, sym, ap, ◌∙◌, subst, arith, inl, inr}
-use Rattle.std.proofs.lemmas.Bool.{eqb-true}
-use Rattle.std.proofs.lemmas.Bool.Decides.{eqb_tells}
-use Rattle.std.proofs.lemmas.List.{get_or-set_same, get_or-set_other}
+use Rattle.std.proofs.Common.{◌≡◌, ◌≢◌, ◌<◌, ◌+◌, ◌*◌, ◌==◌, ℕ, suc, Bool, true, false, true≢false, List, [], ◌∷◌, length, Option, Some, None, is_some, refl}
+use Rattle.std.proofs.Common.{slice_get, if◌then◌else◌, sym, ap, ◌∙◌, subst, arith, inl, inr}
+use Rattle.std.proofs.lemmas.{Bool.{eqb-true, Decides.eqb_tells}, List.{get_or-set_same, get_or-set_other}}
 use Rattle.ix_label.specs.Category.{Categories}
-use Rattle.ix_model.specs.world.World.{HoldingOf, at, is_pipe}
-use Rattle.ix_model.specs.world.Contents.{held_at, nothing_held, on_side, side, with_side}
+use Rattle.ix_model.specs.world.{World.{HoldingOf, at, is_pipe}, Contents.{held_at, nothing_held, on_side, side, with_side}}
 use Rattle.ix_model.specs.history.History.{History, world_of}
-use Rattle.ix_flow.specs.Origins.{Marked, Origin, Written, marked_from, origins_of}
-use Rattle.ix_flow.specs.Lowerings.{label_of}
-use Rattle.ix_flow.specs.Sides.{ComesOf, IsLike, StandsIn, numbered, origin_at, source_in}
-use Rattle.ix_flow.specs.Sides as come
+use Rattle.ix_flow.specs.{Origins.{Marked, Origin, Written, marked_from, origins_of}, Lowerings.label_of}
+use Rattle.ix_flow.specs.{Sides.{ComesOf, IsLike, StandsIn, numbered, origin_at, source_in}, declared.{side.Side.Side, sides.Sides.Sides, source.Source.Source}}
 use Rattle.ix_flow.specs.Tracking.{AreLabelled, AreSides, HasEnd, IsFound, IsTracked, IsUnder, side_of}
-use Rattle.ix_flow.specs.declared.side.Side.{Side}
-use Rattle.ix_flow.specs.declared.sides.Sides.{Sides}
-use Rattle.ix_flow.specs.declared.source.Source.{Source}
+use Rattle.ix_flow.specs.Sides as come
 use Rattle.ix_flow.specs.declared.source.Source.TheVariants as source
 
 -- ---- labels

@@ -1,11 +1,8 @@
 -- Where the sources of a side come from after it was changed.
 use Rattle.std.proofs.Common.{◌≡◌, ◌≤◌, ◌<◌, max, ℕ, sym, ◌∙◌, arith, inl, inr}
-use Rattle.ix_flow.specs.Sides.{ComesOf, StandsIn, source_in}
+use Rattle.ix_flow.{specs.{Sides.{ComesOf, StandsIn, source_in}, declared.{side.Side.Side, source.Source.Source}}, proofs.Likeness.side_of}
 use Rattle.ix_flow.specs.Sides as come
-use Rattle.ix_flow.specs.declared.side.Side.{Side}
-use Rattle.ix_flow.specs.declared.source.Source.{Source}
 use Rattle.ix_flow.specs.declared.source.Source.TheVariants as source
-use Rattle.ix_flow.proofs.Likeness.{side_of}
 
 -- what is put behind
 pub appended_sources : (s t : Side) (end : ℕ) (new : Source) → t.front ≡ s.front

@@ -1,38 +1,24 @@
 -- What came into an object stays accounted for: it is at or below the object's label, or the object was let down since.
-use Rattle.std.proofs.Common.{◌≡◌, ◌≤◌, ◌<◌, ◌+◌, not, ℕ, zero, suc, Bool, true, false, List, [], ◌∷◌, ◌++◌, length, Some, None, if◌then◌else◌, refl, sym, ap, ◌∙◌, arith, subst, length-append}
-use Rattle.std.specs.Prelude.{All, slice_get}
-use Rattle.std.specs.Option.{option_map_or}
-use Rattle.std.proofs.lemmas.Bool.{and_parts}
-use Rattle.std.proofs.lemmas.List.Elements.{All-cons, All-drop, All-map, All-nil, All-take, All-weaker}
-use Rattle.ix_label.specs.Category.{Categories, bottom, leq}
-use Rattle.ix_label.specs.Lattice.{leq-refl, leq-trans}
-use Rattle.ix_model.specs.world.World.{World, Frame, Object, Process, HoldingOf, Holding, at}
-use Rattle.ix_model.specs.world.Contents.{held_at, offset_of, on_pipe, side}
-use Rattle.ix_model.specs.rows.Walks.{OpenFile, behind}
-use Rattle.ix_model.specs.opening.Opening.{opening_world}
-use Rattle.ix_model.specs.history.AuditLog.{audit_log, label_at, of_process}
-use Rattle.ix_model.specs.history.Step.{step}
+use Rattle.std.proofs.Common.{◌≡◌, ◌≤◌, ◌<◌, ◌+◌, not, ℕ, zero, suc, Bool, true, false, List, [], ◌∷◌, ◌++◌, length, Some, None, if◌then◌else◌, refl, sym, ap}
+use Rattle.std.proofs.Common.{◌∙◌, arith, subst, length-append}
+use Rattle.std.specs.{Prelude.{All, slice_get}, Option.option_map_or}
+use Rattle.std.proofs.lemmas.{Bool.and_parts, List.Elements.{All-cons, All-drop, All-map, All-nil, All-take, All-weaker}}
+use Rattle.ix_label.specs.{Category.{Categories, bottom, leq}, Lattice.{leq-refl, leq-trans}}
+use Rattle.ix_model.specs.world.{World.{World, Frame, Object, Process, HoldingOf, Holding, at}, Contents.{held_at, offset_of, on_pipe, side}}
+use Rattle.ix_model.specs.{rows.Walks.{OpenFile, behind}, opening.Opening.opening_world, history.AuditLog.{audit_log, label_at, of_process}, history.Step.step}
+use Rattle.ix_model.specs.{history.Events.{Op, Event}, history.History.{History, world_of, next, with_entry}}
+use Rattle.ix_model.specs.declared.{config.Config.Config, reply.Reply.Reply}
 use Rattle.ix_model.specs.history.Lowering as low
-use Rattle.ix_model.specs.history.Events.{Op, Event}
 use Rattle.ix_model.specs.history.Events as op
-use Rattle.ix_model.specs.history.History.{History, world_of, next, with_entry}
-use Rattle.ix_model.specs.declared.config.Config.{Config}
-use Rattle.ix_model.specs.declared.reply.Reply.{Reply}
 use Rattle.ix_model.specs.declared.reply.Reply.TheVariants as reply
-use Rattle.ix_model.proofs.sound.Carried.{there_is}
-use Rattle.ix_model.proofs.told.Logs.{logged_run}
-use Rattle.ix_model.proofs.words.Living.{is_living}
-use Rattle.ix_model.proofs.words.Runs.{world_of-push, world_of-none}
-use Rattle.ix_iso.proofs.Facts.{WriteFacts}
-use Rattle.ix_iso.proofs.Lowerings.{lowerings_logged}
-use Rattle.ix_flow.specs.Origins.{Origin, Written, InConfig, Gap, Marked, gap_mark, marked_from, origins_of}
-use Rattle.ix_flow.specs.Moves.{bytes_written}
-use Rattle.ix_flow.specs.Marks.{marked_in, marked_all, opening_marks, marks_after, marks_from, marks_of, read_through, read_by, marks_read}
+use Rattle.ix_model.proofs.{sound.Carried.there_is, told.Logs.logged_run, words.{Living.is_living, Runs.{world_of-push, world_of-none}}}
+use Rattle.ix_iso.proofs.{Facts.WriteFacts, Lowerings.lowerings_logged}
+use Rattle.ix_flow.specs.{Origins.{Origin, Written, InConfig, Gap, Marked, gap_mark, marked_from, origins_of}, Moves.bytes_written}
 use Rattle.ix_flow.specs.Lowerings.{falls, first_fall, label_of, place_of, via}
 use Rattle.ix_flow.specs.Laws.{IsInTheLog, IsAccountedFor, Below, LetDown, OfGap, OriginsStayBelow, ReadersAreAbove}
-use Rattle.ix_flow.proofs.Everywhere.{Everywhere, moved_all, on_one_side}
+use Rattle.ix_flow.specs.Marks.{marked_in, marked_all, opening_marks, marks_after, marks_from, marks_of, read_through, read_by, marks_read}
+use Rattle.ix_flow.proofs.{Everywhere.{Everywhere, moved_all, on_one_side}, Rows.{read_step, write_step}}
 use Rattle.ix_flow.proofs.Pushing.{by_pushes, stays_there, stands_last, marks_push, caller_before, caller_at, fall_before, fall_at, none_later}
-use Rattle.ix_flow.proofs.Rows.{read_step, write_step}
 
 -- a write's place is one of the first so many
 abbrev pub IsPast : ℕ → Origin → Type 0

@@ -1,31 +1,15 @@
 -- What tracks stand for stays, where an entry more leaves it.
 use Rattle.std.proofs.Common.{◌≡◌, ◌<◌, ◌+◌, ◌-◌, ◌&&◌, ℕ, true, List, [], length, Option, Some, None, is_some, sym, ap, ◌∙◌, subst, arith}
-use Rattle.std.specs.Prelude.{All}
-use Rattle.std.proofs.lemmas.List.Elements.{All-get_or}
+use Rattle.std.{specs.Prelude.All, proofs.lemmas.List.Elements.All-get_or}
 use Rattle.ix_label.specs.Category.{Categories}
-use Rattle.ix_model.specs.laws.Sound.{Sound}
-use Rattle.ix_model.specs.world.World.{World, Frame, Object, HoldingOf, at, is_pipe}
-use Rattle.ix_model.specs.world.Contents.{held_at, side}
-use Rattle.ix_model.specs.history.Events.{Event}
-use Rattle.ix_model.specs.history.History.{History, world_of, next, with_entry}
-use Rattle.ix_model.proofs.frames.Frames.{frame_of}
-use Rattle.ix_model.proofs.sound.Following.{follows_decided}
-use Rattle.ix_model.proofs.sound.Soundly.{sound_step}
-use Rattle.ix_model.proofs.words.Answered.{step_frame}
-use Rattle.ix_model.specs.rows.Telling.{told}
-use Rattle.ix_model.proofs.sound.Carried.{there_is}
-use Rattle.ix_model.proofs.words.Runs.{world_of-push}
-use Rattle.ix_flow.specs.Origins.{Marked, Origin, Gap, origins_of}
-use Rattle.ix_flow.specs.Lines.{pieces_read, with_pieces}
-use Rattle.ix_flow.specs.Marks.{marks_of}
-use Rattle.ix_flow.specs.Sides.{IsLike, origin_at, source_in}
+use Rattle.ix_model.specs.{laws.Sound.Sound, world.{World.{World, Frame, Object, HoldingOf, at, is_pipe}, Contents.{held_at, side}}, rows.Telling.told}
+use Rattle.ix_model.specs.history.{Events.Event, History.{History, world_of, next, with_entry}}
+use Rattle.ix_model.proofs.{frames.Frames.frame_of, sound.{Following.follows_decided, Soundly.sound_step, Carried.there_is}}
+use Rattle.ix_model.proofs.words.{Answered.step_frame, Runs.world_of-push}
+use Rattle.ix_flow.specs.{Origins.{Marked, Origin, Gap, origins_of}, Lines.{pieces_read, with_pieces}, Marks.marks_of, Sides.{IsLike, origin_at, source_in}}
 use Rattle.ix_flow.specs.Tracking.{AreFalls, AreLabelled, AreSides, AreTracks, IsTracked, IsUnder, counts_of, side_of}
-use Rattle.ix_flow.specs.declared.side.Side.{Side}
-use Rattle.ix_flow.specs.declared.sides.Sides.{Sides}
-use Rattle.ix_flow.specs.declared.tracks.Tracks.{Tracks}
-use Rattle.ix_flow.proofs.Counting.{counts_more}
-use Rattle.ix_flow.proofs.NewObjects.{Stood}
-use Rattle.ix_flow.proofs.Staying.{IsPast, label_stays, origins_past}
+use Rattle.ix_flow.specs.declared.{side.Side.Side, sides.Sides.Sides, tracks.Tracks.Tracks}
+use Rattle.ix_flow.proofs.{Counting.counts_more, NewObjects.Stood, Staying.{IsPast, label_stays, origins_past}}
 
 module _ (h : History) (e : Event) where
   -- ---- labels

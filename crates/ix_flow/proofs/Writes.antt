@@ -1,47 +1,23 @@
 -- What tracks stand for after a write.
-use Rattle.std.proofs.Common.{◌≡◌, ◌≤◌, ◌<◌, ◌+◌, ◌-◌, ◌&&◌, ◌++◌, ℕ, Bool, true, false, List, []}
-use Rattle.std.proofs.Common.{length, Option, Some, None, is_some, option_map, if◌then◌else◌, refl, sym, ap, ◌∙◌, subst, arith, set}
-use Rattle.std.specs.Prelude.{slice_get}
-use Rattle.std.specs.Option.{option_map_or}
-use Rattle.std.proofs.lemmas.List.{get_or-set_same}
+use Rattle.std.proofs.Common.{◌≡◌, ◌≤◌, ◌<◌, ◌+◌, ◌-◌, ◌&&◌, ◌++◌, ℕ, Bool, true, false, List, [], length, Option, Some, None, is_some, option_map, refl, sym}
+use Rattle.std.proofs.Common.{if◌then◌else◌, ap, ◌∙◌, subst, arith, set}
+use Rattle.std.{specs.{Prelude.slice_get, Option.option_map_or}, proofs.lemmas.List.get_or-set_same}
 use Rattle.ix_label.specs.Category.{Categories, bottom}
-use Rattle.ix_model.specs.world.World.{World, Frame, Content, HoldingOf, Process, at, is_pipe}
-use Rattle.ix_model.specs.world.Contents.{after_write, carried, change_side, offset_of, on_pipe, on_side, spliced, written_over}
-use Rattle.ix_model.specs.rows.Walks.{OpenFile, behind}
-use Rattle.ix_model.specs.rows.OnDescriptors.{LengthChecks, write_fd}
-use Rattle.ix_model.specs.rows.Table.{row, verdict}
-use Rattle.ix_model.specs.rows.Telling.{told}
-use Rattle.ix_model.specs.history.AuditLog.{of_process}
-use Rattle.ix_model.specs.history.Step.{answer, write_answer, plainly, step}
-use Rattle.ix_model.specs.history.Events.{Op, Event}
+use Rattle.ix_model.specs.{world.World.{World, Frame, Content, HoldingOf, Process, at, is_pipe}, history.AuditLog.of_process, history.Events.{Op, Event}}
+use Rattle.ix_model.specs.{world.Contents.{after_write, carried, change_side, offset_of, on_pipe, on_side, spliced, written_over}, history.Views.shown_of}
+use Rattle.ix_model.specs.rows.{Walks.{OpenFile, behind}, OnDescriptors.{LengthChecks, write_fd}, Table.{row, verdict}, Telling.told}
+use Rattle.ix_model.specs.{history.Step.{answer, write_answer, plainly, step}, history.History.{History, world_of, next, with_entry}}
+use Rattle.ix_model.specs.declared.{reply.Reply.Reply, views.ProcView.ProcView}
 use Rattle.ix_model.specs.history.Events as op
-use Rattle.ix_model.specs.history.History.{History, world_of, next, with_entry}
-use Rattle.ix_model.specs.history.Views.{shown_of}
-use Rattle.ix_model.specs.declared.reply.Reply.{Reply}
 use Rattle.ix_model.specs.declared.reply.Reply.TheVariants as reply
-use Rattle.ix_model.specs.declared.views.ProcView.{ProcView}
-use Rattle.ix_model.proofs.clean.Carrying.{length-keep}
-use Rattle.ix_model.proofs.sound.Carried.{there_is}
-use Rattle.ix_model.proofs.words.Answered.{passed, step_frame}
-use Rattle.ix_model.proofs.words.Ends.{Ends, Anything, ends_bind, ends_opened}
-use Rattle.ix_model.proofs.words.Runs.{world_of-push}
+use Rattle.ix_model.proofs.{clean.Carrying.length-keep, sound.Carried.there_is}
+use Rattle.ix_model.proofs.words.{Answered.{passed, step_frame}, Ends.{Ends, Anything, ends_bind, ends_opened}, Runs.world_of-push}
 use Rattle.ix_open.specs.declared.view.OpenView.{OpenView}
-use Rattle.ix_flow.specs.Origins.{Marked, Written, gap_mark, marked_from}
-use Rattle.ix_flow.specs.Lines.{lines_of_entry}
-use Rattle.ix_flow.specs.Lowerings.{label_of}
-use Rattle.ix_flow.specs.Marks.{marks_of}
-use Rattle.ix_flow.specs.Moves.{edited, put_there}
-use Rattle.ix_flow.specs.Tracking.{AreSides, AreTracks, HasEnd, IsWrite}
-use Rattle.ix_flow.specs.declared.labels.Labels.{Labels}
-use Rattle.ix_flow.specs.declared.sides.Sides.{Sides}
+use Rattle.ix_flow.specs.{Origins.{Marked, Written, gap_mark, marked_from}, Lines.lines_of_entry, Lowerings.label_of, Marks.marks_of, Moves.{edited, put_there}}
+use Rattle.ix_flow.specs.{Tracking.{AreSides, AreTracks, HasEnd, IsWrite}, declared.{labels.Labels.Labels, sides.Sides.Sides, tracks.Tracks.Tracks}}
 use Rattle.ix_flow.specs.declared.sides.Written as written_type
-use Rattle.ix_flow.specs.declared.tracks.Tracks.{Tracks}
-use Rattle.ix_flow.proofs.Arms.{followed, kept_sides, sides_more, unmoved}
-use Rattle.ix_flow.proofs.NewObjects.{Stood, stood_step}
-use Rattle.ix_flow.proofs.ReadWorlds.{ends_anyway}
-use Rattle.ix_flow.proofs.Rows.{write_answers}
-use Rattle.ix_flow.proofs.Staying.{label_new, marks_next}
-use Rattle.ix_flow.proofs.Through.{Through, has_end, kept_marks, not_opened, on_pipe_after, through, viewed}
+use Rattle.ix_flow.proofs.{Arms.{followed, kept_sides, sides_more, unmoved}, NewObjects.{Stood, stood_step}, ReadWorlds.ends_anyway, Rows.write_answers}
+use Rattle.ix_flow.proofs.{Staying.{label_new, marks_next}, Through.{Through, has_end, kept_marks, not_opened, on_pipe_after, through, viewed}}
 
 -- ---- what stands behind the descriptor
 writes_behind : (t : LengthChecks) (pid fd : ℕ) (f : Frame) → Ends (write_fd t pid fd f) Anything (λ r g. is_some (behind f pid fd) ≡ true)

@@ -1,8 +1,6 @@
 ghost use Rattle.std.specs.Prelude.{◌≡◌, ◌+◌, ◌*◌, ◌<◌, ◌^◌, ◌==◌, ◌&&◌, ◌||◌, ℕ, false, OnOk};
-ghost use Rattle.ix_model.specs.history.History.{History};
-ghost use Rattle.ix_model.specs.opening.Opening.{opening_world};
-ghost use Rattle.ix_flow.specs.Lowerings.{first_fall};
-ghost use Rattle.ix_flow.specs.Tracking.{AreFalls, is_noted};
+ghost use Rattle.ix_model.specs.{history.History.{History}, opening.Opening.{opening_world}};
+ghost use Rattle.ix_flow.specs.{Lowerings.{first_fall}, Tracking.{AreFalls, is_noted}};
 
 use ix_model::{NoMemory, Obj};
 use std::alloc::Global;

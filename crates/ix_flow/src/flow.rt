@@ -1,12 +1,7 @@
 ghost use Rattle.std.specs.Prelude.{◌≡◌, ◌++◌, [], IsTrue, IfOk, OnErr, OnOk};
-ghost use Rattle.ix_model.specs.history.Calls.{event_of};
-ghost use Rattle.ix_model.specs.history.Systems.{FullFor};
-ghost use Rattle.ix_model.specs.opening.Valid.{is_valid};
-ghost use Rattle.ix_core.specs.Stepping.{MakesNext, StepsAs};
-ghost use Rattle.ix_core.specs.Stops.{StopsWhereFull};
-ghost use Rattle.ix_flow.specs.Following.{lines_given};
-ghost use Rattle.ix_flow.specs.Lines.{end_line};
-ghost use Rattle.ix_flow.specs.Tracking.{counts_of};
+ghost use Rattle.ix_model.specs.{history.{Calls.{event_of}, Systems.{FullFor}}, opening.Valid.{is_valid}};
+ghost use Rattle.ix_core.specs.{Stepping.{MakesNext, StepsAs}, Stops.{StopsWhereFull}};
+ghost use Rattle.ix_flow.specs.{Following.{lines_given}, Lines.{end_line}, Tracking.{counts_of}};
 
 use crate::tracks::Tracks;
 use ix_core::Core;
@@ -26,8 +21,7 @@ pub struct Flow {
 }
 
 impl Model for Flow {
-    ghost use Rattle.std.specs.Prelude.{◌≡◌, false};
-    ghost use Rattle.std.specs.Coded.{codes};
+    ghost use Rattle.std.specs.{Prelude.{◌≡◌, false}, Coded.{codes}};
     ghost use Rattle.ix_label.specs.contracts.label.Label as label_type;
     ghost use Rattle.ix_model.specs.history.History.{History};
     ghost use Rattle.ix_flow.specs.Tracking.{AreTracks};

@@ -2,10 +2,7 @@ ghost use Rattle.std.specs.Prelude.{◌≡◌, ◌≤◌, ◌-◌, ◌++◌, ◌
 ghost use Rattle.ix_label.specs.Spelling.{spelling};
 ghost use Rattle.ix_label.specs.declared.form.Form.TheVariants as form;
 ghost use Rattle.ix_model.specs.history.History.{History};
-ghost use Rattle.ix_flow.specs.Lines.{end_line, piece_line, place_text};
-ghost use Rattle.ix_flow.specs.Lowerings.{label_of};
-ghost use Rattle.ix_flow.specs.Reads.{piece_of};
-ghost use Rattle.ix_flow.specs.Sides.{origin_at};
+ghost use Rattle.ix_flow.specs.{Lines.{end_line, piece_line, place_text}, Lowerings.{label_of}, Reads.{piece_of}, Sides.{origin_at}};
 ghost use Rattle.ix_flow.specs.Tracking.{AreFalls, IsUnder};
 
 use crate::falls::Falls;

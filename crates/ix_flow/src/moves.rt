@@ -1,16 +1,9 @@
-ghost use Rattle.std.specs.Prelude.{◌≡◌, ◌≤◌, ◌+◌, ◌++◌, ℕ, [], true, false, Some, length, take, OnOk};
-ghost use Rattle.std.specs.Option.{option_map_or};
+ghost use Rattle.std.specs.{Prelude.{◌≡◌, ◌≤◌, ◌+◌, ◌++◌, ℕ, [], true, false, Some, length, take, OnOk}, Option.{option_map_or}};
 ghost use Rattle.ix_label.specs.Category.{Categories};
 ghost use Rattle.ix_model.specs.history.Events as op;
-ghost use Rattle.ix_model.specs.history.History.{world_of};
-ghost use Rattle.ix_model.specs.history.Made.{entry};
-ghost use Rattle.ix_model.specs.history.Views.{size_at};
-ghost use Rattle.ix_model.specs.world.Naming.{PathOf};
+ghost use Rattle.ix_model.specs.{history.{History.{world_of}, Made.{entry}, Views.{size_at}}, world.{Naming.{PathOf}, World.{at}}};
+ghost use Rattle.ix_model.specs.declared.{audit.Act.TheVariants.{DownFile}, ids.Pid.{Pid}, reply.Reply.{Reply}};
 ghost use Rattle.ix_model.specs.world.World as world;
-ghost use Rattle.ix_model.specs.world.World.{at};
-ghost use Rattle.ix_model.specs.declared.audit.Act.TheVariants.{DownFile};
-ghost use Rattle.ix_model.specs.declared.ids.Pid.{Pid};
-ghost use Rattle.ix_model.specs.declared.reply.Reply.{Reply};
 ghost use Rattle.ix_flow.specs.Following.{Follows, FollowsInto};
 
 use crate::sides::Written;

@@ -1,8 +1,5 @@
 ghost use Rattle.std.specs.Prelude.{◌≡◌, ◌≤◌, ◌<◌, ◌+◌, ◌∷◌, ℕ, List};
-ghost use Rattle.ix_flow.specs.Origins.{Origin};
-ghost use Rattle.ix_flow.specs.Lines.{pieces_from};
-ghost use Rattle.ix_flow.specs.Sides.{IsLike, source_in};
-ghost use Rattle.ix_flow.specs.Reads.{between, piece_of};
+ghost use Rattle.ix_flow.specs.{Origins.{Origin}, Lines.{pieces_from}, Sides.{IsLike, source_in}, Reads.{between, piece_of}};
 
 use crate::side::Side;
 use crate::source::Source;

@@ -1,12 +1,9 @@
 ghost use Rattle.std.specs.Prelude.{◌≡◌, ◌≤◌, ◌<◌, ◌+◌, ◌^◌, ◌++◌, ℕ, List, [], drop, max, unwrap_or, IfSome, IsSome, OnOk};
-ghost use Rattle.std.specs.BTreeMap.{IsOrdered, get};
-ghost use Rattle.std.specs.Ordering.{nat_cmp};
+ghost use Rattle.std.specs.{BTreeMap.{IsOrdered, get}, Ordering.{nat_cmp}};
 ghost use Rattle.ix_model.specs.world.Contents.{resized, written_over};
 ghost use Rattle.ix_flow.specs.Origins as origin;
-ghost use Rattle.ix_flow.specs.Origins.{Origin};
-ghost use Rattle.ix_flow.specs.Sides.{Begins, ComesOf, IsLike, NoneBegins, StandsIn, numbered, origin_at, source_in, start_of};
-ghost use Rattle.ix_flow.specs.declared.source.Source.{Source};
-ghost use Rattle.ix_flow.specs.declared.source.Source.TheVariants.{Gap, Write};
+ghost use Rattle.ix_flow.specs.{Origins.{Origin}, Sides.{Begins, ComesOf, IsLike, NoneBegins, StandsIn, numbered, origin_at, source_in, start_of}};
+ghost use Rattle.ix_flow.specs.declared.source.Source.{Source, TheVariants.{Gap, Write}};
 
 use crate::source::Source;
 use ix_model::NoMemory;

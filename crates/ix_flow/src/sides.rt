@@ -1,12 +1,8 @@
-ghost use Rattle.std.specs.Prelude.{◌≡◌, ◌<◌, ◌+◌, ◌*◌, ◌++◌, ℕ, true, false, List, drop, Some, None, OnOk};
-ghost use Rattle.std.proofs.Common.{option_map};
+ghost use Rattle.std.{specs.Prelude.{◌≡◌, ◌<◌, ◌+◌, ◌*◌, ◌++◌, ℕ, true, false, List, drop, Some, None, OnOk}, proofs.Common.{option_map}};
 ghost use Rattle.ix_label.specs.Category.{Categories};
-ghost use Rattle.ix_model.specs.history.History.{History};
-ghost use Rattle.ix_model.specs.world.Contents.{on_side, resized, written_over};
-ghost use Rattle.ix_model.specs.world.World.{HoldingOf};
+ghost use Rattle.ix_model.specs.{history.History.{History}, world.{Contents.{on_side, resized, written_over}, World.{HoldingOf}}};
 ghost use Rattle.ix_flow.specs.Origins as origin;
-ghost use Rattle.ix_flow.specs.Origins.{Marked, gap_mark, marked_from};
-ghost use Rattle.ix_flow.specs.Tracking.{AreSides, HasEnd, IsFound, IsWrite, side_of};
+ghost use Rattle.ix_flow.specs.{Origins.{Marked, gap_mark, marked_from}, Tracking.{AreSides, HasEnd, IsFound, IsWrite, side_of}};
 
 use crate::side::Side;
 use ix_model::{NoMemory, Obj};

@@ -1,11 +1,6 @@
-ghost use Rattle.std.specs.Prelude.{◌≡◌, ◌≤◌, ◌+◌, ◌++◌, List, length, take, IfOk, OnOk};
-ghost use Rattle.std.specs.List.{flat_map};
+ghost use Rattle.std.specs.{Prelude.{◌≡◌, ◌≤◌, ◌+◌, ◌++◌, List, length, take, IfOk, OnOk}, List.{flat_map}};
 ghost use Rattle.ix_model.specs.history.History.{History};
-ghost use Rattle.ix_flow.specs.Lines.{piece_line, pieces_from};
-ghost use Rattle.ix_flow.specs.Origins.{Origin};
-ghost use Rattle.ix_flow.specs.Reads.{IsWithin, between};
-ghost use Rattle.ix_flow.specs.Sides.{IsLike};
-ghost use Rattle.ix_flow.specs.Tracking.{AreFalls, AreLabelled};
+ghost use Rattle.ix_flow.specs.{Lines.{piece_line, pieces_from}, Origins.{Origin}, Reads.{IsWithin, between}, Sides.{IsLike}, Tracking.{AreFalls, AreLabelled}};
 
 use crate::falls::Falls;
 use crate::labels::Labels;

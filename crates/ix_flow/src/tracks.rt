@@ -1,11 +1,6 @@
 ghost use Rattle.std.specs.Prelude.{◌≡◌, ◌+◌, ◌++◌, ℕ, [], length, take, IfOk, OnOk};
-ghost use Rattle.ix_model.specs.history.Calls.{op_of};
-ghost use Rattle.ix_model.specs.history.History.{world_of};
-ghost use Rattle.ix_model.specs.history.Made.{entry};
-ghost use Rattle.ix_model.specs.laws.Sound.{Sound};
-ghost use Rattle.ix_flow.specs.Lines.{end_line};
-ghost use Rattle.ix_flow.specs.Following.{FollowsInto};
-ghost use Rattle.ix_flow.specs.Tracking.{AreOpened, AreTracks};
+ghost use Rattle.ix_model.specs.{history.{Calls.{op_of}, History.{world_of}, Made.{entry}}, laws.Sound.{Sound}};
+ghost use Rattle.ix_flow.specs.{Lines.{end_line}, Following.{FollowsInto}, Tracking.{AreOpened, AreTracks}};
 
 use crate::falls::Falls;
 use crate::labels::Labels;

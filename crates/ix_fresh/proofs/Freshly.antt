@@ -1,29 +1,17 @@
 -- What is known of fresh descriptors, and what keeps them so.
-use Rattle.std.proofs.Common.{◌≡◌, ◌==◌, ◌+◌, ◌++◌, length, arith, ◌&&◌, ◌||◌, not, ℕ, suc, Bool, true, false, true≢false, List, [], ◌∷◌, Option}
-use Rattle.std.proofs.Common.{Some, None, is_some, option_map, refl, sym, ap, ◌∙◌, subst, inl, inr}
+use Rattle.std.proofs.Common.{◌≡◌, ◌==◌, ◌+◌, ◌++◌, length, arith, ◌&&◌, ◌||◌, not, ℕ, suc, Bool, true, false, true≢false, List, [], ◌∷◌, Option, Some, None}
+use Rattle.std.proofs.Common.{is_some, option_map, refl, sym, ap, ◌∙◌, subst, inl, inr}
 use Rattle.std.proofs.lemmas.Bool.{and_parts, and_right, or_cases, eqb-true, not-true, not-false}
-use Rattle.ix_label.specs.Category.{Categories, bottom, leq, same}
-use Rattle.ix_label.specs.Lattice.{same-decides, join-least}
-use Rattle.ix_model.specs.world.World.{World, Frame, Open, at, is_pipe}
-use Rattle.ix_model.specs.rows.Walks.{OpenFile, behind}
-use Rattle.ix_model.specs.rows.Telling.{told}
-use Rattle.ix_model.specs.rows.Table.{row}
-use Rattle.ix_model.specs.history.AuditLog.{label_at, of_process, is_answer}
+use Rattle.ix_label.specs.{Category.{Categories, bottom, leq, same}, Lattice.{same-decides, join-least}}
+use Rattle.ix_model.specs.{world.World.{World, Frame, Open, at, is_pipe}, rows.{Walks.{OpenFile, behind}, Telling.told, Table.row}, history.Events.{Op, Event}}
+use Rattle.ix_model.specs.{history.AuditLog.{label_at, of_process, is_answer}, history.Step.{step, step_of, run, answer, plainly, read_answer, write_answer}}
+use Rattle.ix_model.specs.{laws.Sound.Sound, declared.reply.Reply.Reply}
 use Rattle.ix_model.specs.history.Freshness.{Way, Reading, Writing, refreshes, relabels, label_through, fresh_after, fresh_from, is_fresh}
-use Rattle.ix_model.specs.history.Step.{step, step_of, run, answer, plainly, read_answer, write_answer}
-use Rattle.ix_model.specs.history.Events.{Op, Event}
 use Rattle.ix_model.specs.history.Events as op
-use Rattle.ix_model.specs.laws.Sound.{Sound}
-use Rattle.ix_model.specs.declared.reply.Reply.{Reply}
 use Rattle.ix_model.specs.declared.reply.Reply.TheVariants as reply
-use Rattle.ix_model.proofs.words.Answered.{passed, step_frame}
-use Rattle.ix_model.proofs.sound.Soundly.{sound_step}
-use Rattle.ix_model.proofs.sound.Reaching.{sound_run}
-use Rattle.ix_fresh.specs.Known.{Known, is_level}
+use Rattle.ix_model.proofs.{words.{Answered.{passed, step_frame}, Transfers.one_there}, sound.{Soundly.sound_step, Reaching.sound_run}}
+use Rattle.ix_fresh.{specs.Known.{Known, is_level}, specs.Laws.{is_closed, fresh_by_touch}, proofs.Through.{ReadFacts, WriteFacts, read_known, write_known}}
 use Rattle.ix_fresh.specs.Touched.{target, entry_target, is_one, label_of_entry, touches, moved_process, moved_object, moved_entry}
-use Rattle.ix_fresh.specs.Laws.{is_closed, fresh_by_touch}
-use Rattle.ix_fresh.proofs.Through.{ReadFacts, WriteFacts, read_known, write_known}
-use Rattle.ix_model.proofs.words.Transfers.{one_there}
 use Rattle.ix_fresh.proofs.Remaining.{Remains, remains, process_label, object_label, entry_label, labels_stay_but}
 
 -- ---- what a refreshing call leaves known

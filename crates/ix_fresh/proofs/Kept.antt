@@ -1,29 +1,15 @@
 -- The step of every call leaves descriptors, and what stands behind them.
 use Rattle.std.proofs.Common.{◌≡◌, ◌==◌, ◌&&◌, ℕ, Bool, true, false, refl, sym, ap, ◌∙◌, subst, if◌then◌else◌}
-use Rattle.ix_model.specs.rows.Refusals.{keeps_label}
-use Rattle.ix_model.specs.world.World.{World, Frame, lives}
-use Rattle.ix_model.specs.rows.Outcomes.{Outcome, Refuse, Pass}
-use Rattle.ix_model.specs.rows.OnDescriptors.{LengthChecks, close_fd}
-use Rattle.ix_model.specs.rows.OnProcesses.{exit}
-use Rattle.ix_model.specs.rows.Table.{Decision, row, settled, verdict}
-use Rattle.ix_model.specs.rows.Telling.{told}
-use Rattle.ix_model.specs.history.Step.{step, answer, plainly, exit_answer}
-use Rattle.ix_model.specs.history.Freshness.{closes}
-use Rattle.ix_model.specs.history.AuditLog.{is_answer}
-use Rattle.ix_model.specs.history.Events.{Op}
+use Rattle.ix_model.specs.{rows.Refusals.keeps_label, rows.Outcomes.{Outcome, Refuse, Pass}, rows.OnDescriptors.{LengthChecks, close_fd}, rows.OnProcesses.exit}
+use Rattle.ix_model.specs.{rows.Table.{Decision, row, settled, verdict}, rows.Telling.told, world.World.{World, Frame, lives}, declared.reply.Reply.Reply}
+use Rattle.ix_model.specs.history.{Step.{step, answer, plainly, exit_answer}, Freshness.closes, AuditLog.is_answer, Events.Op}
 use Rattle.ix_model.specs.history.Events as op
-use Rattle.ix_model.specs.declared.reply.Reply.{Reply}
 use Rattle.ix_model.specs.declared.reply.Reply.TheVariants as reply
 use Rattle.ix_model.specs.declared.refusal.Refusal.TheVariants as refusal
-use Rattle.ix_model.proofs.words.Keeps.{Holds}
-use Rattle.ix_model.proofs.words.Ends.{Ends, Anything, ends_bind, ends_then, ends_pass, ends_frame, ends_need, ends_opened}
-use Rattle.ix_model.proofs.words.RowEnds.{ends_let_go, ends_let_go_all, ends_end_process}
-use Rattle.ix_model.proofs.words.Answered.{step_frame}
+use Rattle.ix_model.proofs.{words.Keeps.Holds, words.Ends.{Ends, Anything, ends_bind, ends_then, ends_pass, ends_frame, ends_need, ends_opened}}
+use Rattle.ix_model.proofs.{words.RowEnds.{ends_let_go, ends_let_go_all, ends_end_process}, words.Answered.step_frame}
 use Rattle.ix_model.proofs.refused.Refusing.{Relabelled, refusing_row}
-use Rattle.ix_fresh.specs.Touched.{target, entry_target}
-use Rattle.ix_fresh.proofs.Tables.{has_changed}
-use Rattle.ix_fresh.proofs.Staying.{Kept, kept_itself}
-use Rattle.ix_fresh.proofs.StayingRows.{given_up, KeptBy, row_keeps}
+use Rattle.ix_fresh.{specs.Touched.{target, entry_target}, proofs.{Tables.has_changed, Staying.{Kept, kept_itself}, StayingRows.{given_up, KeptBy, row_keeps}}}
 
 -- what a call with that reply leaves
 abbrev pub KeptAs : Frame → ℕ → Op → Reply → Frame → Type 0

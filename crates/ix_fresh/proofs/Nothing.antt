@@ -1,18 +1,11 @@
 -- The rules of labels change nothing of what is known.
 use Rattle.std.proofs.Common.{◌≡◌, ℕ, Bool, true, false, not, Some, refl, ap, subst}
-use Rattle.ix_label.specs.Category.{Categories, join, leq, same}
-use Rattle.ix_label.specs.Lattice.{same-decides, join-absorbs}
-use Rattle.ix_model.specs.world.World.{Frame, Object, Process, Open, at, living, is_pipe}
-use Rattle.ix_model.specs.rows.Outcomes.{Pass}
-use Rattle.ix_model.specs.rows.Rows.{observe, affect, change_open, only_if}
+use Rattle.ix_label.specs.{Category.{Categories, join, leq, same}, Lattice.{same-decides, join-absorbs}}
+use Rattle.ix_model.specs.{world.World.{Frame, Object, Process, Open, at, living, is_pipe}, history.Freshness.{Way, Reading, Writing}}
+use Rattle.ix_model.specs.rows.{Outcomes.Pass, Rows.{observe, affect, change_open, only_if}, Walks.OpenFile, OnDescriptors.float_entry}
 use Rattle.ix_model.specs.rows.Rows as rows
-use Rattle.ix_model.specs.rows.Walks.{OpenFile}
-use Rattle.ix_model.specs.rows.OnDescriptors.{float_entry}
-use Rattle.ix_model.specs.history.Freshness.{Way, Reading, Writing}
-use Rattle.ix_model.proofs.tables.Tables.{change_same}
-use Rattle.ix_model.proofs.words.Standing.{behind_is}
+use Rattle.ix_model.proofs.{tables.Tables.change_same, words.{Standing.behind_is, Transfers.one_there}}
 use Rattle.ix_fresh.specs.Known.{Known, ChangeNothing, look}
-use Rattle.ix_model.proofs.words.Transfers.{one_there}
 
 adds_nothing : (a b : Categories) → leq a b ≡ true → same (join b a) b ≡ true
 adds_nothing a b low = (same-decides (join b a) b).1 (join-absorbs a b low)

@@ -1,27 +1,13 @@
 -- What stands behind a descriptor before and after a step, and which of its labels stay.
 use Rattle.std.proofs.Common.{◌≡◌, ◌==◌, ◌&&◌, ℕ, false, true≢false, Option, Some, option_map, refl, sym, ap, ◌∙◌, inl, inr}
-use Rattle.std.specs.Option.{option_map_or}
-use Rattle.std.proofs.lemmas.Bool.{not-true, eq-eqb}
-use Rattle.std.proofs.lemmas.Bool.Decides.{eqb_tells}
+use Rattle.std.{specs.Option.option_map_or, proofs.lemmas.Bool.{not-true, eq-eqb, Decides.eqb_tells}}
 use Rattle.ix_label.specs.Category.{bottom}
-use Rattle.ix_model.specs.world.World.{World, Frame, Object, Process, Open, at, living, is_dir}
-use Rattle.ix_model.specs.rows.Walks.{OpenFile, behind, behind_of, entry_at}
-use Rattle.ix_model.specs.history.Step.{step_of}
-use Rattle.ix_model.specs.history.AuditLog.{label_at, of_process}
-use Rattle.ix_model.specs.history.Freshness.{closes}
-use Rattle.ix_model.specs.history.Events.{Event}
-use Rattle.ix_model.specs.laws.Sound.{Sound}
-use Rattle.ix_model.proofs.words.Living.{is_living}
-use Rattle.ix_model.proofs.words.Standing.{stands}
-use Rattle.ix_model.proofs.frames.Claimants.{is_behind}
-use Rattle.ix_model.proofs.sound.Carried.{there_is}
-use Rattle.ix_model.proofs.sound.Soundly.{sound_step}
+use Rattle.ix_model.specs.{world.World.{World, Frame, Object, Process, Open, at, living, is_dir}, rows.Walks.{OpenFile, behind, behind_of, entry_at}}
+use Rattle.ix_model.specs.{history.{Step.step_of, AuditLog.{label_at, of_process}, Freshness.closes, Events.Event}, laws.Sound.Sound}
+use Rattle.ix_model.proofs.{words.{Living.is_living, Standing.stands}, frames.Claimants.is_behind, sound.{Carried.there_is, Soundly.sound_step}}
 use Rattle.ix_model.proofs.told.Touching.{few_labels}
-use Rattle.ix_fresh.specs.Touched.{Stays, LabelsStayBut, target, entry_target, is_one, label_of_entry}
-use Rattle.ix_fresh.specs.Laws.{is_closed}
-use Rattle.ix_fresh.proofs.Tables.{HasFd}
-use Rattle.ix_fresh.proofs.Staying.{SameObject, SameOpen}
-use Rattle.ix_fresh.proofs.Kept.{step_kept}
+use Rattle.ix_fresh.specs.{Touched.{Stays, LabelsStayBut, target, entry_target, is_one, label_of_entry}, Laws.is_closed}
+use Rattle.ix_fresh.proofs.{Tables.HasFd, Staying.{SameObject, SameOpen}, Kept.step_kept}
 
 pub turned : (n m : ℕ) → (n == m) ≡ (m == n)
 turned n m = elim (eqb_tells n m) [

@@ -1,21 +1,15 @@
 -- The spots of fresh descriptors, along histories.
-use Rattle.std.proofs.Common.{◌≡◌, ◌==◌, ◌+◌, ◌++◌, length, arith, ◌&&◌, ◌||◌, not, ℕ, suc, Bool, true, false, true≢false, List, [], ◌∷◌, Option}
-use Rattle.std.proofs.Common.{Some, None, is_some, option_map, if◌then◌else◌, refl, sym, ap, ◌∙◌}
+use Rattle.std.proofs.Common.{◌≡◌, ◌==◌, ◌+◌, ◌++◌, length, arith, ◌&&◌, ◌||◌, not, ℕ, suc, Bool, true, false, true≢false, List, [], ◌∷◌, Option, Some, None}
+use Rattle.std.proofs.Common.{is_some, option_map, if◌then◌else◌, refl, sym, ap, ◌∙◌}
 use Rattle.std.proofs.lemmas.Bool.{and_parts, and_right, eqb-true}
-use Rattle.ix_model.specs.world.World.{World, Frame, Open}
-use Rattle.ix_model.specs.rows.Walks.{OpenFile, behind}
-use Rattle.ix_model.specs.history.Freshness.{Way, Reading, Writing, refreshes, closes, relabels, fresh_after, is_fresh}
-use Rattle.ix_model.specs.history.Step.{step, step_of, run}
-use Rattle.ix_model.specs.history.Events.{Op, Event}
-use Rattle.ix_model.specs.history.Events as op
-use Rattle.ix_model.specs.laws.Sound.{Sound}
+use Rattle.ix_model.specs.{world.World.{World, Frame, Open}, rows.Walks.{OpenFile, behind}, history.Step.{step, step_of, run}, history.Events.{Op, Event}}
+use Rattle.ix_model.specs.{history.Freshness.{Way, Reading, Writing, refreshes, closes, relabels, fresh_after, is_fresh}, laws.Sound.Sound}
 use Rattle.ix_model.specs.declared.reply.Reply.{Reply}
+use Rattle.ix_model.specs.history.Events as op
 use Rattle.ix_model.specs.declared.reply.Reply.TheVariants as reply
 use Rattle.ix_model.proofs.sound.Reaching.{sound_run}
-use Rattle.ix_fresh.specs.Touched.{touches}
-use Rattle.ix_fresh.specs.Laws.{Spot, is_closed, spot_behind, fresh_spot, unless, spot_after}
-use Rattle.ix_fresh.proofs.Remaining.{remains}
-use Rattle.ix_fresh.proofs.Freshly.{read_facts, write_facts, relabels_as_touched, fresh_is_known, fresh_more}
+use Rattle.ix_fresh.specs.{Touched.touches, Laws.{Spot, is_closed, spot_behind, fresh_spot, unless, spot_after}}
+use Rattle.ix_fresh.proofs.{Remaining.remains, Freshly.{read_facts, write_facts, relabels_as_touched, fresh_is_known, fresh_more}}
 
 abbrev spot_of : OpenFile → Spot
 spot_of b = record { entry = b.id; object = b.entry.object }

@@ -1,32 +1,21 @@
 -- What every row leaves of descriptors, of the open entries and objects behind them, and of their labels.
-use Rattle.std.proofs.Common.{◌≡◌, ◌==◌, ◌&&◌, ℕ, Bool, true, false, true≢false, List, [], ◌∷◌, position, Option, Some, None, is_some, if◌then◌else◌, refl, sym, ap, ◌∙◌, inl, inr}
+use Rattle.std.proofs.Common.{◌≡◌, ◌==◌, ◌&&◌, ℕ, Bool, true, false, true≢false, List, [], ◌∷◌, position, Option, Some, None, is_some, if◌then◌else◌, refl, sym}
+use Rattle.std.proofs.Common.{ap, ◌∙◌, inl, inr}
 use Rattle.std.specs.Option.{option_map_or}
-use Rattle.std.proofs.lemmas.Bool.{and_parts, eq-eqb}
-use Rattle.std.proofs.lemmas.Bool.Decides.{eqb_tells}
-use Rattle.std.proofs.lemmas.List.{get_or-set_same, get_or-set_other}
-use Rattle.std.proofs.lemmas.List.Quantifiers.{position-Some}
+use Rattle.std.proofs.lemmas.{Bool.{and_parts, eq-eqb, Decides.eqb_tells}, List.{get_or-set_same, get_or-set_other, Quantifiers.position-Some}}
 use Rattle.ix_label.specs.Category.{Categories, bottom, join}
-use Rattle.ix_model.specs.world.Naming.{PathOf}
-use Rattle.ix_model.specs.world.Privs.{no_privileges}
-use Rattle.ix_model.specs.world.Numbers.{free_inode, free_pipe}
-use Rattle.ix_model.specs.world.World.{Frame, Object, Process, Open, at, put, lowest_free, living, is_dir, is_ended, no_claims}
-use Rattle.ix_model.specs.rows.Outcomes.{Outcome, Refuse, Pass, Row}
-use Rattle.ix_model.specs.rows.Rows.{◌>>=◌, on_pass, process, change_process, change_object, put_object, put_process, add_process, put_open, change_open, observe, affect}
+use Rattle.ix_model.specs.{world.Naming.PathOf, world.Privs.no_privileges, world.Numbers.{free_inode, free_pipe}, rows.Outcomes.{Outcome, Refuse, Pass, Row}}
+use Rattle.ix_model.specs.{world.World.{Frame, Object, Process, Open, at, put, lowest_free, living, is_dir, is_ended, no_claims}, rows.Auditing.logged}
+use Rattle.ix_model.specs.{rows.OnPaths.new_object, rows.OnDescriptors.float_entry, rows.OnProcesses.{is_child, end_process}}
+use Rattle.ix_model.specs.declared.{audit.AuditLine.AuditLine, reply.Kind.Kind}
+use Rattle.ix_model.specs.rows.Rows.{◌>>=◌, on_pass, process, change_process, change_object, put_object, put_process, add_process, put_open, change_open}
+use Rattle.ix_model.specs.rows.Rows.{observe, affect}
 use Rattle.ix_model.specs.rows.Walks.{OpenFile, behind, node, child, lacking, looking_into, walk_from, walk, walked_to, object_at, opened}
 use Rattle.ix_model.specs.rows.Walks as sought
-use Rattle.ix_model.specs.rows.Auditing.{logged}
-use Rattle.ix_model.specs.rows.OnPaths.{new_object}
-use Rattle.ix_model.specs.rows.OnDescriptors.{float_entry}
-use Rattle.ix_model.specs.rows.OnProcesses.{is_child, end_process}
-use Rattle.ix_model.specs.declared.audit.AuditLine.{AuditLine}
-use Rattle.ix_model.specs.declared.reply.Kind.{Kind}
 use Rattle.ix_model.specs.declared.reply.Kind.TheVariants as kind
-use Rattle.ix_model.proofs.tables.FreeNumbers.{lowest_free_is, free_inode_is, free_pipe_is}
-use Rattle.ix_model.proofs.words.Living.{is_living, not_ended}
-use Rattle.ix_model.proofs.words.Keeps.{Holds, Keeps, keeping, keeping_tests, keeps_only_if}
-use Rattle.ix_model.proofs.words.Ends.{Ends, ends_more, ends_bind}
-use Rattle.ix_model.proofs.words.Lasts.{Lasting, lasting_itself, lasting_change, lasting_put}
-use Rattle.ix_model.proofs.words.Rowwise.{keeps_bind_frame, keeps_bind_some}
+use Rattle.ix_model.proofs.{tables.FreeNumbers.{lowest_free_is, free_inode_is, free_pipe_is}, words.Living.{is_living, not_ended}}
+use Rattle.ix_model.proofs.{words.Keeps.{Holds, Keeps, keeping, keeping_tests, keeps_only_if}, words.Ends.{Ends, ends_more, ends_bind}}
+use Rattle.ix_model.proofs.{words.Lasts.{Lasting, lasting_itself, lasting_change, lasting_put}, words.Rowwise.{keeps_bind_frame, keeps_bind_some}}
 use Rattle.ix_fresh.proofs.Tables.{Both, both_itself, both_change, both_gone, both_new, HasFd, has_elsewhere, has_changed, has_pushed}
 
 -- ---- what is kept

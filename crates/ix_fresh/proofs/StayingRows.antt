@@ -1,40 +1,27 @@
 -- The rows leave descriptors, and what stands behind them.
 use Rattle.std.proofs.Common.{◌≡◌, ◌==◌, ℕ, Bool, true, false, true≢false, List, [], ◌∷◌, Option, Some, None, option_map, unwrap_or, refl, sym, ap, ◌∙◌}
-use Rattle.std.specs.Option.{option_map_or}
-use Rattle.std.specs.List.{range_with_len}
+use Rattle.std.{specs.{Option.option_map_or, List.range_with_len}, proofs.lemmas.Bool.eq-eqb}
 use Rattle.ix_label.specs.Category.{Categories}
-use Rattle.ix_model.specs.world.Naming.{PathOf}
-use Rattle.ix_model.specs.world.World.{Frame, Object, Process, at, is_dir}
-use Rattle.ix_model.specs.rows.Outcomes.{Outcome, Refuse, Pass, Row}
-use Rattle.ix_model.specs.rows.Rows.{◌>>=◌, on_pass, pass, put_object, put_open}
+use Rattle.ix_model.specs.{world.{Naming.PathOf, World.{Frame, Object, Process, at, is_dir}}, rows.Outcomes.{Outcome, Refuse, Pass, Row}, rows.Table.row}
+use Rattle.ix_model.specs.{rows.Rows.{◌>>=◌, on_pass, pass, put_object, put_open}, rows.OnProcesses.{fork, exec, exit, wait_child}}
+use Rattle.ix_model.specs.history.{AuditLog.object_of_path, Events.Op}
+use Rattle.ix_model.specs.declared.{call.{Keep.Keep, Mode.Mode}, privs.PrivSet.PrivSet, refusal.Refusal.Refusal, reply.{Kind.Kind, Reply.Reply}}
 use Rattle.ix_model.specs.rows.Walks.{OpenFile, Spot, Sought, behind, node, walk, walked_to, found_spot, vacant, object_at, spot_at, missing}
 use Rattle.ix_model.specs.rows.Walks as sought
 use Rattle.ix_model.specs.rows.Lifetimes.{let_go_object, let_go_open, let_go_claim, let_go, let_go_if_held, let_go_each, let_go_all, has_lost}
 use Rattle.ix_model.specs.rows.OnPaths.{make, create_at, make_dir, open_at, link_at, unlink_at, remove_dir, change_dir, stat_at, list_at}
 use Rattle.ix_model.specs.rows.OnDescriptors.{LengthChecks, read_fd, write_fd, cut_fd, seek_fd, dup_fd, close_fd, make_pipe, pex, unpex}
-use Rattle.ix_model.specs.rows.OnProcesses.{fork, exec, exit, wait_child}
-use Rattle.ix_model.specs.rows.OnLabels.{label_of, self_label, set_label, set_self, freeze, freeze_self, thaw, thaw_self, set_priv, drop_lic, grant_lic, set_ceiling, read_log}
-use Rattle.ix_model.specs.rows.Table.{row}
-use Rattle.ix_model.specs.history.AuditLog.{object_of_path}
-use Rattle.ix_model.specs.history.Events.{Op}
+use Rattle.ix_model.specs.rows.OnLabels.{label_of, self_label, set_label, set_self, freeze, freeze_self, thaw, thaw_self, set_priv, drop_lic, grant_lic}
+use Rattle.ix_model.specs.rows.OnLabels.{set_ceiling, read_log}
 use Rattle.ix_model.specs.history.Events as op
-use Rattle.ix_model.specs.declared.call.Keep.{Keep}
-use Rattle.ix_model.specs.declared.call.Mode.{Mode}
-use Rattle.ix_model.specs.declared.privs.PrivSet.{PrivSet}
-use Rattle.ix_model.specs.declared.refusal.Refusal.{Refusal}
-use Rattle.ix_model.specs.declared.reply.Kind.{Kind}
 use Rattle.ix_model.specs.declared.reply.Kind.TheVariants as kind
-use Rattle.ix_model.specs.declared.reply.Reply.{Reply}
-use Rattle.ix_model.proofs.words.Keeps.{Holds, Keeps, keeps_bind, keeps_then, keeps_pass, keeps_need, keeps_object, keeps_only_if}
+use Rattle.ix_model.proofs.{words.Keeps.{Holds, Keeps, keeps_bind, keeps_then, keeps_pass, keeps_need, keeps_object, keeps_only_if}, words.Turns.holds_more}
+use Rattle.ix_model.proofs.{words.Rowwise.{keeps_bind_frame, keeps_bind_some}, refused.Seeing.{seen_nothing, ends_seen_walk}}
 use Rattle.ix_model.proofs.words.Ends.{Ends, Anything, ends_kept, ends_bind, ends_then, ends_pass, ends_frame, ends_caller, ends_there, ends_opened}
-use Rattle.ix_model.proofs.words.Turns.{holds_more}
-use Rattle.ix_model.proofs.refused.Seeing.{seen_nothing, ends_seen_walk}
-use Rattle.ix_model.proofs.words.Rowwise.{keeps_bind_frame, keeps_bind_some}
-use Rattle.std.proofs.lemmas.Bool.{eq-eqb}
 use Rattle.ix_fresh.specs.Touched.{object_behind, entry_behind, target, entry_target}
-use Rattle.ix_fresh.proofs.Staying.{Kept, k_bind_process, k_open, k_second_open, k_pipe, k_first_fd, k_two_fds, R, r_itself, May, Gives, words}
-use Rattle.ix_fresh.proofs.Staying.{bind_given, gives_bind, walk_lacks, walk_finds, k_observe, k_affect, k_float_entry, k_walked_to, k_object_at}
-use Rattle.ix_fresh.proofs.Staying.{k_opened, k_object, k_no_object, k_no_open}
+use Rattle.ix_fresh.proofs.Staying.{Kept, k_bind_process, k_open, k_second_open, k_pipe, k_first_fd, k_two_fds, R, r_itself, May, Gives, words, bind_given}
+use Rattle.ix_fresh.proofs.Staying.{gives_bind, walk_lacks, walk_finds, k_observe, k_affect, k_float_entry, k_walked_to, k_object_at, k_opened, k_object}
+use Rattle.ix_fresh.proofs.Staying.{k_no_object, k_no_open}
 
 module _ (f : Frame) (pid : ℕ) (to through : Option ℕ) (gone : ℕ → Bool) (loses : Bool) where
   abbrev S : Frame → Type 0

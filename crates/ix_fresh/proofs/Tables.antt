@@ -1,11 +1,8 @@
 -- What stands at one number in two tables, and the descriptors of processes that live in both.
 use Rattle.std.proofs.Common.{◌≡◌, ◌≢◌, ℕ, List, [], ◌∷◌, ◌++◌, Option, Some, None, option_map, sym, ap, ◌∙◌, subst, inl, inr}
-use Rattle.std.proofs.lemmas.Bool.Decides.{eqb_tells}
-use Rattle.std.proofs.lemmas.List.{get_or-set_other, get_or_append_left}
+use Rattle.std.proofs.lemmas.{Bool.Decides.eqb_tells, List.{get_or-set_other, get_or_append_left}}
 use Rattle.ix_model.specs.world.World.{Process, at, put, change, living}
-use Rattle.ix_model.proofs.tables.Tables.{at_changed}
-use Rattle.ix_model.proofs.tables.Finds.{at_put, at_change, in_table}
-use Rattle.ix_model.proofs.words.Living.{is_living, not_ended, lives_as}
+use Rattle.ix_model.proofs.{tables.{Tables.at_changed, Finds.{at_put, at_change, in_table}}, words.Living.{is_living, not_ended, lives_as}}
 
 -- ---- what stands in both
 -- S of what stands at one number in the one table and in the other

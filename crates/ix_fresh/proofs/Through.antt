@@ -1,15 +1,10 @@
 -- What a read or a write through a descriptor leaves, where it is answered.
 use Rattle.std.proofs.Common.{◌≡◌, ℕ, true, false, true≢false, List, Option, Some, refl, sym, ap, ◌∙◌, subst, inl, inr}
 use Rattle.std.proofs.lemmas.Bool.{not-false}
-use Rattle.ix_label.specs.Category.{Categories, join, leq}
-use Rattle.ix_label.specs.Lattice.{leq-refl, leq-trans, leq-join_left, leq-join_right, join-least}
-use Rattle.ix_model.specs.world.World.{Frame, Object, Process, Open, at, change, living, is_pipe}
-use Rattle.ix_model.specs.rows.Walks.{OpenFile, behind}
-use Rattle.ix_model.specs.rows.OnDescriptors.{LengthChecks, read_fd, write_fd}
-use Rattle.ix_model.specs.declared.reply.Reply.{Reply}
-use Rattle.ix_model.proofs.tables.Finds.{at_change}
-use Rattle.ix_model.proofs.words.Ends.{Ends, Anything, ends_then}
-use Rattle.ix_model.proofs.words.Standing.{behind_is}
+use Rattle.ix_label.specs.{Category.{Categories, join, leq}, Lattice.{leq-refl, leq-trans, leq-join_left, leq-join_right, join-least}}
+use Rattle.ix_model.specs.{world.World.{Frame, Object, Process, Open, at, change, living, is_pipe}, declared.reply.Reply.Reply}
+use Rattle.ix_model.specs.rows.{Walks.{OpenFile, behind}, OnDescriptors.{LengthChecks, read_fd, write_fd}}
+use Rattle.ix_model.proofs.{tables.Finds.at_change, words.{Ends.{Ends, Anything, ends_then}, Standing.behind_is}}
 use Rattle.ix_model.proofs.words.Transfers.{one_there, ends_looks, ends_affects, ends_read, ends_read_behind, ends_write, ends_floated}
 
 -- ---- the open entry

@@ -5,12 +5,7 @@ use mathlib.Core.Option.{Option as Home, some}
 use native.Mathlib.Decide.{ℕ_discrete}
 use lib.ListN.{get_elem?}
 use Rattle.atomic_table.specs.Table.{State}
-use Rattle.ix_gate.specs.declared.view.View.{View}
-use Rattle.ix_gate.specs.declared.view.Role.{Role}
-use Rattle.ix_gate.specs.declared.view.Role.TheVariants.{Numbered}
-use Rattle.ix_gate.specs.declared.view.Stage.{Stage}
-use Rattle.ix_gate.specs.declared.view.Stage.TheVariants.{Idle, Waits, Holds}
-use Rattle.ix_gate.specs.View.{HasNumber}
+use Rattle.ix_gate.specs.{declared.view.{View.View, Role.{Role, TheVariants.Numbered}, Stage.{Stage, TheVariants.{Idle, Waits, Holds}}}, View.HasNumber}
 use Rattle.ix_gate.specs.Rule.{total_turns, IsNumbered, Book, HasTicket, Stands}
 use Rattle.ix_gate.proofs.Views.{same_at, Rule}
 

@@ -1,25 +1,14 @@
 -- What is left of a table where one seat has ended all others.
 use Rattle.std.proofs.Common.{◌≡◌, ℕ, ◌<◌, List, [], ◌++◌, get_or, Option, None, Some, refl, ap, sym, ◌∙◌, subst, ⊎_elim, inl, inr, arith}
-use Rattle.std.specs.Prelude.{All, Contains}
-use Rattle.std.proofs.lemmas.List.{append-nil}
-use Rattle.std.proofs.lemmas.List.Elements.{Contains-get_or}
+use Rattle.std.{specs.Prelude.{All, Contains}, proofs.lemmas.List.{append-nil, Elements.Contains-get_or}}
 use mathlib.Core.Logic.{dite}
 use mathlib.Core.Option.{Option as Home, some, some-injective}
 use native.Mathlib.Decide.{dec_lt}
 use lib.ListN.{get_elem?}
-use Rattle.atomic_table.specs.Table.{State, Me, Final, Seen}
-use Rattle.atomic_table.specs.Seated.{TableId}
-use Rattle.ix_gate.specs.declared.view.View.{View}
-use Rattle.ix_gate.specs.declared.view.Role.{Role}
-use Rattle.ix_gate.specs.declared.view.Stage.TheVariants.{Idle}
-use Rattle.ix_gate.specs.History.{entries_of}
-use Rattle.ix_gate.specs.View.{HasNumber}
-use Rattle.ix_gate.specs.Rule.{Book, Stands, IsKept}
-use Rattle.ix_gate.specs.Seat.{SeatState, StandsFor}
-use Rattle.ix_gate.specs.AtRest.{IsAtRest, state_of}
-use Rattle.ix_gate.proofs.Entries.{entries_of-rest, entries_of-front, nil_from_entries, entries_of-has}
-use Rattle.ix_gate.proofs.Views.{same_at, Rule}
-use Rattle.ix_gate.proofs.Resting.{idle_of}
+use Rattle.atomic_table.specs.{Table.{State, Me, Final, Seen}, Seated.TableId}
+use Rattle.ix_gate.specs.{declared.view.{View.View, Role.Role, Stage.TheVariants.Idle}, History.entries_of, View.HasNumber, Rule.{Book, Stands, IsKept}}
+use Rattle.ix_gate.specs.{Seat.{SeatState, StandsFor}, AtRest.{IsAtRest, state_of}}
+use Rattle.ix_gate.proofs.{Entries.{entries_of-rest, entries_of-front, nil_from_entries, entries_of-has}, Views.{same_at, Rule}, Resting.idle_of}
 
 module _ {M B E : Type 0} (base_of : M → B) (history_of : M → List E) (seat : E → ℕ) (base : B) (seats : ℕ) where
   -- the slot has a machine, with the base and the history that the seat knows, and all of that history is by numbers that the seat stands for

@@ -4,18 +4,10 @@ use mathlib.Core.Logic.{dite}
 use mathlib.Core.Option.{Option as Home, none, some}
 use native.Mathlib.Decide.{ℕ_discrete}
 use lib.ListN.{get_elem?}
-use Rattle.atomic_table.specs.Table.{Me, step, keeps, Allows}
-use Rattle.atomic_table.proofs.Lists.{set_here, set_else}
-use Rattle.ix_gate.specs.declared.view.View.{View}
-use Rattle.ix_gate.specs.declared.view.Role.{Role}
-use Rattle.ix_gate.specs.declared.view.Role.TheVariants.{Numbered}
-use Rattle.ix_gate.specs.declared.view.Stage.{Stage}
-use Rattle.ix_gate.specs.declared.view.Stage.TheVariants.{Idle, Waits, Holds}
-use Rattle.ix_gate.specs.View.{HasNumber, with_ticket}
-use Rattle.ix_gate.specs.Rule.{most_turns, total_turns, Book, HasTicket, IsQueued, DrewLast, Stands, Fits}
-use Rattle.ix_gate.specs.Steps.{Draws}
-use Rattle.ix_gate.proofs.Counts.{put, put_here, put_else, put_holds, total_turns-put, total_turns_fit, mod_fits}
-use Rattle.ix_gate.proofs.Serving.{is_served}
+use Rattle.atomic_table.{specs.Table.{Me, step, keeps, Allows}, proofs.Lists.{set_here, set_else}}
+use Rattle.ix_gate.specs.{declared.view.{View.View, Role.{Role, TheVariants.Numbered}, Stage.{Stage, TheVariants.{Idle, Waits, Holds}}}, Steps.Draws}
+use Rattle.ix_gate.specs.{View.{HasNumber, with_ticket}, Rule.{most_turns, total_turns, Book, HasTicket, IsQueued, DrewLast, Stands, Fits}}
+use Rattle.ix_gate.proofs.{Counts.{put, put_here, put_else, put_holds, total_turns-put, total_turns_fit, mod_fits}, Serving.is_served}
 use Rattle.ix_gate.proofs.Views.{at_lt, same_at, each_set, kept_set, refits, fits_still, Rule}
 
 -- the book after the seat at place id, of the number n, drew

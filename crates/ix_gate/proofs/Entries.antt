@@ -1,13 +1,11 @@
 -- The entries of one number, in a history and in its beginnings.
-use Rattle.std.proofs.Common.{◌≡◌, ◌≢◌, ℕ, zero, suc, ◌+◌, ◌≤◌, ◌⊎◌, List, [], ◌∷◌, ◌++◌, length, refl, ap, sym, ◌∙◌, ⊎_elim, inl, inr, arith, length-append, eqb, cond, ne_eqb, eq-eqb}
-use Rattle.std.specs.Prelude.{Contains}
-use Rattle.std.proofs.lemmas.List.{append-nil, nil_from_length}
-use Rattle.std.proofs.lemmas.List.Elements.{filter-append}
+use Rattle.std.proofs.Common.{◌≡◌, ◌≢◌, ℕ, zero, suc, ◌+◌, ◌≤◌, ◌⊎◌, List, [], ◌∷◌, ◌++◌, length, refl, ap, sym, ◌∙◌, ⊎_elim, inl, inr, arith, length-append}
+use Rattle.std.proofs.Common.{eqb, cond, ne_eqb, eq-eqb}
+use Rattle.std.{specs.Prelude.Contains, proofs.lemmas.List.{append-nil, nil_from_length, Elements.filter-append}}
 use mathlib.Core.Logic.{dite}
 use mathlib.Core.List.{IsPrefix}
 use native.Mathlib.Decide.{ℕ_discrete}
-use Rattle.ix_gate.specs.History.{entries_of, Grows, longer}
-use Rattle.ix_gate.proofs.Prefixes.{prefix_shorter, by_length, filter-between}
+use Rattle.ix_gate.{specs.History.{entries_of, Grows, longer}, proofs.Prefixes.{prefix_shorter, by_length, filter-between}}
 
 module _ {A : Type 0} where
   pub contains-nil : (x : A) → Contains [] x → ⊥

@@ -1,8 +1,7 @@
 -- For whom a seat stands once others were joined into it.
 use Rattle.std.proofs.Common.{◌≡◌, ℕ, zero, suc, Some, ◌<◌, List, [], ◌∷◌, ◌++◌, length, map, get_or, take, drop, refl, ap, sym, ◌∙◌, subst, inl, inr, arith}
 use Rattle.std.specs.Prelude.{All, Contains, slice_get}
-use Rattle.std.proofs.lemmas.List.Elements.{All-map, All-contains, Contains-append_left, Contains-append_right}
-use Rattle.std.proofs.Math.Seq.{take-append_seam}
+use Rattle.std.proofs.{lemmas.List.Elements.{All-map, All-contains, Contains-append_left, Contains-append_right}, Math.Seq.take-append_seam}
 use Rattle.ix_gate.specs.Seat.{SeatState, StandsFor}
 
 module _ {B E : Type 0} (k l : SeatState B E) (ended : List (ℕ × List E)) (number : l.number ≡ k.number) (more : l.ended ≡ k.ended ++ ended) where

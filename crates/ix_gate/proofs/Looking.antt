@@ -6,18 +6,10 @@ use mathlib.Core.List.{IsPrefix}
 use native.Mathlib.Decide.{ℕ_discrete}
 use lib.ListN.{get_elem?}
 use lib.Seq.{set-get_or}
-use Rattle.atomic_table.specs.Table.{State, Me, step, keeps, takes, Allows}
-use Rattle.atomic_table.proofs.Lists.{set_here}
-use Rattle.ix_gate.specs.declared.view.View.{View}
-use Rattle.ix_gate.specs.declared.view.Role.{Role}
-use Rattle.ix_gate.specs.declared.view.Stage.{Stage}
-use Rattle.ix_gate.specs.declared.view.Stage.TheVariants.{Idle, Waits, Holds}
-use Rattle.ix_gate.specs.View.{Agrees, with_look, with_free_look}
-use Rattle.ix_gate.specs.Rule.{Book, HasTicket, DrewLast, Stands, Fits, IsKept}
-use Rattle.ix_gate.specs.Steps.{Takes, Looks, FreeLooks}
-use Rattle.ix_gate.proofs.Prefixes.{prefix_shorter}
-use Rattle.ix_gate.proofs.Counts.{total_turns_fit}
-use Rattle.ix_gate.proofs.Serving.{is_served, seen_served}
+use Rattle.atomic_table.{specs.Table.{State, Me, step, keeps, takes, Allows}, proofs.Lists.set_here}
+use Rattle.ix_gate.specs.{declared.view.{View.View, Role.Role, Stage.{Stage, TheVariants.{Idle, Waits, Holds}}}, View.{Agrees, with_look, with_free_look}}
+use Rattle.ix_gate.specs.{Rule.{Book, HasTicket, DrewLast, Stands, Fits, IsKept}, Steps.{Takes, Looks, FreeLooks}}
+use Rattle.ix_gate.proofs.{Prefixes.prefix_shorter, Counts.total_turns_fit, Serving.{is_served, seen_served}}
 use Rattle.ix_gate.proofs.Views.{at_lt, same_at, each_set, queued_set, agrees_published, fits_at, fits_still, ruled, unmoved, MaySet, Rule}
 
 -- what others know stays so where the slot leaves its home

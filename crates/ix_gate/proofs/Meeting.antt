@@ -1,21 +1,14 @@
 -- What a seat has seen goes to another: a note is cut off and taken in, a seat is joined into another, and a look shows what was told.
-use Rattle.std.proofs.Common.{◌≡◌, ◌≢◌, ℕ, ◌<◌, ◌⊎◌, List, [], ◌∷◌, ◌++◌, length, set, Option, None, Some, refl, ap, sym, ◌∙◌, subst, ⊎_elim, inl, inr, arith, eqb, cond, ne_eqb, eq-eqb}
-use Rattle.std.specs.Prelude.{Contains}
-use Rattle.std.proofs.lemmas.List.Elements.{Contains-append_cases}
+use Rattle.std.proofs.Common.{◌≡◌, ◌≢◌, ℕ, ◌<◌, ◌⊎◌, List, [], ◌∷◌, ◌++◌, length, set, Option, None, Some, refl, ap, sym, ◌∙◌, subst, ⊎_elim, inl, inr, arith}
+use Rattle.std.proofs.Common.{eqb, cond, ne_eqb, eq-eqb}
+use Rattle.std.{specs.Prelude.Contains, proofs.lemmas.List.Elements.Contains-append_cases}
 use mathlib.Core.Option.{Option as Home, some}
 use mathlib.Core.List.{IsPrefix}
 use lib.ListN.{get_elem?}
-use Rattle.atomic_table.specs.Table.{State, Splits, Joins}
-use Rattle.atomic_table.proofs.Lists.{set_else}
-use Rattle.ix_gate.specs.declared.view.View.{View}
-use Rattle.ix_gate.specs.declared.view.Role.{Role}
-use Rattle.ix_gate.specs.declared.view.Role.TheVariants.{Nobody, Numbered}
-use Rattle.ix_gate.specs.declared.view.Stage.TheVariants.{Idle}
-use Rattle.ix_gate.specs.History.{entries_of}
-use Rattle.ix_gate.specs.View.{HasNumber, number_of, fresh, spent_view, note, with_note, with_seat}
-use Rattle.ix_gate.specs.Rule.{Book, HasTicket, Fits}
-use Rattle.ix_gate.proofs.Prefixes.{by_length}
-use Rattle.ix_gate.proofs.Entries.{contains-nil, contains-cons, entries_of-longer}
+use Rattle.atomic_table.{specs.Table.{State, Splits, Joins}, proofs.Lists.set_else}
+use Rattle.ix_gate.specs.{declared.view.{View.View, Role.{Role, TheVariants.{Nobody, Numbered}}, Stage.TheVariants.Idle}, History.entries_of}
+use Rattle.ix_gate.specs.{View.{HasNumber, number_of, fresh, spent_view, note, with_note, with_seat}, Rule.{Book, HasTicket, Fits}}
+use Rattle.ix_gate.proofs.{Prefixes.by_length, Entries.{contains-nil, contains-cons, entries_of-longer}}
 use Rattle.ix_gate.proofs.Views.{at_end, each_set, queued_set, queued_more, kept_set, kept_more, fits_still, ruled, Rule}
 
 module _ {M B E : Type 0} (base_of : M → B) (history_of : M → List E) (seat : E → ℕ) (base : B) (seats : ℕ) where

@@ -1,17 +1,12 @@
 -- A new table obeys the rule, and so it does where a number is made for a seat.
-use Rattle.std.proofs.Common.{◌≡◌, ◌≢◌, ℕ, zero, suc, ◌+◌, ◌%◌, ◌<◌, ◌≤◌, List, [], ◌∷◌, ◌++◌, length, get_or, set, Option, Some, refl, ap, sym, ◌∙◌, subst, ⊎_elim, inl, inr, arith}
+use Rattle.std.proofs.Common.{◌≡◌, ◌≢◌, ℕ, zero, suc, ◌+◌, ◌%◌, ◌<◌, ◌≤◌, List, [], ◌∷◌, ◌++◌, length, get_or, set, Option, Some, refl, ap, sym, ◌∙◌, subst}
+use Rattle.std.proofs.Common.{⊎_elim, inl, inr, arith}
 use mathlib.Core.Option.{Option as Home, none, some, some-injective}
 use lib.ListN.{get_elem?}
 use Rattle.atomic_table.specs.Table.{Me, step, keeps, Allows, Splits, opening}
-use Rattle.ix_gate.specs.declared.view.View.{View}
-use Rattle.ix_gate.specs.declared.view.Role.{Role}
-use Rattle.ix_gate.specs.declared.view.Role.TheVariants.{Nobody, Next, Made, Numbered}
-use Rattle.ix_gate.specs.declared.view.Stage.TheVariants.{Idle}
-use Rattle.ix_gate.specs.View.{fresh, first_view}
-use Rattle.ix_gate.specs.Rule.{most_turns, most_seats, Book, MayMake, HasTicket, Fits}
-use Rattle.ix_gate.specs.Steps.{MakesNumber}
-use Rattle.ix_gate.proofs.Entries.{contains-nil}
-use Rattle.ix_gate.proofs.Counts.{put, put_here, put_else, put_holds, total_turns-same, mod_fits}
+use Rattle.ix_gate.specs.{declared.view.{View.View, Role.{Role, TheVariants.{Nobody, Next, Made, Numbered}}, Stage.TheVariants.Idle}, View.{fresh, first_view}}
+use Rattle.ix_gate.specs.{Rule.{most_turns, most_seats, Book, MayMake, HasTicket, Fits}, Steps.MakesNumber}
+use Rattle.ix_gate.proofs.{Entries.contains-nil, Counts.{put, put_here, put_else, put_holds, total_turns-same, mod_fits}}
 use Rattle.ix_gate.proofs.Views.{at_end, each_set, queued_set, queued_more, kept_set, kept_more, fits_still, ruled, Rule}
 
 -- the book of a new table

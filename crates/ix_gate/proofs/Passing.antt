@@ -3,20 +3,11 @@ use Rattle.std.proofs.Common.{◌≡◌, ◌≢◌, ℕ, suc, ◌+◌, ◌%◌, 
 use mathlib.Core.Option.{Option as Home, none, some}
 use lib.ListN.{get_elem?}
 use base.Growing.{prefix_refl, prefix_trans}
-use Rattle.atomic_table.specs.Table.{Me, step, gives, Allows, put_back, rest}
-use Rattle.atomic_table.proofs.Lists.{set_else}
-use Rattle.ix_gate.specs.declared.view.View.{View}
-use Rattle.ix_gate.specs.declared.view.Role.{Role}
-use Rattle.ix_gate.specs.declared.view.Role.TheVariants.{Numbered}
-use Rattle.ix_gate.specs.declared.view.Stage.{Stage}
-use Rattle.ix_gate.specs.declared.view.Stage.TheVariants.{Idle, Waits, Holds}
-use Rattle.ix_gate.specs.History.{entries_of, Grows, KeepsEnded}
-use Rattle.ix_gate.specs.View.{HasNumber, number_of, with_turn}
+use Rattle.atomic_table.{specs.Table.{Me, step, gives, Allows, put_back, rest}, proofs.Lists.set_else}
+use Rattle.ix_gate.specs.{declared.view.{View.View, Role.{Role, TheVariants.Numbered}, Stage.{Stage, TheVariants.{Idle, Waits, Holds}}}, Steps.PassesOn}
+use Rattle.ix_gate.specs.{History.{entries_of, Grows, KeepsEnded}, View.{HasNumber, number_of, with_turn}}
 use Rattle.ix_gate.specs.Rule.{Book, HasTicket, IsQueued, DrewLast, Stands, Fits}
-use Rattle.ix_gate.specs.Steps.{PassesOn}
-use Rattle.ix_gate.proofs.Entries.{grows_prefix, grows_length, grows_other}
-use Rattle.ix_gate.proofs.Counts.{total_turns_fit, mod_fits}
-use Rattle.ix_gate.proofs.Views.{each_set, same_at, Rule}
+use Rattle.ix_gate.proofs.{Entries.{grows_prefix, grows_length, grows_other}, Counts.{total_turns_fit, mod_fits}, Views.{each_set, same_at, Rule}}
 
 -- the value in the slot that was taken last
 abbrev pub carried : {S : Type 0} → List (ℕ × S) → S → S

@@ -1,9 +1,7 @@
 -- Beginnings of one list, and what a filter keeps of them.
-use Rattle.std.proofs.Common.{◌≡◌, ◌+◌, ◌≤◌, ◌<◌, List, [], ◌∷◌, ◌++◌, length, refl, ap, sym, ◌∙◌, subst, ⊎_elim, arith, length-append, Bool, true, false, cond, leb}
-use Rattle.std.proofs.lemmas.Bool.Decides.{leb_tells}
-use Rattle.std.proofs.lemmas.List.{append-nil, nil_from_length}
-use Rattle.std.proofs.lemmas.List.Elements.{filter-append}
-use Rattle.std.specs.List.{filter}
+use Rattle.std.proofs.Common.{◌≡◌, ◌+◌, ◌≤◌, ◌<◌, List, [], ◌∷◌, ◌++◌, length, refl, ap, sym, ◌∙◌, subst, ⊎_elim, arith, length-append, Bool, true, false, cond}
+use Rattle.std.proofs.Common.{leb}
+use Rattle.std.{proofs.lemmas.{Bool.Decides.leb_tells, List.{append-nil, nil_from_length, Elements.filter-append}}, specs.List.filter}
 use mathlib.Core.List.{IsPrefix}
 use Rattle.ix_gate.specs.History.{longer, shorter}
 

@@ -1,18 +1,10 @@
 -- A seat between its calls: what it carries, and that each call leaves it at rest.
 use Rattle.std.proofs.Common.{◌≡◌, ℕ, ◌+◌, ◌<◌, ◌≤◌, ◌⊎◌, List, [], ◌∷◌, length, Option, None, Some, refl, ap, sym, ◌∙◌, subst, arith, le_refl}
 use mathlib.Core.List.{IsPrefix}
-use Rattle.atomic_table.specs.Table.{Me, Step, rest}
-use Rattle.atomic_table.specs.Seated.{TableId}
-use Rattle.ix_gate.specs.declared.view.View.{View}
-use Rattle.ix_gate.specs.declared.view.Role.{Role}
-use Rattle.ix_gate.specs.declared.view.Stage.{Stage}
-use Rattle.ix_gate.specs.declared.view.Stage.TheVariants.{Idle, Waits, Holds}
-use Rattle.ix_gate.specs.History.{entries_of, KeepsEnded}
-use Rattle.ix_gate.specs.View.{HasNumber, number_of, with_ticket, with_look, with_free_look, with_miss, with_turn, Agrees, IsServed}
-use Rattle.ix_gate.specs.Rule.{most_turns}
-use Rattle.ix_gate.specs.Steps.{Takes, FreeLooks}
-use Rattle.ix_gate.specs.Seat.{SeatState, LearnsServed}
-use Rattle.ix_gate.specs.AtRest.{taken_at, state_of, Carries, IsAtRest, HasLooked, TakesMachine}
+use Rattle.atomic_table.specs.{Table.{Me, Step, rest}, Seated.TableId}
+use Rattle.ix_gate.specs.{declared.view.{View.View, Role.Role, Stage.{Stage, TheVariants.{Idle, Waits, Holds}}}, History.{entries_of, KeepsEnded}}
+use Rattle.ix_gate.specs.{View.{HasNumber, number_of, with_ticket, with_look, with_free_look, with_miss, with_turn, Agrees, IsServed}, Rule.most_turns}
+use Rattle.ix_gate.specs.{Steps.{Takes, FreeLooks}, Seat.{SeatState, LearnsServed}, AtRest.{taken_at, state_of, Carries, IsAtRest, HasLooked, TakesMachine}}
 use Rattle.ix_gate.proofs.Passing.{carried}
 
 module _ {M E : Type 0} where

@@ -3,13 +3,8 @@ use Rattle.std.proofs.Common.{◌≡◌, ℕ, ◌≤◌, List, length, Option, �
 use mathlib.Core.Option.{some}
 use lib.ListN.{get_elem?}
 use Rattle.atomic_table.specs.Table.{State}
-use Rattle.ix_gate.specs.declared.view.View.{View}
-use Rattle.ix_gate.specs.declared.view.Stage.TheVariants.{Idle}
-use Rattle.ix_gate.specs.View.{IsServed}
-use Rattle.ix_gate.specs.Rule.{DrewLast}
-use Rattle.ix_gate.proofs.Prefixes.{prefix_length}
-use Rattle.ix_gate.proofs.Alone.{alone_served}
-use Rattle.ix_gate.proofs.Views.{seats_known, Rule}
+use Rattle.ix_gate.specs.{declared.view.{View.View, Stage.TheVariants.Idle}, View.IsServed, Rule.DrewLast}
+use Rattle.ix_gate.proofs.{Prefixes.prefix_length, Alone.alone_served, Views.{seats_known, Rule}}
 
 module _ {M B E : Type 0} (base_of : M → B) (history_of : M → List E) (seat : E → ℕ) (base : B) (seats : ℕ) where
   pub is_served : (s : State (Option M) (View B E)) (r : Rule base_of history_of seat base seats s) (id : ℕ) (v : View B E) (found : ℕ)

@@ -3,20 +3,11 @@ use Rattle.std.proofs.Common.{◌≡◌, ◌≢◌, ℕ, ◌+◌, ◌<◌, ◌�
 use mathlib.Core.Option.{Option as Home, none, some}
 use prog.Atomic.{either}
 use lib.ListN.{get_elem?}
-use Rattle.atomic_table.specs.Table.{State, Me, step, keeps, takes, Allows}
-use Rattle.atomic_table.proofs.Lists.{set_here, exchanged}
-use Rattle.ix_gate.specs.declared.view.View.{View}
-use Rattle.ix_gate.specs.declared.view.Role.{Role}
-use Rattle.ix_gate.specs.declared.view.Role.TheVariants.{Numbered}
-use Rattle.ix_gate.specs.declared.view.Stage.TheVariants.{Idle, Holds}
-use Rattle.ix_gate.specs.View.{HasNumber, with_ticket, with_look, with_miss}
-use Rattle.ix_gate.specs.Rule.{most_turns, Book, Stands, Fits, IsKept}
-use Rattle.ix_gate.specs.Steps.{TriesDraw}
-use Rattle.ix_gate.proofs.Counts.{put, put_here}
-use Rattle.ix_gate.proofs.Views.{at_lt, each_set, seats_known, fits_at, unmoved, MaySet, Rule}
-use Rattle.ix_gate.proofs.Drawing.{with_draw, draw_counted, draw_few, draw_queued, draw_stands, draw_fits, draw_fits_other}
-use Rattle.ix_gate.proofs.Looking.{away_stands, takes_from_home}
-use Rattle.ix_gate.proofs.Alone.{alone_served}
+use Rattle.atomic_table.{specs.Table.{State, Me, step, keeps, takes, Allows}, proofs.Lists.{set_here, exchanged}}
+use Rattle.ix_gate.specs.{declared.view.{View.View, Role.{Role, TheVariants.Numbered}, Stage.TheVariants.{Idle, Holds}}, Steps.TriesDraw}
+use Rattle.ix_gate.specs.{View.{HasNumber, with_ticket, with_look, with_miss}, Rule.{most_turns, Book, Stands, Fits, IsKept}}
+use Rattle.ix_gate.proofs.{Counts.{put, put_here}, Views.{at_lt, each_set, seats_known, fits_at, unmoved, MaySet, Rule}, Looking.{away_stands, takes_from_home}}
+use Rattle.ix_gate.proofs.{Drawing.{with_draw, draw_counted, draw_few, draw_queued, draw_stands, draw_fits, draw_fits_other}, Alone.alone_served}
 
 module _ {M B E : Type 0} (base_of : M → B) (history_of : M → List E) (seat : E → ℕ) (base : B) (seats : ℕ) where
   try_hit : (s : State (Option M) (View B E)) (r : Rule base_of history_of seat base seats s) (slots id : ℕ) (me : Me (Option M) (View B E)) (n old : ℕ)

@@ -1,18 +1,14 @@
 -- What the rule says of all views, where one of them changes.
-use Rattle.std.proofs.Common.{◌≡◌, ◌≢◌, ℕ, zero, suc, ◌<◌, ◌≤◌, ◌⊎◌, List, [], ◌∷◌, ◌++◌, length, get_or, set, Option, None, Some, refl, ap, sym, ◌∙◌, subst, ⊎_elim, inl, inr, arith}
+use Rattle.std.proofs.Common.{◌≡◌, ◌≢◌, ℕ, zero, suc, ◌<◌, ◌≤◌, ◌⊎◌, List, [], ◌∷◌, ◌++◌, length, get_or, set, Option, None, Some, refl, ap, sym, ◌∙◌, subst}
+use Rattle.std.proofs.Common.{⊎_elim, inl, inr, arith}
 use Rattle.std.specs.Prelude.{Contains}
 use mathlib.Core.Logic.{dite}
 use mathlib.Core.Option.{Option as Home, some, some-injective}
 use native.Mathlib.Decide.{ℕ_discrete}
 use lib.ListN.{get_elem?}
 use lib.Seq.{set-get_or}
-use Rattle.atomic_table.specs.Table.{State, Me, Act, Valid, keeps, stepped, carried_after}
-use Rattle.atomic_table.proofs.Lists.{at_set, set_here, set_else, at_longer}
-use Rattle.ix_gate.specs.declared.view.View.{View}
-use Rattle.ix_gate.specs.declared.view.Stage.{Stage}
-use Rattle.ix_gate.specs.declared.view.Stage.TheVariants.{Holds}
-use Rattle.ix_gate.specs.History.{entries_of}
-use Rattle.ix_gate.specs.View.{HasNumber, Agrees}
+use Rattle.atomic_table.{specs.Table.{State, Me, Act, Valid, keeps, stepped, carried_after}, proofs.Lists.{at_set, set_here, set_else, at_longer}}
+use Rattle.ix_gate.specs.{declared.view.{View.View, Stage.{Stage, TheVariants.Holds}}, History.entries_of, View.{HasNumber, Agrees}}
 use Rattle.ix_gate.specs.Rule.{Book, MayMake, HasTicket, DrewLast, IsQueued, Stands, Fits, IsKept, Obeys}
 
 module _ {A : Type 0} where

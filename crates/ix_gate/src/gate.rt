@@ -1,9 +1,6 @@
 // The gate itself.
 ghost use Rattle.std.specs.Prelude.{◌≡◌, ℕ, ◌+◌, ◌<◌, ◌≤◌, [], Some, IfOk, All, vec_len, slice_get};
-ghost use Rattle.ix_gate.specs.declared.view.Role.TheVariants.{Next};
-ghost use Rattle.ix_gate.specs.View.{fresh};
-ghost use Rattle.ix_gate.specs.Rule.{most_seats};
-ghost use Rattle.ix_gate.specs.Seat.{new_seat, StandsFor};
+ghost use Rattle.ix_gate.specs.{declared.view.Role.TheVariants.{Next}, View.{fresh}, Rule.{most_seats}, Seat.{new_seat, StandsFor}};
 
 use crate::machine::Machine;
 use crate::rule::{Opening, Turns};

@@ -19,8 +19,7 @@ pub struct Turns<M> {
 }
 
 impl<M: Machine> TableRule<Option<M>, View<M::Base, M::Entry>, Opening<M>> for Turns<M> {
-    ghost use Rattle.ix_gate.specs.View.{first_view};
-    ghost use Rattle.ix_gate.specs.Rule.{Obeys};
+    ghost use Rattle.ix_gate.specs.{View.{first_view}, Rule.{Obeys}};
 
     ghost holds = { λ k. Obeys M.base M.history M.seat (M.base k.machine.value) k.seats };
 

@@ -1,11 +1,8 @@
 // A seat at a gate, and what it may call.
 ghost use Rattle.std.specs.Prelude.{◌≡◌, ◌+◌, ◌<◌, ◌≤◌, List, [], ◌∷◌, ◌++◌, None, Some, IfOk, IfErr, IsOk};
 ghost use mathlib.Core.List.{IsPrefix};
-ghost use Rattle.ix_gate.specs.declared.view.Stage.TheVariants.{Waits};
-ghost use Rattle.ix_gate.specs.History.{entries_of, Grows, KeepsEnded, IsInLine};
-ghost use Rattle.ix_gate.specs.Rule.{most_turns};
-ghost use Rattle.ix_gate.specs.Seat.{own_entries, after_take, after_give, after_meeting, after_busy, LearnsServed};
-ghost use Rattle.ix_gate.specs.AtRest.{TakesMachine};
+ghost use Rattle.ix_gate.specs.{declared.view.Stage.TheVariants.{Waits}, History.{entries_of, Grows, KeepsEnded, IsInLine}, Rule.{most_turns}};
+ghost use Rattle.ix_gate.specs.{Seat.{own_entries, after_take, after_give, after_meeting, after_busy, LearnsServed}, AtRest.{TakesMachine}};
 
 use crate::gate::Gate;
 use crate::machine::Machine;
@@ -44,8 +41,7 @@ pub struct Seat<M: Machine> {
 }
 
 impl<M: Machine> Model for Seat<M> {
-    ghost use Rattle.ix_gate.specs.Seat.{SeatState};
-    ghost use Rattle.ix_gate.specs.AtRest.{state_of, IsAtRest};
+    ghost use Rattle.ix_gate.specs.{Seat.{SeatState}, AtRest.{state_of, IsAtRest}};
 
     ghost Value = { SeatState M.Base M.Entry };
 

@@ -1,8 +1,6 @@
 -- How long the text of the generator is.
 use Rattle.std.proofs.Common.{◌≡◌, ℕ, zero, suc, ◌+◌, ◌*◌, ◌≤◌, ◌%◌, ◌==◌, List, length, refl, arith, inl, inr}
-use Rattle.std.specs.List.{flat_map, range_with_len}
-use Rattle.std.proofs.lemmas.Bool.{cases_Bool}
-use Rattle.std.proofs.lemmas.List.{length-append}
+use Rattle.std.{specs.List.{flat_map, range_with_len}, proofs.lemmas.{Bool.cases_Bool, List.length-append}}
 use Rattle.ix_gen.specs.Generated.{beginning, line_at, generated}
 
 -- a length that is known is at most 15

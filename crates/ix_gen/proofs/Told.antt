@@ -1,7 +1,6 @@
 -- The lines of a text, told one after the other.
 use Rattle.std.proofs.Common.{◌≡◌, ℕ, suc, ◌+◌, ◌-◌, ◌<◌, ◌≤◌, List, ◌++◌, refl, sym, ap, ◌∙◌, arith, append_assoc}
-use Rattle.std.specs.List.{flat_map, range_with_len}
-use Rattle.std.proofs.lemmas.List.{append-nil}
+use Rattle.std.{specs.List.{flat_map, range_with_len}, proofs.lemmas.List.append-nil}
 use Rattle.ix_gen.specs.Generated.{beginning, line_at, generated}
 
 -- all lines are left after the beginning

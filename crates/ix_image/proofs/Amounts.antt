@@ -1,16 +1,9 @@
 -- How much a tree that can be read has at most.
 use Rattle.std.proofs.Common.{◌≡◌, ℕ, zero, suc, ◌+◌, ◌*◌, ◌<◌, ◌≤◌, List, [], ◌∷◌, length, get_or, take, sym, ap, subst, ◌∙◌, arith}
-use Rattle.std.specs.List.{AllByRecursion}
-use Rattle.std.proofs.lemmas.List.{length-map, get_or-map}
-use Rattle.std.proofs.lemmas.List.Sums.{sum_by_more}
+use Rattle.std.{specs.List.AllByRecursion, proofs.lemmas.List.{length-map, get_or-map, Sums.sum_by_more}}
 use Rattle.ix_model.specs.declared.config.FsSpec.{FsSpec}
-use Rattle.ix_image.specs.declared.node.Node.{Node}
-use Rattle.ix_image.specs.Trees.{TreeOf, NodeOf, Holds, Bytes, Links, links_held, links_of}
-use Rattle.ix_image.specs.Image.{AreHeld, IsNode, IsTree}
-use Rattle.ix_image.specs.Lines.{names_in}
-use Rattle.ix_image.specs.Meant.{node_of, nodes_of, tree_made}
-use Rattle.ix_image.proofs.Objects.{most_within}
-use Rattle.ix_image.proofs.Whole.{few_inodes}
+use Rattle.ix_image.{specs.declared.node.Node.Node, specs.Trees.{TreeOf, NodeOf, Holds, Bytes, Links, links_held, links_of}, specs.Lines.names_in}
+use Rattle.ix_image.{specs.Image.{AreHeld, IsNode, IsTree}, specs.Meant.{node_of, nodes_of, tree_made}, proofs.{Objects.most_within, Whole.few_inodes}}
 
 -- the object that a loop is at
 pub node_at : (nodes : List Node) (i : ℕ) (x : Node) → i < length nodes → x ≡ get_or nodes i x → node_of x ≡ get_or (nodes_of nodes) i (node_of x)

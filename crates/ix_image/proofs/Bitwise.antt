@@ -1,12 +1,9 @@
 -- How the code takes a label from its bytes: bit by bit, and byte by byte.
-use Rattle.std.proofs.Common.{◌≡◌, ℕ, ◌+◌, ◌-◌, ◌*◌, ◌/◌, ◌%◌, ◌<◌, ◌≤◌, ◌==◌, ltb, leb, Bool, true, false, ◌&&◌, ◌||◌, List, length, get_or, refl, sym, ◌∙◌, ap, arith, inl, inr}
-use Rattle.std.specs.Int.{bit_at}
-use Rattle.std.proofs.lemmas.Bool.{cases_lt, ltb-false, lt-ltb, le-ltb, le-leb, lt-leb, eq-eqb, eqb-true}
-use Rattle.std.proofs.lemmas.Nat.Bits.{bit_at-zero}
-use Rattle.ix_label.specs.Category.{Categories, has, bottom, with}
-use Rattle.ix_label.specs.Members.{same_members, has-bottom, has-with}
-use Rattle.ix_image.specs.Labelled.{label_in, has_label_bit}
-use Rattle.ix_image.proofs.Labelling.{has-label_in, none_past}
+use Rattle.std.proofs.Common.{◌≡◌, ℕ, ◌+◌, ◌-◌, ◌*◌, ◌/◌, ◌%◌, ◌<◌, ◌≤◌, ◌==◌, ltb, leb, Bool, true, false, ◌&&◌, ◌||◌, List, length, get_or, refl, sym, ◌∙◌}
+use Rattle.std.proofs.Common.{ap, arith, inl, inr}
+use Rattle.std.{specs.Int.bit_at, proofs.lemmas.{Bool.{cases_lt, ltb-false, lt-ltb, le-ltb, le-leb, lt-leb, eq-eqb, eqb-true}, Nat.Bits.bit_at-zero}}
+use Rattle.ix_label.specs.{Category.{Categories, has, bottom, with}, Members.{same_members, has-bottom, has-with}}
+use Rattle.ix_image.{specs.Labelled.{label_in, has_label_bit}, proofs.Labelling.{has-label_in, none_past}}
 
 -- ---- bit by bit
 -- the categories of a label, and those of the first bits of a byte

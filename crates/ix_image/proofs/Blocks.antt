@@ -1,22 +1,14 @@
 -- The blocks that the files of each file system take.
-use Rattle.std.proofs.Common.{◌≡◌, ℕ, zero, suc, ◌+◌, ◌-◌, ◌*◌, ◌<◌, ◌≤◌, Bool, true, cond, ◌==◌, leb, ◌&&◌, List, [], ◌∷◌, length, get_or, set, take}
-use Rattle.std.proofs.Common.{replicate, refl, sym, ap, subst, ◌∙◌, arith, inl, inr}
-use Rattle.std.specs.Prelude.{slice_index}
-use Rattle.std.specs.List.{list_all, range_with_len, AllByRecursion}
-use Rattle.std.proofs.lemmas.Bool.{cases_lt, cases_eq, lt-ltb, le-ltb, eq-eqb, ne_eqb}
+use Rattle.std.proofs.Common.{◌≡◌, ℕ, zero, suc, ◌+◌, ◌-◌, ◌*◌, ◌<◌, ◌≤◌, Bool, true, cond, ◌==◌, leb, ◌&&◌, List, [], ◌∷◌, length, get_or, set, take, refl, ap}
+use Rattle.std.proofs.Common.{replicate, sym, subst, ◌∙◌, arith, inl, inr}
+use Rattle.std.specs.{Prelude.slice_index, List.{list_all, range_with_len, AllByRecursion}}
+use Rattle.std.proofs.{lemmas.Bool.{cases_lt, cases_eq, lt-ltb, le-ltb, eq-eqb, ne_eqb}, lemmas.List.Sums.{sum_by-cons, sum_by_more}}
 use Rattle.std.proofs.lemmas.List.{length-map, length-set, get_or-set_same, get_or-set_other}
-use Rattle.std.proofs.lemmas.List.Sums.{sum_by-cons, sum_by_more}
 use Rattle.ix_label.specs.Category.{top}
-use Rattle.ix_model.specs.rows.Telling.{blocks_for}
-use Rattle.ix_model.specs.world.World.{fs_at}
-use Rattle.ix_model.specs.declared.config.FsSpec.{FsSpec}
-use Rattle.ix_image.specs.declared.node.Node.{Node}
-use Rattle.ix_image.specs.Trees.{TreeOf, NodeOf, Holds, Bytes, Links, size_held, size_of, inodes_in, home}
-use Rattle.ix_image.specs.Image.{AreHeld, IsNode, IsTree}
-use Rattle.ix_image.specs.Fitting.{blocks_taken}
-use Rattle.ix_image.specs.Meant.{node_of, nodes_of, tree_made}
-use Rattle.ix_image.proofs.Objects.{most_within}
-use Rattle.ix_image.proofs.Amounts.{node_at}
+use Rattle.ix_model.specs.{rows.Telling.blocks_for, world.World.fs_at, declared.config.FsSpec.FsSpec}
+use Rattle.ix_image.specs.{declared.node.Node.Node, Trees.{TreeOf, NodeOf, Holds, Bytes, Links, size_held, size_of, inodes_in, home}, Fitting.blocks_taken}
+use Rattle.ix_image.specs.{Image.{AreHeld, IsNode, IsTree}, Meant.{node_of, nodes_of, tree_made}}
+use Rattle.ix_image.proofs.{Objects.most_within, Amounts.node_at}
 
 -- ---- numbers and sizes
 -- a number that some file system has

@@ -1,8 +1,6 @@
 -- How a label's bytes are written.
 use Rattle.std.proofs.Common.{◌≡◌, ℕ, zero, suc, ◌+◌, ◌*◌, ◌^◌, ◌%◌, ◌<◌, ◌≤◌, Bool, true, false, cond, refl, ap, ◌∙◌, add-one, arith}
-use Rattle.std.proofs.Math.Nat.{pow-suc}
-use Rattle.std.proofs.Math.Pow.{pow_mono}
-use Rattle.std.proofs.lemmas.Nat.{pow_below}
+use Rattle.std.proofs.{Math.{Nat.pow-suc, Pow.pow_mono}, lemmas.Nat.pow_below}
 use Rattle.ix_label.specs.Words.{from_bits}
 
 -- a bit more

@@ -1,15 +1,10 @@
 -- How often objects are named, counted up to two.
 use Rattle.std.proofs.Common.{◌≡◌, ℕ, zero, suc, ◌+◌, ◌<◌, ◌≤◌, min, Bool, true, false, cond, ◌==◌, ltb, ◌&&◌, ◌||◌, List, [], ◌∷◌, length, get_or, set, take}
 use Rattle.std.proofs.Common.{replicate, count_by, Some, refl, sym, ap, ◌∙◌, arith, inl, inr}
-use Rattle.std.specs.Prelude.{slice_get, slice_index}
-use Rattle.std.proofs.lemmas.Bool.{cases_lt, cases_eq, lt-ltb, le-ltb, eq-eqb, ne_eqb}
-use Rattle.std.proofs.lemmas.List.{get_or-set_same, get_or-set_other, length-replicate}
-use Rattle.std.proofs.lemmas.List.Sums.{sum_by-cons, sum_by_more}
-use Rattle.ix_image.specs.Trees.{LinkOf, NodeOf, links_of, is_directory}
-use Rattle.ix_image.specs.Image.{NumbersRise}
-use Rattle.ix_image.specs.Fitting.{has_object, times_named, is_reached, is_well_named}
-use Rattle.ix_image.specs.Meant.{IsAt, AreCounts, AreMarks}
-use Rattle.ix_image.proofs.Placing.{same_place, not_of_number}
+use Rattle.std.{specs.Prelude.{slice_get, slice_index}, proofs.lemmas.Bool.{cases_lt, cases_eq, lt-ltb, le-ltb, eq-eqb, ne_eqb}}
+use Rattle.std.{proofs.lemmas.List.{get_or-set_same, get_or-set_other, length-replicate}, proofs.lemmas.List.Sums.{sum_by-cons, sum_by_more}}
+use Rattle.ix_image.{specs.Trees.{LinkOf, NodeOf, links_of, is_directory}, specs.Image.NumbersRise, specs.Meant.{IsAt, AreCounts, AreMarks}}
+use Rattle.ix_image.{specs.Fitting.{has_object, times_named, is_reached, is_well_named}, proofs.Placing.{same_place, not_of_number}}
 
 -- ---- one name more
 -- how often names give a number

@@ -1,15 +1,10 @@
 -- How the code finds the file system of a number, counts inodes, and compares the first bytes.
-use Rattle.std.proofs.Common.{◌≡◌, ℕ, zero, suc, ◌+◌, ◌-◌, ◌<◌, ◌≤◌, cond, eqb, List, [], ◌∷◌, length, get_or, take, drop, Err, refl, sym, ap, subst, ◌∙◌, arith}
+use Rattle.std.proofs.Common.{◌≡◌, ℕ, zero, suc, ◌+◌, ◌-◌, ◌<◌, ◌≤◌, cond, eqb, List, [], ◌∷◌, length, get_or, take, drop, Err, refl, sym, ap, subst, ◌∙◌}
+use Rattle.std.proofs.Common.{arith}
 use Rattle.std.specs.List.{AllByRecursion}
-use Rattle.std.proofs.lemmas.Bool.{lt-ltb, le-ltb, eq-eqb, ne_eqb}
-use Rattle.std.proofs.lemmas.List.{drop_more, drop_all, take_all, length-drop}
-use Rattle.std.proofs.lemmas.List.Sums.{sum_by_more}
+use Rattle.std.proofs.lemmas.{Bool.{lt-ltb, le-ltb, eq-eqb, ne_eqb}, List.{drop_more, drop_all, take_all, length-drop, Sums.sum_by_more}}
 use Rattle.ix_model.specs.declared.config.FsSpec.{FsSpec}
-use Rattle.ix_image.specs.Trees.{inodes_in, home}
-use Rattle.ix_image.specs.Image.{IsFileSystem}
-use Rattle.ix_image.specs.Image.{first_bytes}
-use Rattle.ix_image.specs.Reading.{breaks, same_at, start_at}
-use Rattle.ix_image.proofs.Objects.{most_within}
+use Rattle.ix_image.{specs.{Trees.{inodes_in, home}, Image.{IsFileSystem, first_bytes}, Reading.{breaks, same_at, start_at}}, proofs.Objects.most_within}
 
 -- ---- file systems
 -- the element that a loop is at

@@ -1,18 +1,10 @@
 -- Names that differ: in whatever order they stand, and that is seen where they are sorted.
-use Rattle.std.proofs.Common.{◌≡◌, ℕ, zero, suc, ◌+◌, ◌-◌, ◌<◌, ◌≤◌, Bool, true, false, not, cond, ◌&&◌, ◌||◌, List, [], ◌∷◌, length, get_or, map, count_by}
-use Rattle.std.proofs.Common.{Ordering, refl, sym, ap, ◌∙◌, arith, inl, inr}
-use Rattle.std.specs.Cmp.{both_ways}
-use Rattle.std.specs.Cmp.Lexicographic.{slice_cmp, nat_list_cmp_total, texts_ties, bytes_decides}
-use Rattle.std.specs.List.{list_any}
-use Rattle.std.specs.List.Sorted.{IsPermutation}
-use Rattle.std.specs.Ordering.{nat_cmp, is_lt, is_eq, ordering_reverse}
-use Rattle.std.specs.declared.cmp.Ordering.TheVariants.{Less, Equal, Greater}
-use Rattle.std.proofs.lemmas.Bool.{cases_lt}
-use Rattle.std.proofs.lemmas.List.{length-map, get_or-map, get_or_read}
-use Rattle.std.proofs.lemmas.List.Sums.{sum_by-cons}
-use Rattle.std.proofs.lemmas.List.Sorted.{sum_by-IsPermutation}
-use Rattle.ix_model.specs.opening.Valid.{all_differ}
-use Rattle.ix_model.specs.world.Naming.{same_bytes}
+use Rattle.std.proofs.Common.{◌≡◌, ℕ, zero, suc, ◌+◌, ◌-◌, ◌<◌, ◌≤◌, Bool, true, false, not, cond, ◌&&◌, ◌||◌, List, [], ◌∷◌, length, get_or, map, count_by, ap}
+use Rattle.std.proofs.Common.{Ordering, refl, sym, ◌∙◌, arith, inl, inr}
+use Rattle.std.specs.{Cmp.{both_ways, Lexicographic.{slice_cmp, nat_list_cmp_total, texts_ties, bytes_decides}}, List.{list_any, Sorted.IsPermutation}}
+use Rattle.std.specs.{Ordering.{nat_cmp, is_lt, is_eq, ordering_reverse}, declared.cmp.Ordering.TheVariants.{Less, Equal, Greater}}
+use Rattle.std.proofs.lemmas.{Bool.cases_lt, List.{length-map, get_or-map, get_or_read, Sums.sum_by-cons, Sorted.sum_by-IsPermutation}}
+use Rattle.ix_model.specs.{opening.Valid.all_differ, world.Naming.same_bytes}
 
 -- how names are sorted
 abbrev pub order : List ℕ → List ℕ → Ordering

@@ -1,17 +1,13 @@
 -- Fields: what is read is what was written, and what was written is read.
-use Rattle.std.proofs.Common.{◌≡◌, ℕ, suc, ◌+◌, ◌^◌, ◌<◌, ◌≤◌, Bool, true, false, cond, ltb, leb, List, [], ◌∷◌, ◌++◌, length, take, drop, Result, Ok, Err}
-use Rattle.std.proofs.Common.{refl, sym, ap, subst, ◌∙◌, append_assoc, arith, inl, inr}
+use Rattle.std.proofs.Common.{◌≡◌, ℕ, suc, ◌+◌, ◌^◌, ◌<◌, ◌≤◌, Bool, true, false, cond, ltb, leb, List, [], ◌∷◌, ◌++◌, length, take, drop, Result, Ok, Err, sym}
+use Rattle.std.proofs.Common.{refl, ap, subst, ◌∙◌, append_assoc, arith, inl, inr}
 use Rattle.std.specs.Int.{w32, from_be_bytes}
-use Rattle.std.proofs.lemmas.Bool.{cases_lt, ltb-false, le-ltb, leb-true, le-leb}
+use Rattle.std.proofs.lemmas.{Bool.{cases_lt, ltb-false, le-ltb, leb-true, le-leb}, Nat.{be_bytes_4, from_be_bytes-to_be_bytes_4}}
 use Rattle.std.proofs.lemmas.List.{take_at, drop_at, take-append-drop, length-append, length-take, get_or-drop, get_or-take, get_or_past, get_or_append_left}
-use Rattle.std.proofs.lemmas.Nat.{be_bytes_4, from_be_bytes-to_be_bytes_4}
-use Rattle.ix_image.specs.declared.fault.Fault.{Fault}
-use Rattle.ix_label.specs.Category.{Categories, IsLabel, leq}
-use Rattle.ix_image.specs.Image.{four, name_bytes}
-use Rattle.ix_image.specs.Labelled.{label_bytes, label_in}
-use Rattle.ix_image.specs.Reading.{Read, ◌>>=◌, breaks, ends, bytes_at, word_at, number_at, small_at, text_at, name_at, label_at, label_below_at}
-use Rattle.ix_image.specs.Laws.{AreBytes}
+use Rattle.ix_image.specs.{declared.fault.Fault.Fault, Image.{four, name_bytes}, Labelled.{label_bytes, label_in}, Laws.AreBytes}
 use Rattle.ix_image.proofs.Labelling.{bytes_back, label_back, is_label_in, length-label_bytes}
+use Rattle.ix_label.specs.Category.{Categories, IsLabel, leq}
+use Rattle.ix_image.specs.Reading.{Read, ◌>>=◌, breaks, ends, bytes_at, word_at, number_at, small_at, text_at, name_at, label_at, label_below_at}
 
 -- ---- bytes
 pub bytes-drop : (n : ℕ) (bytes : List ℕ) → AreBytes bytes → AreBytes (drop n bytes)
@@ -49,8 +45,13 @@ pub record Took (bytes text rest : List ℕ) : Type 0 where
   pub parts : bytes ≡ text ++ rest
   pub are_bytes : AreBytes rest
 
-pub took_both : (a x b y c : List ℕ) → Took a x b → Took b y c → Took a (x ++ y) c
-took_both a x b y c p q = record { parts = p.parts ∙ ap (λ (t : List ℕ). x ++ t) q.parts ∙ sym (append_assoc x y c); are_bytes = q.are_bytes }
+-- what was taken for one answer was taken for an equal one
+pub taken : {A : Type 0} (bytes : List ℕ) (p q : A × List ℕ) (write : A → List ℕ) (may : A → Type 0) → done p ≡ done q → Took bytes (write p.0) p.1 × may p.0
+    → Took bytes (write q.0) q.1 × may q.0
+taken {A} bytes p q write may e h = subst (λ (x : A × List ℕ). Took bytes (write x.0) x.1 × may x.0) (ok_is p q e) h
+
+pub took_both : {a x b y c : List ℕ} → Took a x b → Took b y c → Took a (x ++ y) c
+took_both {a} {x} {b} {y} {c} p q = record { parts = p.parts ∙ ap (λ (t : List ℕ). x ++ t) q.parts ∙ sym (append_assoc x y c); are_bytes = q.are_bytes }
 
 -- A reader and a writer are of one field: what is read was written, and what may be written is read.
 pub record OneField {A : Type 0} (read : List ℕ → Read A) (write : A → List ℕ) (may : A → Type 0) : Type 0 where
@@ -65,9 +66,9 @@ pub record Stepped {A B : Type 0} (bytes : List ℕ) (write : A → List ℕ) (m
   pub allowed : may value
   pub next : f (value, rest) ≡ Ok y
 
-pub stepped : {A B : Type 0} (read : List ℕ → Read A) (write : A → List ℕ) (may : A → Type 0) (bytes : List ℕ) (f : A × List ℕ → Result B Fault) (y : B)
-    → OneField read write may → AreBytes bytes → (read bytes >>= f) ≡ Ok y → Stepped bytes write may f y
-stepped read write may bytes f y one are e =
+pub stepped : {A B : Type 0} {read : List ℕ → Read A} {write : A → List ℕ} {may : A → Type 0} → OneField read write may → (bytes : List ℕ) (f : A × List ℕ → Result B Fault) (y : B)
+    → AreBytes bytes → (read bytes >>= f) ≡ Ok y → Stepped bytes write may f y
+stepped {A} {B} {read} {write} {may} one bytes f y are e =
     let a = bind_ok (read bytes) f y e in
     let t = one.takes bytes a.0.0 a.0.1 are a.1 in
     record { value = a.0.0; rest = a.0.1; took = t.0; allowed = t.1; next = a.2 }
@@ -97,7 +98,7 @@ bytes_field n = record { takes = takes; again = again }
             let long : n ≤ length bytes = ltb-false _ _ short in
             let whole : Took bytes (take n bytes) (drop n bytes) = record { parts = sym (take-append-drop n bytes); are_bytes = bytes-drop n bytes are } in
             let fits : length (take n bytes) ≡ n = omega (arith, length-take n bytes) in
-            subst (λ (p : List ℕ × List ℕ). Took bytes p.0 p.1 × (length p.0 ≡ n)) (ok_is (take n bytes, drop n bytes) (x, rest) e) (whole, fits)
+            taken bytes (take n bytes, drop n bytes) (x, rest) (λ x. x) (λ x. length x ≡ n) e (whole, fits)
 
     again : (x : List ℕ) (rest : List ℕ) → length x ≡ n → bytes_at n (x ++ rest) ≡ Ok (x, rest)
     again x rest is =
@@ -111,12 +112,12 @@ word_field = record { takes = takes; again = again }
   where
     takes : (bytes : List ℕ) (n : ℕ) (rest : List ℕ) → AreBytes bytes → word_at bytes ≡ Ok (n, rest) → Took bytes (four n) rest × (n < 2 ^ 32)
     takes bytes n rest are e =
-        let s = stepped (bytes_at 4) (λ x. x) (λ x. length x ≡ 4) bytes (λ x. Ok (from_be_bytes w32 x.0, x.1)) (n, rest) (bytes_field 4) are e in
+        let s = stepped (bytes_field 4) bytes (λ x. Ok (from_be_bytes w32 x.0, x.1)) (n, rest) are e in
         let front = took-bytes bytes s.value s.rest are s.took in
         let back : four (from_be_bytes w32 s.value) ≡ s.value = be_bytes_4 s.value _ s.allowed front refl in
         let below : from_be_bytes w32 s.value < 2 ^ 32 = omega (arith, front 0, front 1, front 2, front 3) in
         let whole : Took bytes (four (from_be_bytes w32 s.value)) s.rest = subst (λ (x : List ℕ). Took bytes x s.rest) (sym back) s.took in
-        subst (λ (p : ℕ × List ℕ). Took bytes (four p.0) p.1 × (p.0 < 2 ^ 32)) (ok_is (from_be_bytes w32 s.value, s.rest) (n, rest) s.next) (whole, below)
+        taken bytes (from_be_bytes w32 s.value, s.rest) (n, rest) four (λ x. x < 2 ^ 32) s.next (whole, below)
 
     again : (n : ℕ) (rest : List ℕ) → n < 2 ^ 32 → word_at (four n ++ rest) ≡ Ok (n, rest)
     again n rest low = rw ((bytes_field 4).again (four n) rest refl, from_be_bytes-to_be_bytes_4 n low) refl
@@ -128,7 +129,7 @@ number_field test low = record { takes = takes; again = again }
   where
     takes : (bytes : List ℕ) (n : ℕ) (rest : List ℕ) → AreBytes bytes → number_at test bytes ≡ Ok (n, rest) → Took bytes (four n) rest × (test n ≡ true)
     takes bytes n rest are e =
-        let s = stepped word_at four (λ n. n < 2 ^ 32) bytes (λ x. cond (test x.0) (Ok x) (Err (breaks 3 bytes))) (n, rest) word_field are e in
+        let s = stepped word_field bytes (λ x. cond (test x.0) (Ok x) (Err (breaks 3 bytes))) (n, rest) are e in
         let g = guard_ok (test s.value) (breaks 3 bytes) (s.value, s.rest) (n, rest) s.next in
         subst (λ (p : ℕ × List ℕ). Took bytes (four p.0) p.1 × (test p.0 ≡ true)) g.1 (s.took, g.0)
 
@@ -181,10 +182,10 @@ label_field = record { takes = takes; again = again }
   where
     takes : (bytes : List ℕ) (s : Categories) (rest : List ℕ) → AreBytes bytes → label_at bytes ≡ Ok (s, rest) → Took bytes (label_bytes s) rest × IsLabel s
     takes bytes s rest are e =
-        let t = stepped (bytes_at 64) (λ x. x) (λ x. length x ≡ 64) bytes (λ x. Ok (label_in x.0, x.1)) (s, rest) (bytes_field 64) are e in
+        let t = stepped (bytes_field 64) bytes (λ x. Ok (label_in x.0, x.1)) (s, rest) are e in
         let front = took-bytes bytes t.value t.rest are t.took in
         let whole : Took bytes (label_bytes (label_in t.value)) t.rest = subst (λ (x : List ℕ). Took bytes x t.rest) (sym (bytes_back t.value t.allowed front)) t.took in
-        subst (λ (p : Categories × List ℕ). Took bytes (label_bytes p.0) p.1 × IsLabel p.0) (ok_is (label_in t.value, t.rest) (s, rest) t.next) (whole, is_label_in t.value t.allowed)
+        taken bytes (label_in t.value, t.rest) (s, rest) label_bytes IsLabel t.next (whole, is_label_in t.value t.allowed)
 
     again : (s : Categories) (rest : List ℕ) → IsLabel s → label_at (label_bytes s ++ rest) ≡ Ok (s, rest)
     again s rest is = rw ((bytes_field 64).again (label_bytes s) rest (length-label_bytes s), label_back s is) refl
@@ -196,7 +197,7 @@ label_below_field ceiling = record { takes = takes; again = again }
   where
     takes : (bytes : List ℕ) (s : Categories) (rest : List ℕ) → AreBytes bytes → label_below_at ceiling bytes ≡ Ok (s, rest) → Took bytes (label_bytes s) rest × (IsLabel s × (leq s ceiling ≡ true))
     takes bytes s rest are e =
-        let t = stepped label_at label_bytes IsLabel bytes (λ x. cond (leq x.0 ceiling) (Ok x) (Err (breaks 6 bytes))) (s, rest) label_field are e in
+        let t = stepped label_field bytes (λ x. cond (leq x.0 ceiling) (Ok x) (Err (breaks 6 bytes))) (s, rest) are e in
         let g = guard_ok (leq t.value ceiling) (breaks 6 bytes) (t.value, t.rest) (s, rest) t.next in
         subst (λ (p : Categories × List ℕ). Took bytes (label_bytes p.0) p.1 × (IsLabel p.0 × (leq p.0 ceiling ≡ true))) g.1 (t.took, (t.allowed, g.0))
 

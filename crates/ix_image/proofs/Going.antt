@@ -1,11 +1,7 @@
 -- How the writing of an image goes on.
-use Rattle.std.proofs.Common.{◌≡◌, ℕ, List, [], ◌++◌, Result, Ok, Err, ap, ◌∙◌, append_assoc}
-use Rattle.std.specs.Result.{OnOk}
+use Rattle.std.{proofs.Common.{◌≡◌, ℕ, List, [], ◌++◌, Result, Ok, Err, ap, ◌∙◌, append_assoc}, specs.Result.OnOk}
 use Rattle.ix_model.specs.history.History.{world_of}
-use Rattle.ix_image.specs.declared.part.Part.{Part}
-use Rattle.ix_image.specs.declared.written.Saving.{Saving}
-use Rattle.ix_image.specs.Saving.{WritesOn, bytes_left}
-use Rattle.ix_image.specs.Written.{IsBegun, Wrote, left_of, pieces_of}
+use Rattle.ix_image.specs.{declared.{part.Part.Part, written.Saving.Saving}, Saving.{WritesOn, bytes_left}, Written.{IsBegun, Wrote, left_of, pieces_of}}
 
 pub when_ok : {A E : Type 0} (r : Result A E) (Q : Type 0) → Q → OnOk r Q
 when_ok (Ok x) Q q = q

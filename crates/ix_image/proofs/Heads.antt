@@ -1,18 +1,10 @@
 -- The head of an object, written field after field.
 use Rattle.std.proofs.Common.{◌≡◌, ℕ, Bool, true, false, not, cond, ◌==◌, ◌&&◌, ◌||◌, List, ◌++◌, Some, refl, sym, ap, ◌∙◌, append_assoc}
-use Rattle.ix_model.specs.declared.views.ObjView.{ObjView}
-use Rattle.ix_model.specs.declared.privs.PrivSet.{PrivSet}
-use Rattle.ix_model.specs.declared.reply.Kind.{Kind}
+use Rattle.ix_model.specs.declared.{views.ObjView.ObjView, privs.PrivSet.PrivSet, reply.Kind.Kind}
+use Rattle.ix_model.specs.world.{World.{World, Object, at, is_dir, is_pipe}, Contents.holding_of, Owners.times_named}
 use Rattle.ix_model.specs.declared.reply.Kind.TheVariants as kind
-use Rattle.ix_model.specs.world.World.{World, Object, at, is_dir, is_pipe}
-use Rattle.ix_model.specs.world.Contents.{holding_of}
-use Rattle.ix_model.specs.world.Owners.{times_named}
-use Rattle.ix_image.specs.declared.marks.Marks.{Marks}
-use Rattle.ix_image.specs.Trees.{Bytes, Links, are_links}
-use Rattle.ix_image.specs.Image.{four, marks_of, marks_bytes}
-use Rattle.ix_image.specs.Labelled.{label_bytes}
-use Rattle.ix_image.specs.Taken.{held_in, is_kept, node_of, the_five}
-use Rattle.ix_image.specs.Saving.{is_dir_kind, count_held, HasHead}
+use Rattle.ix_image.specs.{declared.marks.Marks.Marks, Trees.{Bytes, Links, are_links}, Image.{four, marks_of, marks_bytes}, Labelled.label_bytes}
+use Rattle.ix_image.specs.{Taken.{held_in, is_kept, node_of, the_five}, Saving.{is_dir_kind, count_held, HasHead}}
 use Rattle.ix_image.proofs.Saved.{Kept}
 
 -- four pieces, one behind the other

@@ -1,25 +1,14 @@
 -- What an object in the tree holds, and what is written of it behind its head.
 use Rattle.std.proofs.Common.{◌≡◌, ℕ, ◌+◌, ◌-◌, ◌<◌, ◌≤◌, Bool, true, false, not, cond, ltb, ◌==◌, ◌&&◌, ◌||◌, List, [], ◌∷◌, ◌++◌, length, drop, Option, Some}
 use Rattle.std.proofs.Common.{None, option_map, unwrap_or, refl, sym, ap, ◌∙◌, arith}
-use Rattle.std.specs.Prelude.{slice_get}
-use Rattle.std.specs.Option.{option_map_or, option_and_then}
-use Rattle.std.specs.List.{flat_map}
-use Rattle.ix_model.specs.declared.ids.Obj.{Obj}
-use Rattle.ix_model.specs.declared.views.ObjView.{ObjView}
-use Rattle.ix_model.specs.declared.reply.Kind.{Kind}
-use Rattle.ix_model.specs.declared.reply.Kind.TheVariants as kind
-use Rattle.ix_model.specs.laws.Sound.{Sound}
-use Rattle.ix_model.specs.world.World.{World, Object, at, is_dir, is_pipe}
-use Rattle.ix_model.specs.world.Contents.{holding_of}
-use Rattle.ix_model.specs.world.Owners.{times_named}
-use Rattle.ix_model.specs.rows.Walks.{nothing}
+use Rattle.std.specs.{Prelude.slice_get, Option.{option_map_or, option_and_then}, List.flat_map}
+use Rattle.ix_model.specs.{declared.{ids.Obj.Obj, views.ObjView.ObjView, reply.Kind.Kind}, laws.Sound.Sound, rows.Walks.nothing}
+use Rattle.ix_model.specs.world.{World.{World, Object, at, is_dir, is_pipe}, Contents.holding_of, Owners.times_named}
 use Rattle.ix_model.specs.history.Views.{has_side, size_at, names_there}
+use Rattle.ix_model.specs.declared.reply.Kind.TheVariants as kind
 use Rattle.ix_image.specs.declared.part.Part.TheVariants as part
-use Rattle.ix_image.specs.Trees.{LinkOf, Bytes, Links}
-use Rattle.ix_image.specs.Image.{link_bytes}
-use Rattle.ix_image.specs.Taken.{held_in, is_kept}
+use Rattle.ix_image.{specs.Trees.{LinkOf, Bytes, Links}, specs.Image.link_bytes, specs.Taken.{held_in, is_kept}, proofs.Saved.Kept}
 use Rattle.ix_image.specs.Saving.{is_dir_kind, names_at, count_held, body_bytes, objects_left, HasNext, Begins}
-use Rattle.ix_image.proofs.Saved.{Kept}
 
 -- ---- sizes
 -- how much is at an end, of what stands at a number

@@ -1,21 +1,12 @@
 -- A label and its 64 bytes give each other back.
-use Rattle.std.proofs.Common.{◌≡◌, ℕ, zero, suc, ◌+◌, add-one, ◌*◌, ◌^◌, ◌/◌, ◌%◌, ◌<◌, ◌≤◌, ◌==◌, Bool, true, false, true≢false, List, length, get_or, refl, sym, ◌∙◌, ap, arith, cond, inl, inr}
-use Rattle.std.specs.List.{range_with_len}
-use Rattle.std.specs.Ordering.{nat_cmp}
-use Rattle.std.specs.declared.cmp.Ordering.TheVariants.{Equal}
-use Rattle.std.specs.Int.{bit_at}
+use Rattle.std.proofs.Common.{◌≡◌, ℕ, zero, suc, ◌+◌, add-one, ◌*◌, ◌^◌, ◌/◌, ◌%◌, ◌<◌, ◌≤◌, ◌==◌, Bool, true, false, true≢false, List, length, get_or, refl}
+use Rattle.std.proofs.Common.{sym, ◌∙◌, ap, arith, cond, inl, inr}
+use Rattle.std.specs.{List.range_with_len, Ordering.nat_cmp, declared.cmp.Ordering.TheVariants.Equal, Int.bit_at}
 use Rattle.std.specs.FinSet.{nat_cmp-IsAntisymmetric, contains-retain}
-use Rattle.std.proofs.lemmas.List.{get_or_past, length-map}
-use Rattle.std.proofs.lemmas.List.FromFn.{fill_by_all, length-range_with_len, get_or-map-range_with_len}
-use Rattle.std.proofs.lemmas.Nat.Bits.{bit_at-zero, bit_at-suc, bit_at_lowest}
-use Rattle.std.proofs.lemmas.Bool.{cases_lt}
-use Rattle.std.proofs.Math.Nat.{pow-suc}
-use Rattle.std.proofs.Math.Bool.{and-false}
-use Rattle.ix_label.specs.Category.{Categories, IsLabel, has, all_below}
-use Rattle.ix_label.specs.Members.{same_members, has-all_below}
-use Rattle.ix_label.specs.Words.{from_bits}
-use Rattle.ix_image.specs.Labelled.{label_byte, label_bytes, label_in, has_label_bit}
-use Rattle.ix_image.specs.Laws.{AreBytes}
+use Rattle.std.proofs.{lemmas.List.{get_or_past, length-map}, lemmas.List.FromFn.{fill_by_all, length-range_with_len, get_or-map-range_with_len}}
+use Rattle.std.proofs.{lemmas.Nat.Bits.{bit_at-zero, bit_at-suc, bit_at_lowest}, lemmas.Bool.cases_lt, Math.{Nat.pow-suc, Bool.and-false}}
+use Rattle.ix_label.specs.{Category.{Categories, IsLabel, has, all_below}, Members.{same_members, has-all_below}, Words.from_bits}
+use Rattle.ix_image.specs.{Labelled.{label_byte, label_bytes, label_in, has_label_bit}, Laws.AreBytes}
 
 -- ---- bits of a byte
 test_bit : (b : ℕ) → b < 2 → cond (b == 1) 1 0 ≡ b

@@ -1,8 +1,7 @@
 -- Loops that read so many of one kind: what was read so far, and what is still to be read, give the whole.
 use Rattle.std.proofs.Common.{◌≡◌, ℕ, zero, suc, ◌+◌, ◌-◌, ◌<◌, ◌≤◌, List, [], ◌∷◌, ◌++◌, Ok, Err, refl, sym, ap, ◌∙◌, append_assoc, arith}
 use Rattle.std.proofs.lemmas.List.{append-nil}
-use Rattle.ix_image.specs.declared.fault.Fault.{Fault}
-use Rattle.ix_image.specs.Reading.{Read, ◌>>=◌}
+use Rattle.ix_image.specs.{declared.fault.Fault.Fault, Reading.{Read, ◌>>=◌}}
 
 -- what is read, behind what was read before
 abbrev pub with_front : {A : Type 0} → List A → Read (List A) → Read (List A)

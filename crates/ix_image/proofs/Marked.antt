@@ -1,24 +1,12 @@
 -- Which objects of a world have names, as the code finds them.
-use Rattle.std.proofs.Common.{◌≡◌, ℕ, zero, suc, ◌+◌, ◌<◌, ◌≤◌, Bool, true, false, not, cond, ◌==◌, ◌&&◌, ◌||◌, List, [], ◌∷◌, length, get_or, set, take}
-use Rattle.std.proofs.Common.{Option, Some, None, option_map, unwrap_or, refl, sym, ap, ◌∙◌, arith, inl, inr}
-use Rattle.std.specs.Prelude.{slice_get}
-use Rattle.std.specs.Option.{option_map_or, option_and_then, is_some}
-use Rattle.std.specs.List.{sum_by}
-use Rattle.std.proofs.lemmas.Bool.{cases_eq, eq-eqb, ne_eqb}
-use Rattle.std.proofs.lemmas.List.{get_or-set_same, get_or-set_other, take_all}
-use Rattle.std.proofs.lemmas.List.Sums.{sum-map, sum_by_more}
-use Rattle.ix_model.specs.laws.Sound.{Sound}
-use Rattle.ix_model.specs.world.World.{World, Object, at, is_dir}
-use Rattle.ix_model.specs.world.Owners.{times_in, times_named}
-use Rattle.ix_model.specs.world.Directories.{IsBehind}
-use Rattle.ix_model.specs.rows.Walks.{nothing}
-use Rattle.ix_model.specs.history.Views.{view_of, names_there}
-use Rattle.ix_model.specs.declared.views.ObjView.{ObjView}
-use Rattle.ix_image.specs.Trees.{NodeOf, LinkOf}
-use Rattle.ix_image.specs.Taken.{is_kept}
-use Rattle.ix_image.specs.Saving.{AreNamed, is_dir_kind, is_file_kind, kept_from, kept_view, names_at}
-use Rattle.ix_image.proofs.Counted.{given}
-use Rattle.ix_image.proofs.Saved.{count_on, kept_there, none_kept}
+use Rattle.std.proofs.Common.{◌≡◌, ℕ, zero, suc, ◌+◌, ◌<◌, ◌≤◌, Bool, true, false, not, cond, ◌==◌, ◌&&◌, ◌||◌, List, [], ◌∷◌, length, get_or, set, take, Some}
+use Rattle.std.proofs.Common.{Option, None, option_map, unwrap_or, refl, sym, ap, ◌∙◌, arith, inl, inr}
+use Rattle.std.specs.{Prelude.slice_get, Option.{option_map_or, option_and_then, is_some}, List.sum_by}
+use Rattle.std.proofs.lemmas.{Bool.{cases_eq, eq-eqb, ne_eqb}, List.{get_or-set_same, get_or-set_other, take_all, Sums.{sum-map, sum_by_more}}}
+use Rattle.ix_model.specs.{laws.Sound.Sound, world.{World.{World, Object, at, is_dir}, Owners.{times_in, times_named}, Directories.IsBehind}}
+use Rattle.ix_model.specs.{rows.Walks.nothing, history.Views.{view_of, names_there}, declared.views.ObjView.ObjView}
+use Rattle.ix_image.specs.{Trees.{NodeOf, LinkOf}, Taken.is_kept, Saving.{AreNamed, is_dir_kind, is_file_kind, kept_from, kept_view, names_at}}
+use Rattle.ix_image.proofs.{Counted.given, Saved.{count_on, kept_there, none_kept}}
 
 -- ---- a mark
 pub mark_set : (named : List Bool) (i o : ℕ) → i < length named → get_or (set named i true) o false ≡ (o == i || get_or named o false)

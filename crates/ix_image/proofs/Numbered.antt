@@ -1,19 +1,14 @@
 -- Objects: what is read is what was written, and what was written is read.
-use Rattle.std.proofs.Common.{◌≡◌, ℕ, zero, suc, ◌+◌, ◌^◌, ◌<◌, ◌≤◌, true, cond, leb, ltb, ◌&&◌, List, [], ◌∷◌, ◌++◌, length, Ok, Err, refl, sym, ap, subst, ◌∙◌, append_assoc, arith}
+use Rattle.std.proofs.Common.{◌≡◌, ℕ, zero, suc, ◌+◌, ◌^◌, ◌<◌, ◌≤◌, true, cond, leb, ltb, ◌&&◌, List, [], ◌∷◌, ◌++◌, length, Ok, Err, refl, sym, ap, subst}
+use Rattle.std.proofs.Common.{◌∙◌, append_assoc, arith}
 use Rattle.std.specs.List.{flat_map, AllByRecursion}
-use Rattle.std.proofs.lemmas.Bool.{and_parts, and_from, leb-true, le-leb, ltb-true, lt-ltb}
-use Rattle.std.proofs.lemmas.List.Concat.{flat_map-cons}
-use Rattle.ix_label.specs.Category.{IsLabel, leq}
-use Rattle.ix_model.specs.world.World.{fs_at}
-use Rattle.ix_model.specs.declared.config.FsSpec.{FsSpec}
-use Rattle.ix_image.specs.Trees.{NodeOf, are_links, inodes_in, home}
-use Rattle.ix_image.specs.declared.marks.Marks.{Marks}
-use Rattle.ix_image.specs.Labelled.{label_bytes}
-use Rattle.ix_image.specs.Image.{four, held_bytes, marks_bytes, marks_of, node_bytes, AreHeld, IsNode, NumbersRise}
-use Rattle.ix_image.specs.Reading.{◌>>=◌, breaks, word_at, label_below_at, order_at, marks_at, held_at, node_at, nodes_at}
-use Rattle.ix_image.specs.Laws.{AreBytes}
-use Rattle.ix_image.proofs.Fielding.{OneField, Took, took_both, stepped, bind_ok, guard_ok, ok_is, word_field, label_below_field}
-use Rattle.ix_image.proofs.Objects.{AreMarks, marks_field, held_field}
+use Rattle.std.proofs.lemmas.{Bool.{and_parts, and_from, leb-true, le-leb, ltb-true, lt-ltb}, List.Concat.flat_map-cons}
+use Rattle.ix_model.specs.{world.World.fs_at, declared.config.FsSpec.FsSpec}
+use Rattle.ix_image.specs.{Trees.{NodeOf, are_links, inodes_in, home}, declared.marks.Marks.Marks, Labelled.label_bytes, Laws.AreBytes}
+use Rattle.ix_image.specs.Image.{four, held_bytes, marks_bytes, marks_of, node_bytes, IsNode, NumbersRise}
+use Rattle.ix_image.specs.Reading.{◌>>=◌, breaks, order_at, node_at, nodes_at}
+use Rattle.ix_image.proofs.Fielding.{OneField, Took, took_both, stepped, bind_ok, guard_ok, taken, word_field, label_below_field}
+use Rattle.ix_image.proofs.Objects.{marks_field, held_field}
 
 -- ---- numbers
 -- a number of an object, from a least one on
@@ -27,7 +22,7 @@ order_field fss least few = record { takes = takes; again = again }
   where
     takes : (bytes : List ℕ) (n : ℕ) (rest : List ℕ) → AreBytes bytes → order_at fss least bytes ≡ Ok (n, rest) → Took bytes (four n) rest × InOrder fss least n
     takes bytes n rest are e =
-        let s = stepped word_at four (λ n. n < 2 ^ 32) bytes (λ x. cond (leb least x.0 && ltb x.0 (inodes_in fss)) (Ok x) (Err (breaks 5 bytes))) (n, rest) word_field are e in
+        let s = stepped word_field bytes (λ x. cond (leb least x.0 && ltb x.0 (inodes_in fss)) (Ok x) (Err (breaks 5 bytes))) (n, rest) are e in
         let g = guard_ok (leb least s.value && ltb s.value (inodes_in fss)) (breaks 5 bytes) (s.value, s.rest) (n, rest) s.next in
         let p = and_parts _ _ g.0 in
         let order : InOrder fss least s.value = record { from = leb-true _ _ p.0; inside = ltb-true _ _ p.1 } in
@@ -49,19 +44,19 @@ node_field fss least few = record { takes = takes; again = again }
   where
     takes : (bytes : List ℕ) (x : NodeOf) (rest : List ℕ) → AreBytes bytes → node_at fss least bytes ≡ Ok (x, rest) → Took bytes (node_bytes x) rest × IsNext fss least x
     takes bytes x rest are e =
-        let a = stepped (order_at fss least) four (InOrder fss least) bytes _ (x, rest) (order_field fss least few) are e in
-        let b = stepped marks_at marks_bytes AreMarks a.rest _ (x, rest) marks_field a.took.are_bytes a.next in
+        let a = stepped (order_field fss least few) bytes _ (x, rest) are e in
+        let b = stepped marks_field a.rest _ (x, rest) a.took.are_bytes a.next in
         let ceiling = (fs_at fss (home fss a.value)).ceiling in
-        let g = stepped (label_below_at ceiling) label_bytes (λ s. IsLabel s × (leq s ceiling ≡ true)) b.rest _ (x, rest) (label_below_field ceiling) b.took.are_bytes b.next in
-        let h = stepped (held_at b.value.is_dir) held_bytes (λ h. AreHeld h × (are_links h ≡ b.value.is_dir)) g.rest _ (x, rest) (held_field b.value.is_dir) g.took.are_bytes g.next in
+        let g = stepped (label_below_field ceiling) b.rest _ (x, rest) b.took.are_bytes b.next in
+        let h = stepped (held_field b.value.is_dir) g.rest _ (x, rest) g.took.are_bytes g.next in
         let made : NodeOf = record { number = a.value; frozen = b.value.frozen; cap = b.value.cap; lic = b.value.lic; label = g.value; holds = h.value } in
-        let gh = took_both b.rest (label_bytes g.value) g.rest (held_bytes h.value) h.rest g.took h.took in
-        let bh = took_both a.rest (marks_bytes b.value) b.rest (label_bytes g.value ++ held_bytes h.value) h.rest b.took gh in
-        let ah = took_both bytes (four a.value) a.rest (marks_bytes b.value ++ (label_bytes g.value ++ held_bytes h.value)) h.rest a.took bh in
+        let gh = took_both g.took h.took in
+        let bh = took_both b.took gh in
+        let ah = took_both a.took bh in
         let same : b.value ≡ marks_of made = λ i. record b.value { is_dir = sym h.allowed.1 i } in
         let whole : Took bytes (node_bytes made) h.rest = subst (λ (m : Marks). Took bytes (four a.value ++ (marks_bytes m ++ (label_bytes g.value ++ held_bytes h.value))) h.rest) same ah in
         let is : IsNode fss made = record { inside = a.allowed.inside; cap = b.allowed.0; lic = b.allowed.1; label = g.allowed.0; below = g.allowed.1; holds = h.allowed.0 } in
-        subst (λ (p : NodeOf × List ℕ). Took bytes (node_bytes p.0) p.1 × IsNext fss least p.0) (ok_is (made, h.rest) (x, rest) h.next) (whole, (a.allowed.from, is))
+        taken bytes (made, h.rest) (x, rest) node_bytes (IsNext fss least) h.next (whole, (a.allowed.from, is))
 
     again : (x : NodeOf) (rest : List ℕ) → IsNext fss least x → node_at fss least (node_bytes x ++ rest) ≡ Ok (x, rest)
     again x rest is =
@@ -87,15 +82,14 @@ module _ (fss : List FsSpec) (few : inodes_in fss ≤ 2 ^ 32) where
   unfolding nodes_at
   nodes_take zero least bytes xs rest are e =
       let whole : Took bytes [] bytes = record { parts = refl; are_bytes = are } in
-      subst (λ (p : List NodeOf × List ℕ). Took bytes (flat_map node_bytes p.0) p.1 × AreNext fss least 0 p.0) (ok_is ([], bytes) (xs, rest) e) (whole, (refl, (tt, tt)))
+      taken bytes ([], bytes) (xs, rest) (flat_map node_bytes) (AreNext fss least 0) e (whole, (refl, (tt, tt)))
   nodes_take (suc n) least bytes xs rest are e =
-      let s = stepped (node_at fss least) node_bytes (IsNext fss least) bytes (λ first. nodes_at fss (first.0.number + 1) n first.1 >>= λ others. Ok (first.0 ∷ others.0, others.1)) (xs, rest)
-      (node_field fss least few) are e in
+      let s = stepped (node_field fss least few) bytes (λ first. nodes_at fss (first.0.number + 1) n first.1 >>= λ others. Ok (first.0 ∷ others.0, others.1)) (xs, rest) are e in
       let b = bind_ok (nodes_at fss (s.value.number + 1) n s.rest) (λ others. Ok (s.value ∷ others.0, others.1)) (xs, rest) s.next in
       let t = nodes_take n (s.value.number + 1) s.rest b.0.0 b.0.1 s.took.are_bytes b.1 in
-      let both = took_both bytes (node_bytes s.value) s.rest (flat_map node_bytes b.0.0) b.0.1 s.took t.0 in
+      let both = took_both s.took t.0 in
       let whole : Took bytes (flat_map node_bytes (s.value ∷ b.0.0)) b.0.1 = subst (λ (x : List ℕ). Took bytes x b.0.1) (sym (flat_map-cons node_bytes s.value b.0.0)) both in
-      subst (λ (p : List NodeOf × List ℕ). Took bytes (flat_map node_bytes p.0) p.1 × AreNext fss least (suc n) p.0) (ok_is (s.value ∷ b.0.0, b.0.1) (xs, rest) b.2)
+      taken bytes (s.value ∷ b.0.0, b.0.1) (xs, rest) (flat_map node_bytes) (AreNext fss least (suc n)) b.2
       (whole, (ap suc t.1.0, ((s.allowed.0, t.1.1.0), (s.allowed.1, t.1.1.1))))
 
   nodes_again : (least : ℕ) (xs : List NodeOf) (rest : List ℕ) → NumbersRise least xs → AllByRecursion (IsNode fss) xs → nodes_at fss least (length xs) (flat_map node_bytes xs ++ rest) ≡ Ok (xs, rest)

@@ -1,23 +1,16 @@
 -- File systems, names and objects: what is read is what was written, and what was written is read.
-use Rattle.std.proofs.Common.{◌≡◌, ℕ, zero, suc, ◌^◌, ◌<◌, ◌≤◌, Bool, true, false, leb, ◌==◌, List, [], ◌∷◌, ◌++◌, length, Ok, refl, sym, ap, subst, ◌∙◌, append_assoc, arith}
-use Rattle.std.specs.List.{flat_map, AllByRecursion}
-use Rattle.std.proofs.lemmas.Bool.{and_parts, leb-true}
-use Rattle.std.proofs.lemmas.List.Concat.{flat_map-cons}
-use Rattle.ix_label.specs.Category.{IsLabel}
-use Rattle.ix_model.specs.opening.Valid.{is_within}
-use Rattle.ix_model.specs.world.Naming.{is_name}
-use Rattle.ix_model.specs.declared.config.FsSpec.{FsSpec}
+use Rattle.std.proofs.Common.{◌≡◌, ℕ, zero, suc, ◌<◌, ◌≤◌, Bool, true, false, leb, ◌==◌, List, [], ◌∷◌, ◌++◌, length, Ok, refl, sym, ap, subst, ◌∙◌, arith}
+use Rattle.std.proofs.Common.{append_assoc}
+use Rattle.std.{specs.List.{flat_map, AllByRecursion}, proofs.lemmas.{Bool.{and_parts, leb-true}, List.Concat.flat_map-cons}}
+use Rattle.ix_model.specs.{opening.Valid.is_within, world.Naming.is_name, declared.{config.FsSpec.FsSpec, privs.PrivSet.PrivSet}}
 use Rattle.ix_text.specs.Names.{is_script_name}
-use Rattle.ix_model.specs.declared.privs.PrivSet.{PrivSet}
-use Rattle.ix_image.specs.declared.marks.Marks.{Marks}
-use Rattle.ix_image.specs.Trees.{LinkOf, Holds, Bytes, Links, are_links}
-use Rattle.ix_image.specs.Labelled.{label_bytes}
-use Rattle.ix_image.specs.Image.{four, name_bytes, file_system_bytes, link_bytes, held_bytes, flag, marks_bytes, IsFileSystem, IsLink, AreHeld}
-use Rattle.ix_image.specs.Image.{is_size_of_file_system, is_size_of_file, is_count_of_names}
-use Rattle.ix_image.specs.Reading.{Read, ◌>>=◌, bytes_at, word_at, number_at, small_at, name_at, label_at, file_system_at, file_systems_at, link_at, links_at}
-use Rattle.ix_image.specs.Reading.{file_at, directory_at, held_at, flag_at, set_at, marks_at}
-use Rattle.ix_image.specs.Laws.{AreBytes}
-use Rattle.ix_image.proofs.Fielding.{OneField, Took, took_both, stepped, bind_ok, ok_is, bytes_field, word_field, number_field, small_field, name_field, label_field}
+use Rattle.ix_image.specs.{declared.marks.Marks.Marks, Trees.{LinkOf, Holds, Bytes, Links, are_links}, Labelled.label_bytes, Laws.AreBytes}
+use Rattle.ix_image.specs.Image.{four, name_bytes, file_system_bytes, link_bytes, held_bytes, flag, marks_bytes, IsFileSystem, IsLink, AreHeld, is_size_of_file}
+use Rattle.ix_image.specs.Image.{is_size_of_file_system, is_count_of_names}
+use Rattle.ix_image.specs.Reading.{Read, ◌>>=◌, number_at, name_at, file_system_at, file_systems_at, link_at, links_at, file_at, directory_at, held_at, flag_at}
+use Rattle.ix_image.specs.Reading.{set_at, marks_at}
+use Rattle.ix_image.proofs.Fielding.{OneField, Took, took_both, stepped, bind_ok, taken, bytes_field, word_field, number_field, small_field, name_field}
+use Rattle.ix_image.proofs.Fielding.{label_field}
 
 -- ---- tests
 -- what is within a range is at most the greatest
@@ -54,14 +47,14 @@ module _ {A : Type 0} (read : List ℕ → Read A) (write : A → List ℕ) (may
       × ((length xs ≡ n) × AllByRecursion may xs)
   many_take zero bytes xs rest are e =
       let whole : Took bytes [] bytes = record { parts = refl; are_bytes = are } in
-      subst (λ (p : List A × List ℕ). Took bytes (flat_map write p.0) p.1 × ((length p.0 ≡ 0) × AllByRecursion may p.0)) (ok_is ([], bytes) (xs, rest) (sym (none bytes) ∙ e)) (whole, (refl, tt))
+      taken bytes ([], bytes) (xs, rest) (flat_map write) (λ x. (length x ≡ 0) × AllByRecursion may x) (sym (none bytes) ∙ e) (whole, (refl, tt))
   many_take (suc n) bytes xs rest are e =
-      let s = stepped read write may bytes (λ first. many n first.1 >>= λ others. Ok (first.0 ∷ others.0, others.1)) (xs, rest) one are (sym (more n bytes) ∙ e) in
+      let s = stepped one bytes (λ first. many n first.1 >>= λ others. Ok (first.0 ∷ others.0, others.1)) (xs, rest) are (sym (more n bytes) ∙ e) in
       let b = bind_ok (many n s.rest) (λ others. Ok (s.value ∷ others.0, others.1)) (xs, rest) s.next in
       let t = many_take n s.rest b.0.0 b.0.1 s.took.are_bytes b.1 in
-      let both = took_both bytes (write s.value) s.rest (flat_map write b.0.0) b.0.1 s.took t.0 in
+      let both = took_both s.took t.0 in
       let whole : Took bytes (flat_map write (s.value ∷ b.0.0)) b.0.1 = subst (λ (x : List ℕ). Took bytes x b.0.1) (sym (flat_map-cons write s.value b.0.0)) both in
-      subst (λ (p : List A × List ℕ). Took bytes (flat_map write p.0) p.1 × ((length p.0 ≡ suc n) × AllByRecursion may p.0)) (ok_is (s.value ∷ b.0.0, b.0.1) (xs, rest) b.2)
+      taken bytes (s.value ∷ b.0.0, b.0.1) (xs, rest) (flat_map write) (λ x. (length x ≡ suc n) × AllByRecursion may x) b.2
       (whole, (ap suc t.1.0, (s.allowed, t.1.1)))
 
   pub many_again : (xs : List A) (rest : List ℕ) → AllByRecursion may xs → many (length xs) (flat_map write xs ++ rest) ≡ Ok (xs, rest)
@@ -87,15 +80,15 @@ file_system_field = record { takes = takes; again = again }
   where
     takes : (bytes : List ℕ) (s : FsSpec) (rest : List ℕ) → AreBytes bytes → file_system_at bytes ≡ Ok (s, rest) → Took bytes (file_system_bytes s) rest × IsFileSystem s
     takes bytes s rest are e =
-        let a = stepped (name_at is_script_name) name_bytes (λ x. is_script_name x ≡ true) bytes _ (s, rest) scripted are e in
-        let b = stepped label_at label_bytes IsLabel a.rest _ (s, rest) label_field a.took.are_bytes a.next in
-        let c = stepped (number_at is_size_of_file_system) four (λ n. is_size_of_file_system n ≡ true) b.rest _ (s, rest) size_field b.took.are_bytes b.next in
-        let d = stepped (number_at is_size_of_file_system) four (λ n. is_size_of_file_system n ≡ true) c.rest _ (s, rest) size_field c.took.are_bytes c.next in
+        let a = stepped scripted bytes _ (s, rest) are e in
+        let b = stepped label_field a.rest _ (s, rest) a.took.are_bytes a.next in
+        let c = stepped size_field b.rest _ (s, rest) b.took.are_bytes b.next in
+        let d = stepped size_field c.rest _ (s, rest) c.took.are_bytes c.next in
         let made : FsSpec × List ℕ = (record { name = a.value; ceiling = b.value; blocks = c.value; inodes = d.value }, d.rest) in
-        let cd = took_both b.rest (four c.value) c.rest (four d.value) d.rest c.took d.took in
-        let bd = took_both a.rest (label_bytes b.value) b.rest (four c.value ++ four d.value) d.rest b.took cd in
-        let ad = took_both bytes (name_bytes a.value) a.rest (label_bytes b.value ++ (four c.value ++ four d.value)) d.rest a.took bd in
-        subst (λ (p : FsSpec × List ℕ). Took bytes (file_system_bytes p.0) p.1 × IsFileSystem p.0) (ok_is made (s, rest) d.next)
+        let cd = took_both c.took d.took in
+        let bd = took_both b.took cd in
+        let ad = took_both a.took bd in
+        taken bytes made (s, rest) file_system_bytes IsFileSystem d.next
         (ad, record { name = a.allowed; ceiling = b.allowed; blocks = c.allowed; inodes = d.allowed })
 
     again : (s : FsSpec) (rest : List ℕ) → IsFileSystem s → file_system_at (file_system_bytes s ++ rest) ≡ Ok (s, rest)
@@ -132,11 +125,11 @@ link_field = record { takes = takes; again = again }
   where
     takes : (bytes : List ℕ) (l : LinkOf) (rest : List ℕ) → AreBytes bytes → link_at bytes ≡ Ok (l, rest) → Took bytes (link_bytes l) rest × IsLink l
     takes bytes l rest are e =
-        let a = stepped (name_at is_name) name_bytes (λ x. is_name x ≡ true) bytes _ (l, rest) named are e in
-        let b = stepped word_at four (λ n. n < 2 ^ 32) a.rest _ (l, rest) word_field a.took.are_bytes a.next in
+        let a = stepped named bytes _ (l, rest) are e in
+        let b = stepped word_field a.rest _ (l, rest) a.took.are_bytes a.next in
         let made : LinkOf × List ℕ = ((a.value, b.value), b.rest) in
-        let ab = took_both bytes (name_bytes a.value) a.rest (four b.value) b.rest a.took b.took in
-        subst (λ (p : LinkOf × List ℕ). Took bytes (link_bytes p.0) p.1 × IsLink p.0) (ok_is made (l, rest) b.next) (ab, record { name = a.allowed; object = b.allowed })
+        let ab = took_both a.took b.took in
+        taken bytes made (l, rest) link_bytes IsLink b.next (ab, record { name = a.allowed; object = b.allowed })
 
     again : (l : LinkOf) (rest : List ℕ) → IsLink l → link_at (link_bytes l ++ rest) ≡ Ok (l, rest)
     again l rest is =
@@ -164,23 +157,22 @@ name_count_field = number_field is_count_of_names (λ n h. let low = most_within
 file_takes : (bytes : List ℕ) (h : Holds) (rest : List ℕ) → AreBytes bytes → file_at bytes ≡ Ok (h, rest) → Took bytes (held_bytes h) rest × (AreHeld h × (are_links h ≡ false))
 unfolding file_at
 file_takes bytes h rest are e =
-    let a = stepped (number_at is_size_of_file) four (λ n. is_size_of_file n ≡ true) bytes _ (h, rest) file_size_field are e in
-    let b = stepped (bytes_at a.value) (λ x. x) (λ x. length x ≡ a.value) a.rest (λ x. Ok (Bytes x.0, x.1)) (h, rest) (bytes_field a.value) a.took.are_bytes a.next in
-    let ab = took_both bytes (four a.value) a.rest b.value b.rest a.took b.took in
+    let a = stepped file_size_field bytes _ (h, rest) are e in
+    let b = stepped (bytes_field a.value) a.rest (λ x. Ok (Bytes x.0, x.1)) (h, rest) a.took.are_bytes a.next in
+    let ab = took_both a.took b.took in
     let whole : Took bytes (held_bytes (Bytes b.value)) b.rest = subst (λ n. Took bytes (four n ++ b.value) b.rest) (sym b.allowed) ab in
     let few : is_size_of_file (length b.value) ≡ true = ap is_size_of_file b.allowed ∙ a.allowed in
-    subst (λ (p : Holds × List ℕ). Took bytes (held_bytes p.0) p.1 × (AreHeld p.0 × (are_links p.0 ≡ false))) (ok_is (Bytes b.value, b.rest) (h, rest) b.next) (whole, (few, refl))
+    taken bytes (Bytes b.value, b.rest) (h, rest) held_bytes (λ x. AreHeld x × (are_links x ≡ false)) b.next (whole, (few, refl))
 
 directory_takes : (bytes : List ℕ) (h : Holds) (rest : List ℕ) → AreBytes bytes → directory_at bytes ≡ Ok (h, rest) → Took bytes (held_bytes h) rest × (AreHeld h × (are_links h ≡ true))
 unfolding directory_at
 directory_takes bytes h rest are e =
-    let a = stepped (number_at is_count_of_names) four (λ n. is_count_of_names n ≡ true) bytes _ (h, rest) name_count_field are e in
-    let b = stepped (links_at a.value) (flat_map link_bytes) (λ xs. (length xs ≡ a.value) × AllByRecursion IsLink xs) a.rest (λ x. Ok (Links x.0, x.1)) (h, rest) (links_field a.value)
-    a.took.are_bytes a.next in
-    let ab = took_both bytes (four a.value) a.rest (flat_map link_bytes b.value) b.rest a.took b.took in
+    let a = stepped name_count_field bytes _ (h, rest) are e in
+    let b = stepped (links_field a.value) a.rest (λ x. Ok (Links x.0, x.1)) (h, rest) a.took.are_bytes a.next in
+    let ab = took_both a.took b.took in
     let whole : Took bytes (held_bytes (Links b.value)) b.rest = subst (λ n. Took bytes (four n ++ flat_map link_bytes b.value) b.rest) (sym b.allowed.0) ab in
     let few : is_count_of_names (length b.value) ≡ true = ap is_count_of_names b.allowed.0 ∙ a.allowed in
-    subst (λ (p : Holds × List ℕ). Took bytes (held_bytes p.0) p.1 × (AreHeld p.0 × (are_links p.0 ≡ true))) (ok_is (Links b.value, b.rest) (h, rest) b.next) (whole, ((few, b.allowed.1), refl))
+    taken bytes (Links b.value, b.rest) (h, rest) held_bytes (λ x. AreHeld x × (are_links x ≡ true)) b.next (whole, ((few, b.allowed.1), refl))
 
 file_again : (x rest : List ℕ) → is_size_of_file (length x) ≡ true → file_at (held_bytes (Bytes x) ++ rest) ≡ Ok (Bytes x, rest)
 unfolding file_at
@@ -228,9 +220,9 @@ flag_field = record { takes = takes; again = again }
   where
     takes : (bytes : List ℕ) (b : Bool) (rest : List ℕ) → AreBytes bytes → flag_at bytes ≡ Ok (b, rest) → Took bytes (flag b ∷ []) rest × Unit {0}
     takes bytes b rest are e =
-        let s = stepped (small_at 1) (λ n. n ∷ []) (λ n. n ≤ 1) bytes (λ n. Ok (n.0 == 1, n.1)) (b, rest) (small_field 1) are e in
+        let s = stepped (small_field 1) bytes (λ n. Ok (n.0 == 1, n.1)) (b, rest) are e in
         let whole : Took bytes (flag (s.value == 1) ∷ []) s.rest = subst (λ n. Took bytes (n ∷ []) s.rest) (sym (flag_back s.value s.allowed)) s.took in
-        subst (λ (p : Bool × List ℕ). Took bytes (flag p.0 ∷ []) p.1 × Unit {0}) (ok_is (s.value == 1, s.rest) (b, rest) s.next) (whole, tt)
+        taken bytes (s.value == 1, s.rest) (b, rest) (λ x. flag x ∷ []) (λ x. Unit {0}) s.next (whole, tt)
 
     again : (b : Bool) (rest : List ℕ) → Unit {0} → flag_at ((flag b ∷ []) ++ rest) ≡ Ok (b, rest)
     again b rest is = rw ((small_field 1).again (flag b) rest (flag_low b), flag_again b) refl
@@ -247,9 +239,9 @@ set_field = record { takes = takes; again = again }
   where
     takes : (bytes : List ℕ) (set : PrivSet) (rest : List ℕ) → AreBytes bytes → set_at bytes ≡ Ok (set, rest) → Took bytes (set.0 ∷ []) rest × (set.0 < 32)
     takes bytes set rest are e =
-        let s = stepped (small_at 31) (λ n. n ∷ []) (λ n. n ≤ 31) bytes (λ n. Ok (record { 0 = n.0 }, n.1)) (set, rest) (small_field 31) are e in
+        let s = stepped (small_field 31) bytes (λ n. Ok (record { 0 = n.0 }, n.1)) (set, rest) are e in
         let made : PrivSet = record { 0 = s.value } in
-        subst (λ (p : PrivSet × List ℕ). Took bytes (p.0.0 ∷ []) p.1 × (p.0.0 < 32)) (ok_is (made, s.rest) (set, rest) s.next) (s.took, below_32 s.value s.allowed)
+        taken bytes (made, s.rest) (set, rest) (λ x. x.0 ∷ []) (λ x. x.0 < 32) s.next (s.took, below_32 s.value s.allowed)
 
     again : (set : PrivSet) (rest : List ℕ) → set.0 < 32 → set_at ((set.0 ∷ []) ++ rest) ≡ Ok (set, rest)
     again set rest is = rw ((small_field 31).again set.0 rest (most_31 set.0 is)) refl
@@ -264,15 +256,15 @@ marks_field = record { takes = takes; again = again }
   where
     takes : (bytes : List ℕ) (m : Marks) (rest : List ℕ) → AreBytes bytes → marks_at bytes ≡ Ok (m, rest) → Took bytes (marks_bytes m) rest × AreMarks m
     takes bytes m rest are e =
-        let a = stepped flag_at (λ b. flag b ∷ []) (λ _. Unit {0}) bytes _ (m, rest) flag_field are e in
-        let b = stepped flag_at (λ b. flag b ∷ []) (λ _. Unit {0}) a.rest _ (m, rest) flag_field a.took.are_bytes a.next in
-        let c = stepped set_at (λ s. s.0 ∷ []) (λ s. s.0 < 32) b.rest _ (m, rest) set_field b.took.are_bytes b.next in
-        let d = stepped set_at (λ s. s.0 ∷ []) (λ s. s.0 < 32) c.rest _ (m, rest) set_field c.took.are_bytes c.next in
+        let a = stepped flag_field bytes _ (m, rest) are e in
+        let b = stepped flag_field a.rest _ (m, rest) a.took.are_bytes a.next in
+        let c = stepped set_field b.rest _ (m, rest) b.took.are_bytes b.next in
+        let d = stepped set_field c.rest _ (m, rest) c.took.are_bytes c.next in
         let made : Marks × List ℕ = (record { is_dir = a.value; frozen = b.value; cap = c.value; lic = d.value }, d.rest) in
-        let cd = took_both b.rest (c.value.0 ∷ []) c.rest (d.value.0 ∷ []) d.rest c.took d.took in
-        let bd = took_both a.rest (flag b.value ∷ []) b.rest (c.value.0 ∷ d.value.0 ∷ []) d.rest b.took cd in
-        let ad = took_both bytes (flag a.value ∷ []) a.rest (flag b.value ∷ c.value.0 ∷ d.value.0 ∷ []) d.rest a.took bd in
-        subst (λ (p : Marks × List ℕ). Took bytes (marks_bytes p.0) p.1 × AreMarks p.0) (ok_is made (m, rest) d.next) (ad, (c.allowed, d.allowed))
+        let cd = took_both c.took d.took in
+        let bd = took_both b.took cd in
+        let ad = took_both a.took bd in
+        taken bytes made (m, rest) marks_bytes AreMarks d.next (ad, (c.allowed, d.allowed))
 
     again : (m : Marks) (rest : List ℕ) → AreMarks m → marks_at (marks_bytes m ++ rest) ≡ Ok (m, rest)
     again m rest is = rw (

@@ -1,21 +1,12 @@
 -- Where the object of a number stands among objects whose numbers rise.
 use Rattle.std.proofs.Common.{◌≡◌, ℕ, zero, suc, ◌+◌, ◌<◌, ◌≤◌, Bool, true, false, cond, eqb, ltb, ◌==◌, ◌&&◌, ◌||◌, List, [], ◌∷◌, ◌++◌, length, get_or, Some}
 use Rattle.std.proofs.Common.{Ok, Err, Ordering, refl, sym, ap, subst, ◌∙◌, arith, inl, inr}
-use Rattle.std.specs.Prelude.{slice_get}
-use Rattle.std.specs.List.{HoldsAt, list_any}
-use Rattle.std.specs.List.Sorted.{IsBinarySearchResult, IsSortedBy, IsNonDecreasingBy}
-use Rattle.std.specs.Ordering.{nat_cmp, is_lt, ordering_index}
-use Rattle.std.specs.Cmp.{nat_cmp_total}
-use Rattle.std.specs.declared.cmp.Ordering.TheVariants.{Less, Equal, Greater}
-use Rattle.std.proofs.lemmas.Bool.{cases_lt, le-ltb, eq-eqb, ne_eqb, eqb-true}
-use Rattle.std.proofs.lemmas.List.{append-nil, length-map, get_or-map}
-use Rattle.std.proofs.lemmas.List.Folds.{list_any_none}
-use Rattle.std.proofs.lemmas.List.Sorted.{searchable_from_sorted}
-use Rattle.ix_image.specs.declared.node.Node.{Node}
-use Rattle.ix_image.specs.Trees.{LinkOf, NodeOf, links_of, is_directory}
-use Rattle.ix_image.specs.Image.{NumbersRise}
+use Rattle.std.specs.{Prelude.slice_get, List.{HoldsAt, list_any, Sorted.{IsBinarySearchResult, IsSortedBy, IsNonDecreasingBy}}, Cmp.nat_cmp_total}
+use Rattle.std.specs.{Ordering.{nat_cmp, is_lt, ordering_index}, declared.cmp.Ordering.TheVariants.{Less, Equal, Greater}}
+use Rattle.std.proofs.{lemmas.Bool.{cases_lt, le-ltb, eq-eqb, ne_eqb, eqb-true}, lemmas.List.{append-nil, length-map, get_or-map}}
+use Rattle.std.proofs.{lemmas.List.Folds.list_any_none, lemmas.List.Sorted.searchable_from_sorted}
+use Rattle.ix_image.specs.{declared.node.Node.Node, Trees.{LinkOf, NodeOf, links_of, is_directory}, Image.NumbersRise, Meant.{IsAt, node_of, nodes_of}}
 use Rattle.ix_image.specs.Fitting.{has_object, has_directory, root_links}
-use Rattle.ix_image.specs.Meant.{IsAt, node_of, nodes_of}
 
 -- ---- orders of numbers
 equal_is : (m n : ℕ) → nat_cmp m n ≡ Equal → m ≡ n

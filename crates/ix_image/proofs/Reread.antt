@@ -1,15 +1,10 @@
 -- The loops that read names, file systems and objects.
 use Rattle.std.proofs.Common.{◌≡◌, ℕ, zero, suc, ◌+◌, ◌-◌, ◌<◌, ◌≤◌, true, List, [], ◌∷◌, ◌++◌, Ok, Err, refl, sym, ap, ◌∙◌}
-use Rattle.std.specs.Result.{is_ok}
-use Rattle.std.proofs.lemmas.List.{map-append}
+use Rattle.std.{specs.Result.is_ok, proofs.lemmas.List.map-append}
 use Rattle.ix_model.specs.declared.config.FsSpec.{FsSpec}
-use Rattle.ix_image.specs.declared.fault.Fault.{Fault}
-use Rattle.ix_image.specs.declared.node.Node.{Node}
-use Rattle.ix_image.specs.Trees.{LinkOf, NodeOf}
+use Rattle.ix_image.specs.{declared.{fault.Fault.Fault, node.Node.Node}, Trees.{LinkOf, NodeOf}, Meant.{links_read, node_of, nodes_of}}
 use Rattle.ix_image.specs.Reading.{Read, ◌>>=◌, link_at, links_at, file_system_at, file_systems_at, node_at, nodes_at}
-use Rattle.ix_image.specs.Meant.{links_read, node_of, nodes_of}
-use Rattle.ix_image.proofs.Looping.{with_front, goes_on, ends_at, all_read, none_read_yet}
-use Rattle.ix_image.proofs.Objects.{no_systems, more_systems, no_links, more_links}
+use Rattle.ix_image.proofs.{Looping.{with_front, goes_on, ends_at, all_read, none_read_yet}, Objects.{no_systems, more_systems, no_links, more_links}}
 
 -- ---- names
 -- names that were read, and those that are left, are all

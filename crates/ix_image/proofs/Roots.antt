@@ -1,14 +1,8 @@
 -- Walks over file systems, each with its first inode, and over objects.
 use Rattle.std.proofs.Common.{◌≡◌, ℕ, ◌+◌, ◌<◌, ◌≤◌, Bool, true, false, ◌&&◌, ◌||◌, List, [], ◌∷◌, length, get_or, drop, Some, None, refl, sym, ap}
-use Rattle.std.specs.Prelude.{slice_get}
-use Rattle.std.specs.List.{list_all, list_any, AllByRecursion}
-use Rattle.std.proofs.lemmas.List.{drop_all}
-use Rattle.ix_model.specs.opening.Opening.{mounts}
-use Rattle.ix_model.specs.declared.config.FsSpec.{FsSpec}
-use Rattle.ix_image.specs.declared.node.Node.{Node}
-use Rattle.ix_image.specs.Trees.{LinkOf, NodeOf, further_roots}
-use Rattle.ix_image.specs.Image.{IsFileSystem}
-use Rattle.ix_image.specs.Meant.{node_of, nodes_of}
+use Rattle.std.{specs.{Prelude.slice_get, List.{list_all, list_any, AllByRecursion}}, proofs.lemmas.List.drop_all}
+use Rattle.ix_model.specs.{opening.Opening.mounts, declared.config.FsSpec.FsSpec}
+use Rattle.ix_image.specs.{declared.node.Node.Node, Trees.{LinkOf, NodeOf, further_roots}, Image.IsFileSystem, Meant.{node_of, nodes_of}}
 use Rattle.ix_image.proofs.Counting.{rest_at}
 
 -- ---- file systems

@@ -1,30 +1,18 @@
 -- How the image of a core's tree is written, part by part.
-use Rattle.std.proofs.Common.{◌≡◌, ℕ, zero, suc, ◌+◌, ◌-◌, ◌<◌, ◌≤◌, Bool, true, false, cond, List, [], ◌∷◌, ◌++◌, length, get_or, take, drop, Option, Some}
-use Rattle.std.proofs.Common.{None, refl, sym, ap, ◌∙◌, append_assoc, arith}
-use Rattle.std.specs.Prelude.{slice_get}
-use Rattle.std.specs.Option.{option_map_or, option_and_then}
-use Rattle.std.specs.List.{flat_map, range_with_len}
-use Rattle.std.proofs.lemmas.Grind.{flat_map-append}
-use Rattle.std.proofs.lemmas.List.{append-nil, drop_all, drop-drop, length-append, length-take, take-append-drop}
-use Rattle.ix_model.specs.declared.config.FsSpec.{FsSpec}
-use Rattle.ix_model.specs.declared.ids.Obj.{Obj}
-use Rattle.ix_model.specs.declared.views.ObjView.{ObjView}
-use Rattle.ix_model.specs.declared.reply.Kind.{Kind}
-use Rattle.ix_model.specs.declared.reply.Kind.TheVariants as kind
-use Rattle.ix_model.specs.world.World.{World, Object, at, is_file}
-use Rattle.ix_model.specs.world.Contents.{holding_of}
-use Rattle.ix_model.specs.world.Directories.{IsBehind}
+use Rattle.std.proofs.Common.{◌≡◌, ℕ, zero, suc, ◌+◌, ◌-◌, ◌<◌, ◌≤◌, Bool, true, false, cond, List, [], ◌∷◌, ◌++◌, length, get_or, take, drop, Option, Some, ap}
+use Rattle.std.proofs.Common.{None, refl, sym, ◌∙◌, append_assoc, arith}
+use Rattle.std.specs.{Prelude.slice_get, Option.{option_map_or, option_and_then}, List.{flat_map, range_with_len}}
+use Rattle.std.proofs.lemmas.{Grind.flat_map-append, List.{append-nil, drop_all, drop-drop, length-append, length-take, take-append-drop}}
+use Rattle.ix_model.specs.{declared.{config.FsSpec.FsSpec, ids.Obj.Obj, views.ObjView.ObjView, reply.Kind.Kind}, laws.Sound.Sound}
+use Rattle.ix_model.specs.world.{World.{World, Object, at, is_file}, Contents.holding_of, Directories.IsBehind}
 use Rattle.ix_model.specs.history.Views.{view_of, names_there, bytes_inside}
-use Rattle.ix_model.specs.laws.Sound.{Sound}
-use Rattle.ix_image.specs.declared.part.Part.{Part}
-use Rattle.ix_image.specs.declared.part.Part.TheVariants as part
-use Rattle.ix_image.specs.Trees.{NodeOf, LinkOf, Holds, Bytes, Links}
-use Rattle.ix_image.specs.Image.{first_bytes, four, file_system_bytes, link_bytes, held_bytes, marks_of, marks_bytes, node_bytes, image_of}
-use Rattle.ix_image.specs.Labelled.{label_bytes}
+use Rattle.ix_model.specs.declared.reply.Kind.TheVariants as kind
+use Rattle.ix_image.{specs.declared.part.Part.Part, specs.Trees.{NodeOf, LinkOf, Holds, Bytes, Links}, specs.Labelled.label_bytes, proofs.Counting.rest_at}
 use Rattle.ix_image.specs.Taken.{is_kept, held_in, node_of, kept_at, tree_on}
-use Rattle.ix_image.specs.Saving.{kept_from, kept_view, names_at, count_held, body_bytes, head_bytes, start_bytes, objects_left, names_left, bytes_left}
-use Rattle.ix_image.specs.Saving.{turns_left, IsFile, IsFirst, Stands, HasHead, Begins, WritesOn}
-use Rattle.ix_image.proofs.Counting.{rest_at}
+use Rattle.ix_image.specs.declared.part.Part.TheVariants as part
+use Rattle.ix_image.specs.Image.{first_bytes, four, file_system_bytes, link_bytes, held_bytes, marks_of, marks_bytes, node_bytes, image_of}
+use Rattle.ix_image.specs.Saving.{kept_from, kept_view, names_at, count_held, body_bytes, head_bytes, start_bytes, objects_left, names_left, bytes_left, IsFile}
+use Rattle.ix_image.specs.Saving.{turns_left, IsFirst, Stands, HasHead, Begins, WritesOn}
 
 -- ---- objects, one after the other
 kept_on : (w : World) (n : ℕ) → n < length w.frame.objects → kept_from w n ≡ kept_at w n ++ kept_from w (n + 1)

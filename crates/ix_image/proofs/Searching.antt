@@ -1,17 +1,12 @@
 -- What the search from object 0 finds: the directories that are reached.
 use Rattle.std.proofs.Common.{◌≡◌, ℕ, zero, suc, ◌+◌, ◌-◌, ◌<◌, ◌≤◌, Bool, true, false, cond, ◌==◌, ◌&&◌, ◌||◌, List, [], ◌∷◌, ◌++◌, length, get_or, set, map}
 use Rattle.std.proofs.Common.{replicate, count_by, Some, ◌⊎◌, inl, inr, refl, sym, ap, subst, ◌∙◌, append_assoc, arith}
-use Rattle.std.specs.Prelude.{slice_get}
-use Rattle.std.specs.Cmp.{both_ways}
-use Rattle.std.specs.List.{Contains, list_any}
+use Rattle.std.{specs.{Prelude.slice_get, Cmp.both_ways, List.{Contains, list_any}}, proofs.lemmas.List.Sums.{sum_by-set, sum_by-cons, count_by-le-length}}
 use Rattle.std.proofs.lemmas.Bool.{cases_lt, cases_eq, or_cases, or_left, or_right, and_parts, and_from, eqb-true, eq-eqb}
 use Rattle.std.proofs.lemmas.List.{append-nil, length-append, get_or-set_same, get_or-set_other, length-set, length-replicate}
 use Rattle.std.proofs.lemmas.List.Elements.{Contains-append_left, Contains-append_right, Contains-append_cases}
-use Rattle.std.proofs.lemmas.List.Sums.{sum_by-set, sum_by-cons, count_by-le-length}
-use Rattle.ix_image.specs.Trees.{LinkOf, NodeOf, Holds, Bytes, Links, links_held, are_links, links_of, is_directory}
-use Rattle.ix_image.specs.Fitting.{names_it, is_reached}
-use Rattle.ix_image.specs.Found.{marked, IsDirAt, Finds}
-use Rattle.ix_image.specs.Meant.{AreMarks}
+use Rattle.ix_image.specs.{Trees.{LinkOf, NodeOf, Holds, Bytes, Links, links_held, are_links, links_of, is_directory}, Fitting.{names_it, is_reached}}
+use Rattle.ix_image.specs.{Found.{marked, IsDirAt, Finds}, Meant.AreMarks}
 
 -- ---- lists
 pub any_found : {A : Type 0} (p : A → Bool) (xs : List A) → list_any p xs ≡ true → (i : ℕ) × (x : A) × (slice_get xs i ≡ Some x) × (p x ≡ true)

@@ -1,16 +1,10 @@
 -- The reader's steps over the whole image.
 use Rattle.std.proofs.Common.{◌≡◌, ℕ, ◌<◌, ◌≤◌, Bool, true, false, cond, ◌==◌, List, length, drop, Result, Ok, Err, refl, sym, ap, ◌∙◌}
 use Rattle.std.proofs.lemmas.Bool.{lt-ltb, le-ltb}
-use Rattle.ix_model.specs.opening.Valid.{is_within}
-use Rattle.ix_model.specs.declared.config.FsSpec.{FsSpec}
-use Rattle.ix_image.specs.declared.fault.Fault.{Fault}
-use Rattle.ix_image.specs.declared.fault.Stop.{Stop}
+use Rattle.ix_model.specs.{opening.Valid.is_within, declared.config.FsSpec.FsSpec}
+use Rattle.ix_image.specs.{declared.fault.{Fault.Fault, Stop.Stop}, Trees.{TreeOf, NodeOf, inodes_in}, Image.{is_count_of_file_systems, longest}, Meant.Stops}
+use Rattle.ix_image.specs.{Fitting.names_fit, Reading.{Read, ◌>>=◌, breaks, ends, start_at, number_at, file_systems_at, nodes_at, fields_of, tree_in}}
 use Rattle.ix_image.specs.declared.fault.Stop.TheVariants as stop
-use Rattle.ix_image.specs.Trees.{TreeOf, NodeOf, inodes_in}
-use Rattle.ix_image.specs.Image.{is_count_of_file_systems, longest}
-use Rattle.ix_image.specs.Fitting.{names_fit}
-use Rattle.ix_image.specs.Meant.{Stops}
-use Rattle.ix_image.specs.Reading.{Read, ◌>>=◌, breaks, ends, start_at, number_at, file_systems_at, nodes_at, fields_of, tree_in}
 
 -- ---- all fields
 -- what comes behind the objects

@@ -1,18 +1,11 @@
 -- How a list is told, line by line.
 use Rattle.std.proofs.Common.{◌≡◌, ℕ, zero, suc, ◌+◌, ◌<◌, ◌≤◌, List, [], ◌∷◌, ◌++◌, length, get_or, drop, sym, ap, subst, ◌∙◌, append_assoc, arith}
-use Rattle.std.specs.List.{flat_map}
-use Rattle.std.proofs.lemmas.List.{append-nil, drop_all, length-map}
-use Rattle.std.proofs.lemmas.List.Sums.{sum_by-cons}
+use Rattle.std.{specs.List.flat_map, proofs.lemmas.List.{append-nil, drop_all, length-map, Sums.sum_by-cons}}
 use Rattle.ix_model.specs.declared.config.FsSpec.{FsSpec}
-use Rattle.ix_image.specs.declared.naming.Links.{Links}
-use Rattle.ix_image.specs.declared.node.Node.{Node}
-use Rattle.ix_image.specs.declared.telling.Next.{Next}
-use Rattle.ix_image.specs.declared.telling.Next.TheVariants as next
-use Rattle.ix_image.specs.declared.telling.Listing.{Listing}
-use Rattle.ix_image.specs.Trees.{TreeOf, NodeOf, LinkOf, links_of}
-use Rattle.ix_image.specs.Lines.{file_system_line, node_line, link_line, node_lines, end_line, names_in}
+use Rattle.ix_image.specs.{declared.{naming.Links.Links, node.Node.Node, telling.{Next.Next, Listing.Listing}}, Trees.{TreeOf, NodeOf, LinkOf, links_of}}
+use Rattle.ix_image.specs.{Lines.{file_system_line, node_line, link_line, node_lines, end_line, names_in}, Meant.{links_in, node_of, nodes_of}}
 use Rattle.ix_image.specs.Telling.{Tells, left_of, pieces_of, nodes_left, text_left, pieces_left, pieces_of_nodes}
-use Rattle.ix_image.specs.Meant.{links_in, node_of, nodes_of}
+use Rattle.ix_image.specs.declared.telling.Next.TheVariants as next
 use Rattle.ix_image.proofs.Amounts.{node_at}
 
 -- ---- lists

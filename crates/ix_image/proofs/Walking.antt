@@ -1,10 +1,7 @@
 -- Names that stand one behind the other: how they are read, and read again one by one.
 use Rattle.std.proofs.Common.{◌≡◌, ℕ, zero, suc, ◌-◌, true, false, List, [], ◌∷◌, length, Ok, Err, refl, sym, ap, ◌∙◌, arith}
 use Rattle.std.specs.Result.{is_ok}
-use Rattle.ix_image.specs.declared.fault.Fault.{Fault}
-use Rattle.ix_image.specs.Trees.{LinkOf}
-use Rattle.ix_image.specs.Reading.{Read, ◌>>=◌, link_at, links_at}
-use Rattle.ix_image.specs.Meant.{links_read}
+use Rattle.ix_image.specs.{declared.fault.Fault.Fault, Trees.LinkOf, Reading.{Read, ◌>>=◌, link_at, links_at}, Meant.links_read}
 
 -- none
 pub none_readable : is_ok (links_at 0 []) ≡ true

@@ -1,21 +1,16 @@
 -- The whole image: what is read is what was written, and what was written is read.
-use Rattle.std.proofs.Common.{◌≡◌, ℕ, ◌*◌, ◌^◌, ◌<◌, ◌≤◌, Bool, true, false, cond, ltb, eqb, ◌==◌, List, [], ◌∷◌, ◌++◌, length, drop, Some, None, Result, Ok, Err, refl, sym, ap, subst, ◌∙◌, arith}
-use Rattle.std.specs.Prelude.{◌↔◌}
-use Rattle.std.specs.List.{flat_map, AllByRecursion}
-use Rattle.std.proofs.lemmas.Bool.{ltb-false, le-ltb, eqb-true, eq-eqb, le-leb, and_from}
-use Rattle.std.proofs.lemmas.List.{append-nil, nil_from_length, length-append}
-use Rattle.std.proofs.lemmas.List.Sums.{sum_by-cons}
-use Rattle.ix_model.specs.opening.Valid.{is_within}
-use Rattle.ix_model.specs.declared.config.FsSpec.{FsSpec}
-use Rattle.ix_image.specs.declared.fault.Fault.{Fault}
-use Rattle.ix_image.specs.Trees.{TreeOf, inodes_in}
-use Rattle.ix_image.specs.Fitting.{names_fit}
-use Rattle.ix_image.specs.Image.{first_bytes, four, file_system_bytes, node_bytes, image_of, is_count_of_file_systems, longest, IsFileSystem, IsNode, NumbersRise, IsTree, IsSound}
-use Rattle.ix_image.specs.Reading.{◌>>=◌, breaks, ends, same_at, start_at, number_at, file_systems_at, nodes_at, fields_of, tree_in, told_fault, fault_in, image_fault}
-use Rattle.ix_image.specs.Laws.{AreBytes, IsImage}
-use Rattle.ix_image.proofs.Fielding.{OneField, Took, took_both, stepped, bind_ok, guard_ok, ok_is, bytes-rest, number_field}
+use Rattle.std.proofs.Common.{◌≡◌, ℕ, ◌*◌, ◌^◌, ◌<◌, ◌≤◌, Bool, true, false, cond, ltb, eqb, ◌==◌, List, [], ◌∷◌, ◌++◌, length, drop, Some, None, Result, Ok}
+use Rattle.std.proofs.Common.{Err, refl, sym, ap, subst, ◌∙◌, arith}
+use Rattle.std.{specs.{Prelude.{◌↔◌}, List.{flat_map, AllByRecursion}}, proofs.lemmas.Bool.{ltb-false, le-ltb, eqb-true, eq-eqb, le-leb, and_from}}
+use Rattle.std.{proofs.lemmas.List.{append-nil, nil_from_length, length-append}, proofs.lemmas.List.Sums.sum_by-cons}
+use Rattle.ix_model.specs.{opening.Valid.is_within, declared.config.FsSpec.FsSpec}
+use Rattle.ix_image.specs.{declared.fault.Fault.Fault, Trees.{TreeOf, inodes_in}, Fitting.names_fit, Laws.{AreBytes, IsImage}}
+use Rattle.ix_image.specs.Image.{first_bytes, four, file_system_bytes, node_bytes, image_of, is_count_of_file_systems, longest, IsFileSystem, IsNode, IsTree}
+use Rattle.ix_image.specs.Image.{NumbersRise, IsSound}
+use Rattle.ix_image.specs.Reading.{◌>>=◌, breaks, ends, same_at, start_at, number_at, file_systems_at, nodes_at, fields_of, tree_in, told_fault, fault_in}
+use Rattle.ix_image.specs.Reading.{image_fault}
+use Rattle.ix_image.proofs.{Fielding.{OneField, Took, took_both, stepped, bind_ok, guard_ok, ok_is, bytes-rest, number_field}, Numbered.nodes_field}
 use Rattle.ix_image.proofs.Objects.{most_within, file_systems_field}
-use Rattle.ix_image.proofs.Numbered.{nodes_field}
 
 -- ---- the first bytes
 same_takes : (wanted bytes rest : List ℕ) → AreBytes bytes → same_at wanted bytes ≡ Ok rest → Took bytes wanted rest
@@ -76,10 +71,10 @@ most_objects n k m e low = omega arith
 -- what was taken piece by piece, to the end
 five_parts : (bytes a r b s c t d u e v : List ℕ) → Took bytes a r → Took r b s → Took s c t → Took t d u → Took u e v → v ≡ [] → bytes ≡ a ++ (b ++ (c ++ (d ++ e)))
 five_parts bytes a r b s c t d u e v p q x y z nothing =
-    let de = took_both t d u e v y z in
-    let ce = took_both s c t (d ++ e) v x de in
-    let be = took_both r b s (c ++ (d ++ e)) v q ce in
-    let ae = took_both bytes a r (b ++ (c ++ (d ++ e))) v p be in
+    let de = took_both y z in
+    let ce = took_both x de in
+    let be = took_both q ce in
+    let ae = took_both p be in
     ae.parts ∙ ap (λ (w : List ℕ). (a ++ (b ++ (c ++ (d ++ e)))) ++ w) nothing ∙ append-nil (a ++ (b ++ (c ++ (d ++ e))))
 
 -- the pieces of a tree
@@ -112,9 +107,9 @@ record Objects (fss : List FsSpec) (bytes : List ℕ) (t : TreeOf) : Type 0 wher
 
 objects_take : (fss : List FsSpec) (bytes : List ℕ) (t : TreeOf) → inodes_in fss < 2 ^ 32 → AreBytes bytes → after_systems (fss, bytes) ≡ Ok t → Objects fss bytes t
 objects_take fss bytes t few are e =
-    let d = stepped (number_at (is_within 0 (inodes_in fss))) four (λ n. is_within 0 (inodes_in fss) n ≡ true) bytes _ t (objects_field (inodes_in fss) few) are e in
-    let f = stepped (nodes_at fss 0 d.value) (flat_map node_bytes) _ d.rest (λ nodes. cond (length nodes.1 == 0) (Ok (record { fss = fss; nodes = nodes.0 })) (Err (breaks 7 nodes.1))) t
-    (nodes_field fss (low_inodes (inodes_in fss) few) d.value 0) d.took.are_bytes d.next in
+    let d = stepped (objects_field (inodes_in fss) few) bytes _ t are e in
+    let f = stepped (nodes_field fss (low_inodes (inodes_in fss) few) d.value 0) d.rest (λ nodes. cond (length nodes.1 == 0) (Ok (record { fss = fss; nodes = nodes.0 })) (Err (breaks 7 nodes.1)))
+    t d.took.are_bytes d.next in
     let g = guard_ok (length f.rest == 0) (breaks 7 f.rest) (record { fss = fss; nodes = f.value }) t f.next in
     let number : Took bytes (four (length f.value)) d.rest = subst (λ n. Took bytes (four n) d.rest) (sym f.allowed.0) d.took in
     let made : Objects fss bytes (record { fss = fss; nodes = f.value }) = record {
@@ -135,10 +130,8 @@ unfolding fields_of
 fields_take bytes t are e =
     let a = bind_ok (start_at bytes) (λ start. number_at is_count_of_file_systems start >>= λ count. file_systems_at count.0 count.1 >>= after_systems) t e in
     let ta = start_takes bytes a.0 are a.1 in
-    let b = stepped (number_at is_count_of_file_systems) four (λ n. is_count_of_file_systems n ≡ true) a.0 (λ count. file_systems_at count.0 count.1 >>= after_systems) t count_field ta.are_bytes
-    a.2 in
-    let c = stepped (file_systems_at b.value) (flat_map file_system_bytes) (λ xs. (length xs ≡ b.value) × AllByRecursion IsFileSystem xs) b.rest after_systems t (file_systems_field b.value)
-    b.took.are_bytes b.next in
+    let b = stepped count_field a.0 (λ count. file_systems_at count.0 count.1 >>= after_systems) t ta.are_bytes a.2 in
+    let c = stepped (file_systems_field b.value) b.rest after_systems t b.took.are_bytes b.next in
     go b.value c.value c.rest c.allowed.0 c.allowed.1 b.allowed (λ few. objects_take c.value c.rest t few c.took.are_bytes c.next) ta b.took c.took
   where
     go : {r s : List ℕ} (k : ℕ) (fss : List FsSpec) (u : List ℕ) → length fss ≡ k → AllByRecursion IsFileSystem fss → is_count_of_file_systems k ≡ true → (inodes_in fss < 2 ^ 32 → Objects fss u t)

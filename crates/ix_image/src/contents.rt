@@ -1,7 +1,5 @@
 ghost use Rattle.std.specs.Prelude.{◌≡◌};
-ghost use Rattle.ix_image.specs.Trees.{links_held, size_held, are_links};
-ghost use Rattle.ix_image.specs.Meant.{Gives, held_of, links_in};
-ghost use Rattle.ix_image.specs.Reading.{file_at, directory_at};
+ghost use Rattle.ix_image.specs.{Trees.{links_held, size_held, are_links}, Meant.{Gives, held_of, links_in}, Reading.{file_at, directory_at}};
 
 use crate::fault::Fault;
 use crate::fields::{bytes_at, number_at};

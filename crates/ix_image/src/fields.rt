@@ -1,9 +1,7 @@
 //! The fields of an image. Each reader takes one from the front of the bytes, and gives what is behind it.
 ghost use Rattle.std.specs.Prelude.{◌≡◌, ◌≤◌, length, IfOk};
-ghost use Rattle.ix_model.specs.opening.Valid.{is_within};
-ghost use Rattle.ix_model.specs.world.Naming.{is_name};
-ghost use Rattle.ix_image.specs.Meant.{Gives};
-ghost use Rattle.ix_image.specs.Reading.{start_at, bytes_at, word_at, number_at, small_at, text_at, name_at};
+ghost use Rattle.ix_model.specs.{opening.Valid.{is_within}, world.Naming.{is_name}};
+ghost use Rattle.ix_image.specs.{Meant.{Gives}, Reading.{start_at, bytes_at, word_at, number_at, small_at, text_at, name_at}};
 
 use crate::fault::Fault;
 use crate::rules::{BAD_NAME, MISSING, NO_IMAGE, OUT_OF_RANGE};

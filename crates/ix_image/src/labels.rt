@@ -1,9 +1,7 @@
 ghost use Rattle.std.specs.Prelude.{◌≡◌, ◌+◌, ◌-◌, ◌<◌, ◌≤◌, ◌==◌, ◌&&◌, ◌||◌, nat_le, nat_lt, ℕ, length, IfOk};
 ghost use Rattle.std.specs.Int.{bit_at};
 ghost use Rattle.ix_label.specs.Category.{has, leq};
-ghost use Rattle.ix_image.specs.Labelled.{label_in};
-ghost use Rattle.ix_image.specs.Meant.{Gives};
-ghost use Rattle.ix_image.specs.Reading.{label_below_at};
+ghost use Rattle.ix_image.specs.{Labelled.{label_in}, Meant.{Gives}, Reading.{label_below_at}};
 
 use crate::fault::Fault;
 use crate::fields::bytes_at;

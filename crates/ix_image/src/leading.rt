@@ -1,9 +1,6 @@
 //! Where names lead.
-ghost use Rattle.std.specs.Prelude.{◌≡◌, ◌≤◌, ◌==◌, ◌&&◌, ◌||◌, length};
-ghost use Rattle.std.specs.List.{AllByRecursion, list_all, list_any};
-ghost use Rattle.ix_image.specs.Trees.{further_roots, home};
-ghost use Rattle.ix_image.specs.Image.{IsFileSystem, IsTree, NumbersRise};
-ghost use Rattle.ix_image.specs.Fitting.{has_object, leads, links_lead, same_link};
+ghost use Rattle.std.specs.{Prelude.{◌≡◌, ◌≤◌, ◌==◌, ◌&&◌, ◌||◌, length}, List.{AllByRecursion, list_all, list_any}};
+ghost use Rattle.ix_image.specs.{Trees.{further_roots, home}, Image.{IsFileSystem, IsTree, NumbersRise}, Fitting.{has_object, leads, links_lead, same_link}};
 ghost use Rattle.ix_image.specs.Meant.{link_of, links_in, node_of, nodes_of, tree_made};
 
 use crate::naming::{Link, Links};

@@ -1,7 +1,6 @@
 //! The lines of a list.
 ghost use Rattle.std.specs.Prelude.{◌≡◌, ◌++◌, OnOk, OnErr, if◌then◌else◌, codes};
-ghost use Rattle.ix_image.specs.Lines.{file_system_line, node_line, link_line, end_line, kind_text};
-ghost use Rattle.ix_image.specs.Meant.{link_of, node_of};
+ghost use Rattle.ix_image.specs.{Lines.{file_system_line, node_line, link_line, end_line, kind_text}, Meant.{link_of, node_of}};
 
 use crate::labels::label_in;
 use crate::naming::Link;

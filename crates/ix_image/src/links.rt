@@ -1,6 +1,5 @@
 ghost use Rattle.std.specs.Prelude.{◌≡◌, [], ◌∷◌, MatchOption, length};
-ghost use Rattle.ix_image.specs.Meant.{Gives, link_of, links_in};
-ghost use Rattle.ix_image.specs.Reading.{link_at, links_at};
+ghost use Rattle.ix_image.specs.{Meant.{Gives, link_of, links_in}, Reading.{link_at, links_at}};
 
 use crate::fault::Fault;
 use crate::fields::{name_at, word_at};

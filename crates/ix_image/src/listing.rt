@@ -1,6 +1,5 @@
 ghost use Rattle.std.specs.Prelude.{◌≡◌, ◌<◌, ◌++◌, [], true, false, OnOk, OnErr};
-ghost use Rattle.ix_image.specs.Lines.{list_of};
-ghost use Rattle.ix_image.specs.Telling.{Tells, left_of, pieces_of};
+ghost use Rattle.ix_image.specs.{Lines.{list_of}, Telling.{Tells, left_of, pieces_of}};
 ghost use Rattle.ix_image.specs.declared.telling.Next.TheVariants as next;
 
 use crate::lines::{end_line, file_system_line, link_line, node_line};

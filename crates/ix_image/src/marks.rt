@@ -1,6 +1,5 @@
 ghost use Rattle.std.specs.Prelude.{◌≡◌};
-ghost use Rattle.ix_image.specs.Meant.{Gives};
-ghost use Rattle.ix_image.specs.Reading.{flag_at, set_at, marks_at};
+ghost use Rattle.ix_image.specs.{Meant.{Gives}, Reading.{flag_at, set_at, marks_at}};
 
 use crate::fault::Fault;
 use crate::fields::small_at;

@@ -1,9 +1,6 @@
 //! Which objects of a core have a name, and which are in its tree.
 ghost use Rattle.std.specs.Prelude.{◌≡◌, ℕ, ◌<◌, ◌==◌, ◌&&◌, ◌||◌, not, length, IfOk, slice_index_or, false};
-ghost use Rattle.ix_model.specs.history.History.{world_of};
-ghost use Rattle.ix_model.specs.laws.Sound.{Sound};
-ghost use Rattle.ix_model.specs.world.World.{at};
-ghost use Rattle.ix_model.specs.world.Owners.{times_in};
+ghost use Rattle.ix_model.specs.{history.History.{world_of}, laws.Sound.{Sound}, world.{World.{at}, Owners.{times_in}}};
 ghost use Rattle.ix_image.specs.Saving.{AreNamed, is_dir_kind, is_file_kind, kept_from, kept_view};
 
 use ix_core::Core;

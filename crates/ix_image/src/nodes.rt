@@ -1,8 +1,5 @@
-ghost use Rattle.std.specs.Prelude.{◌≡◌, ◌≤◌, ◌<◌, length, IfOk};
-ghost use Rattle.std.specs.List.{AllByRecursion};
-ghost use Rattle.ix_image.specs.Image.{IsFileSystem};
-ghost use Rattle.ix_image.specs.Meant.{Gives, GivesOrStops, held_of, node_of, nodes_of};
-ghost use Rattle.ix_image.specs.Reading.{order_at, held_at, node_at, nodes_at};
+ghost use Rattle.std.specs.{Prelude.{◌≡◌, ◌≤◌, ◌<◌, length, IfOk}, List.{AllByRecursion}};
+ghost use Rattle.ix_image.specs.{Image.{IsFileSystem}, Meant.{Gives, GivesOrStops, held_of, node_of, nodes_of}, Reading.{order_at, held_at, node_at, nodes_at}};
 
 use crate::contents::{Contents, directory_at, file_at};
 use crate::fault::{Fault, Stop};

@@ -1,9 +1,6 @@
 //! The parts of an image of a core's tree: each writes a piece, and gives what comes next.
 ghost use Rattle.std.specs.Prelude.{◌≡◌, ◌<◌, ◌≤◌, List, Some, false, length, IfOk, OnOk};
-ghost use Rattle.ix_model.specs.history.History.{world_of};
-ghost use Rattle.ix_model.specs.laws.Sound.{Sound};
-ghost use Rattle.ix_model.specs.world.World.{Object, at, is_dir, is_pipe};
-ghost use Rattle.ix_model.specs.declared.config.FsSpec.{FsSpec};
+ghost use Rattle.ix_model.specs.{history.History.{world_of}, laws.Sound.{Sound}, world.World.{Object, at, is_dir, is_pipe}, declared.config.FsSpec.{FsSpec}};
 ghost use Rattle.ix_image.specs.declared.part.Part.TheVariants as part;
 ghost use Rattle.ix_image.specs.Taken.{held_in, the_five};
 ghost use Rattle.ix_image.specs.Saving.{AreNamed, Begins, HasHead, HasNext, IsFile, IsFirst, WritesOn, count_held, is_dir_kind, kept_from, kept_view};

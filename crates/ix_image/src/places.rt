@@ -1,7 +1,5 @@
 ghost use Rattle.std.specs.Prelude.{◌≡◌, IfNone, IfSome, false};
-ghost use Rattle.ix_image.specs.Image.{NumbersRise};
-ghost use Rattle.ix_image.specs.Fitting.{has_object, has_directory};
-ghost use Rattle.ix_image.specs.Meant.{IsAt, nodes_of};
+ghost use Rattle.ix_image.specs.{Image.{NumbersRise}, Fitting.{has_object, has_directory}, Meant.{IsAt, nodes_of}};
 
 use crate::node::Node;
 

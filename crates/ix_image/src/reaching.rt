@@ -1,8 +1,6 @@
 //! Which directories are reached from object 0.
 ghost use Rattle.std.specs.Prelude.{◌≡◌, ◌∷◌, [], length, map, IfOk, OnOk};
-ghost use Rattle.ix_image.specs.Image.{NumbersRise};
-ghost use Rattle.ix_image.specs.Found.{Finds};
-ghost use Rattle.ix_image.specs.Meant.{AreMarks, links_in, nodes_of};
+ghost use Rattle.ix_image.specs.{Image.{NumbersRise}, Found.{Finds}, Meant.{AreMarks, links_in, nodes_of}};
 
 use crate::memory::push;
 use crate::naming::Links;

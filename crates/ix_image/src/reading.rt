@@ -1,7 +1,5 @@
 ghost use Rattle.std.specs.Prelude.{◌≡◌, ℕ, IfOk};
-ghost use Rattle.ix_image.specs.Trees.{TreeOf};
-ghost use Rattle.ix_image.specs.Image.{image_of, IsTree, IsSound};
-ghost use Rattle.ix_image.specs.Meant.{GivesOrStops, IsReadAs, Tells, tree_made};
+ghost use Rattle.ix_image.specs.{Trees.{TreeOf}, Image.{image_of, IsTree, IsSound}, Meant.{GivesOrStops, IsReadAs, Tells, tree_made}};
 ghost use Rattle.ix_image.specs.Reading.{fields_of, tree_in};
 
 use crate::fault::{Fault, ReadImage, Stop};

@@ -1,10 +1,6 @@
 ghost use Rattle.std.specs.Prelude.{◌≡◌, ◌<◌, ◌≤◌, ◌++◌, [], true, false, length, IsTrue, IfOk, OnOk, OnErr};
-ghost use Rattle.ix_model.specs.opening.Valid.{is_valid};
-ghost use Rattle.ix_model.specs.history.History.{world_of};
-ghost use Rattle.ix_image.specs.Image.{image_of};
-ghost use Rattle.ix_image.specs.Taken.{tree_of, tree_on};
-ghost use Rattle.ix_image.specs.Saving.{WritesOn};
-ghost use Rattle.ix_image.specs.Written.{IsBegun, Wrote, left_of, pieces_of};
+ghost use Rattle.ix_model.specs.{opening.Valid.{is_valid}, history.History.{world_of}};
+ghost use Rattle.ix_image.specs.{Image.{image_of}, Taken.{tree_of, tree_on}, Saving.{WritesOn}, Written.{IsBegun, Wrote, left_of, pieces_of}};
 
 use crate::named::{count_kept, named_objects};
 use crate::part::Part;

@@ -1,10 +1,6 @@
 //! File systems: how they are read, and which numbers are theirs.
-ghost use Rattle.std.specs.Prelude.{◌≡◌, ◌≤◌, ◌<◌, ℕ, length, IfOk};
-ghost use Rattle.std.specs.List.{AllByRecursion};
-ghost use Rattle.ix_image.specs.Image.{IsFileSystem};
-ghost use Rattle.ix_image.specs.Trees.{inodes_in, home};
-ghost use Rattle.ix_image.specs.Meant.{Gives, GivesOrStops};
-ghost use Rattle.ix_image.specs.Reading.{file_system_at, file_systems_at};
+ghost use Rattle.std.specs.{Prelude.{◌≡◌, ◌≤◌, ◌<◌, ℕ, length, IfOk}, List.{AllByRecursion}};
+ghost use Rattle.ix_image.specs.{Image.{IsFileSystem}, Trees.{inodes_in, home}, Meant.{Gives, GivesOrStops}, Reading.{file_system_at, file_systems_at}};
 ghost use Rattle.ix_model.specs.world.World.{fs_at};
 
 use crate::fault::{Fault, Stop};

@@ -13,9 +13,7 @@ pub struct Tree<'a> {
 impl<'a> Model for Tree<'a> {
     ghost use Rattle.std.specs.Coded.{codes};
     ghost use Rattle.ix_label.specs.contracts.label.Label as label_type;
-    ghost use Rattle.ix_image.specs.Trees.{TreeOf};
-    ghost use Rattle.ix_image.specs.Image.{IsSound};
-    ghost use Rattle.ix_image.specs.Meant.{tree_made};
+    ghost use Rattle.ix_image.specs.{Trees.{TreeOf}, Image.{IsSound}, Meant.{tree_made}};
 
     ghost Value = { TreeOf };
 

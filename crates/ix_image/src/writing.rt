@@ -1,10 +1,7 @@
 //! The fields of an image, as they are written.
 ghost use Rattle.std.specs.Prelude.{◌≡◌, ◌<◌, ◌+◌, ◌≤◌, ◌++◌, length, OnOk};
-ghost use Rattle.ix_label.specs.Category.{has};
-ghost use Rattle.ix_label.specs.Words.{from_bits};
-ghost use Rattle.ix_image.specs.Labelled.{label_bytes};
-ghost use Rattle.ix_image.specs.Image.{four, name_bytes, file_system_bytes, link_bytes, marks_bytes};
-ghost use Rattle.ix_image.specs.Saving.{start_bytes};
+ghost use Rattle.ix_label.specs.{Category.{has}, Words.{from_bits}};
+ghost use Rattle.ix_image.specs.{Labelled.{label_bytes}, Image.{four, name_bytes, file_system_bytes, link_bytes, marks_bytes}, Saving.{start_bytes}};
 
 use crate::marks::Marks;
 use bitflags::Flags;

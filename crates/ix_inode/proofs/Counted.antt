@@ -1,14 +1,11 @@
 -- The blocks that the files of one file system use, among those of all.
-use Rattle.std.proofs.Common.{◌≡◌, ◌<◌, ◌+◌, ◌==◌, ◌∙◌, ℕ, zero, suc, true, false, List, [], ◌∷◌, ◌++◌, length, get_or, Option, Some, None, if◌then◌else◌, refl, sym, ap, subst, arith}
-use Rattle.std.specs.Option.{option_map_or}
-use Rattle.std.proofs.lemmas.Bool.Decides.{nat_tests}
+use Rattle.std.proofs.Common.{◌≡◌, ◌<◌, ◌+◌, ◌==◌, ◌∙◌, ℕ, zero, suc, true, false, List, [], ◌∷◌, ◌++◌, length, get_or, Option, Some, None, if◌then◌else◌, refl}
+use Rattle.std.proofs.Common.{sym, ap, subst, arith}
+use Rattle.std.{specs.Option.option_map_or, proofs.lemmas.Bool.Decides.nat_tests}
 use Rattle.ix_label.specs.Category.{Categories}
 use Rattle.ix_model.specs.rows.Telling.{blocks_for}
 use Rattle.ix_blocks.specs.Files.{used}
-use Rattle.ix_inode.specs.declared.node.Node.{Node}
-use Rattle.ix_inode.specs.declared.volume.Volume.{Volume}
-use Rattle.ix_inode.specs.Nodes.{blocks_of}
-use Rattle.ix_inode.specs.Volumes.{AreOn, all_nodes, all_bytes}
+use Rattle.ix_inode.specs.{declared.{node.Node.Node, volume.Volume.Volume}, Nodes.blocks_of, Volumes.{AreOn, all_nodes, all_bytes}}
 
 -- ---- one file system
 rest_on : (k : ℕ) (c : Categories) (x : Option Node) (ns : List (Option Node)) (b : List ℕ) (bs : List (List ℕ)) → AreOn k c (x ∷ ns) (b ∷ bs) → AreOn k c ns bs

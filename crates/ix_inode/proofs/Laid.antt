@@ -1,30 +1,19 @@
 -- The file systems one behind the other: where their inodes stand, and an edit of one.
-use Rattle.std.proofs.Common.{Bool, ◌≡◌, ◌<◌, ◌≤◌, ◌+◌, ◌-◌, ◌∙◌, ℕ, zero, suc, true, false, not, nat_le, List, [], ◌∷◌, ◌++◌, length, length-append}
-use Rattle.std.proofs.Common.{take, drop, set, get_or, Option, Some, None, option_map, is_some, IfSome, if◌then◌else◌, ◌^◌, refl, sym, ap, subst}
-use Rattle.std.proofs.Common.{arith, inl, inr, get_or-set_same, get_or-set_other}
-use Rattle.std.specs.List.{flat_map}
-use Rattle.std.specs.Option.{option_map_or}
-use Rattle.std.proofs.lemmas.List.{length-set, length-map, get_or_default, get_or_read, get_or-map, set-get_or, take_more, append-nil}
-use Rattle.std.proofs.lemmas.List.Sums.{sum-map, sum_by-cons}
-use Rattle.std.proofs.lemmas.List.Concat.{get_or-flat_map, flat_map-append}
-use Rattle.std.proofs.lemmas.Bool.{cases_eq}
-use Rattle.std.proofs.Math.Seq.{map-set_same}
-use Rattle.ix_label.specs.Category.{leq}
-use Rattle.ix_label.specs.Lattice.{bottom-leq}
-use Rattle.ix_model.specs.world.World.{at, put, lowest_free, fs_at}
-use Rattle.ix_model.specs.world.Numbers.{first_inode}
-use Rattle.ix_model.specs.declared.config.FsSpec.{FsSpec}
+use Rattle.std.proofs.Common.{Bool, ◌≡◌, ◌<◌, ◌≤◌, ◌+◌, ◌-◌, ◌∙◌, ℕ, zero, suc, true, false, not, nat_le, List, [], ◌∷◌, ◌++◌, length, length-append, take, set}
+use Rattle.std.proofs.Common.{drop, get_or, Option, Some, None, option_map, is_some, IfSome, if◌then◌else◌, ◌^◌, refl, sym, ap, subst, arith, inl, inr}
+use Rattle.std.proofs.Common.{get_or-set_same, get_or-set_other}
+use Rattle.std.specs.{List.flat_map, Option.option_map_or}
+use Rattle.std.proofs.{lemmas.List.{length-set, length-map, get_or_default, get_or_read, get_or-map, set-get_or, take_more, append-nil}, lemmas.Bool.cases_eq}
+use Rattle.std.proofs.{lemmas.List.Sums.{sum-map, sum_by-cons}, lemmas.List.Concat.{get_or-flat_map, flat_map-append}, Math.Seq.map-set_same}
+use Rattle.ix_label.specs.{Category.leq, Lattice.bottom-leq}
+use Rattle.ix_model.specs.{world.{World.{at, put, lowest_free, fs_at}, Numbers.first_inode}, declared.config.FsSpec.FsSpec, rows.Telling.blocks_for}
 use Rattle.ix_numbers.proofs.Tied.{vacant_there}
-use Rattle.ix_model.specs.rows.Telling.{blocks_for}
 use Rattle.ix_blocks.specs.Files.{Files, with_bytes, used, has_room}
-use Rattle.ix_inode.specs.declared.node.Node.{Node}
-use Rattle.ix_inode.specs.declared.volume.Volume.{Volume}
-use Rattle.ix_inode.specs.Shown.{new_node, told, taken}
-use Rattle.ix_inode.specs.Nodes.{Nodes, vacant_in, made, fs_ceiling, with_inode, with_node, without, holding, bytes_at, is_file_at, has_space, free_blocks, blocks_of, bytes_on, told_at}
+use Rattle.ix_inode.specs.{declared.{node.Node.Node, volume.Volume.Volume}, Shown.{new_node, told, taken}}
 use Rattle.ix_inode.specs.Volumes.{AreOn, IsVolume, AreVolumes, IsSpot, specs, all_nodes, all_bytes, nodes_of}
-use Rattle.ix_inode.proofs.Standing.{on_edit, same_some}
-use Rattle.ix_inode.proofs.Counted.{used_here}
-use Rattle.ix_inode.proofs.Flat.{flat_set, flat_window}
+use Rattle.ix_inode.specs.Nodes.{Nodes, vacant_in, made, fs_ceiling, with_inode, with_node, without, holding, bytes_at, is_file_at, has_space, free_blocks}
+use Rattle.ix_inode.specs.Nodes.{blocks_of, bytes_on, told_at}
+use Rattle.ix_inode.proofs.{Standing.{on_edit, same_some}, Counted.used_here, Flat.{flat_set, flat_window}}
 
 -- ---- where the inodes begin
 first_cons : (s : FsSpec) (ss : List FsSpec) (k : ℕ) → first_inode (s ∷ ss) (suc k) ≡ s.inodes + first_inode ss k

@@ -1,22 +1,13 @@
 -- File systems as they are made, one after the other.
-use Rattle.std.proofs.Common.{◌≡◌, ◌<◌, ◌≤◌, ◌+◌, ◌-◌, ◌∙◌, ℕ, suc, Bool, true, false, ◌&&◌, nat_le, List, [], ◌∷◌, ◌++◌, length, map, take}
-use Rattle.std.proofs.Common.{replicate, get_or, sum, Option, Some, None, refl, sym, ap, subst, arith, inl, inr}
+use Rattle.std.proofs.Common.{◌≡◌, ◌<◌, ◌≤◌, ◌+◌, ◌-◌, ◌∙◌, ℕ, suc, Bool, true, false, ◌&&◌, nat_le, List, [], ◌∷◌, ◌++◌, length, map, take, replicate, get_or}
+use Rattle.std.proofs.Common.{sum, Option, Some, None, refl, sym, ap, subst, arith, inl, inr}
 use Rattle.std.specs.List.{list_all}
-use Rattle.std.proofs.lemmas.List.{length-map, length-take, length-replicate, length_push, get_or_append_left, get_or_push, take-append-le, take_more}
-use Rattle.std.proofs.lemmas.List.{take_all, map_push, append-nil, append_assoc, replicate-append-replicate}
-use Rattle.std.proofs.lemmas.List.Concat.{flat_map-append}
-use Rattle.std.proofs.lemmas.List.Sums.{sum-map, sum_by_push}
-use Rattle.std.proofs.lemmas.List.Folds.{list_all_at}
-use Rattle.std.proofs.lemmas.Bool.{cases_lt}
-use Rattle.std.proofs.lemmas.Bool.Decides.{nat_tests}
-use Rattle.ix_model.specs.world.Numbers.{first_inode}
-use Rattle.ix_model.specs.opening.Valid.{fs_fits, is_within}
-use Rattle.ix_model.specs.declared.config.FsSpec.{FsSpec}
+use Rattle.std.proofs.lemmas.{List.{Concat.flat_map-append, Sums.{sum-map, sum_by_push}, Folds.list_all_at}, Bool.{cases_lt, Decides.nat_tests}}
+use Rattle.std.proofs.lemmas.List.{length-map, length-take, length-replicate, length_push, get_or_append_left, get_or_push, take-append-le, take_more, take_all}
+use Rattle.std.proofs.lemmas.List.{map_push, append-nil, append_assoc, replicate-append-replicate}
+use Rattle.ix_model.specs.{world.Numbers.first_inode, opening.Valid.{fs_fits, is_within}, declared.config.FsSpec.FsSpec}
 use Rattle.ix_blocks.specs.Files.{Files}
-use Rattle.ix_inode.specs.declared.node.Node.{Node}
-use Rattle.ix_inode.specs.declared.volume.Volume.{Volume}
-use Rattle.ix_inode.specs.Shown.{new_node}
-use Rattle.ix_inode.specs.Nodes.{bare, opened, are_within}
+use Rattle.ix_inode.specs.{declared.{node.Node.Node, volume.Volume.Volume}, Shown.new_node, Nodes.{bare, opened, are_within}}
 use Rattle.ix_inode.specs.Volumes.{IsNew, AreOn, IsVolume, AreNew, specs, all_nodes, all_bytes, nodes_of}
 use Rattle.ix_inode.proofs.Standing.{on_first}
 

@@ -1,13 +1,10 @@
 -- The inodes of one file system stand on it, below its ceiling, and hold nothing where none stands, whatever is edited.
-use Rattle.std.proofs.Common.{◌≡◌, ◌<◌, ◌-◌, ◌∙◌, ℕ, zero, suc, true, ltb, List, [], ◌∷◌, length, set, get_or, replicate, Option, Some, None, sym, ap}
-use Rattle.std.proofs.Common.{arith, inl, inr, refl, get_or-set_same, get_or-set_other}
+use Rattle.std.proofs.Common.{◌≡◌, ◌<◌, ◌-◌, ◌∙◌, ℕ, zero, suc, true, ltb, List, [], ◌∷◌, length, set, get_or, replicate, Option, Some, None, sym, ap, arith}
+use Rattle.std.proofs.Common.{inl, inr, refl, get_or-set_same, get_or-set_other}
 use Rattle.std.proofs.lemmas.Bool.{cases_eq, lt-ltb}
-use Rattle.ix_label.specs.Category.{Categories, leq}
-use Rattle.ix_label.specs.Lattice.{bottom-leq}
+use Rattle.ix_label.specs.{Category.{Categories, leq}, Lattice.bottom-leq}
 use Rattle.ix_model.specs.world.World.{lowest_free}
-use Rattle.ix_inode.specs.declared.node.Node.{Node}
-use Rattle.ix_inode.specs.Shown.{new_node, taken}
-use Rattle.ix_inode.specs.Volumes.{AreOn}
+use Rattle.ix_inode.specs.{declared.node.Node.Node, Shown.{new_node, taken}, Volumes.AreOn}
 
 pub same_some : {A : Type 0} {x y : A} → Some x ≡ Some y → x ≡ y
 same_some e = cc

@@ -1,13 +1,11 @@
 ghost use Rattle.std.specs.Prelude.{◌≡◌, ◌+◌, ◌<◌, ◌≤◌, ◌++◌, min, take, drop, IsTrue, IfOk, is_some, IfSome, Some, length, if◌then◌else◌};
 ghost use Rattle.std.proofs.Common.{option_map};
 ghost use Rattle.ix_label.specs.Category.{leq};
-ghost use Rattle.ix_model.specs.world.World.{at, fs_at};
-ghost use Rattle.ix_model.specs.world.Numbers.{first_inode};
-ghost use Rattle.ix_model.specs.world.Contents.{spliced, cut_to};
+ghost use Rattle.ix_model.specs.world.{World.{at, fs_at}, Numbers.{first_inode}, Contents.{spliced, cut_to}};
 ghost use Rattle.ix_blocks.specs.Files.{most};
-ghost use Rattle.ix_inode.specs.Shown.{new_node, is_dir_kind};
-ghost use Rattle.ix_inode.specs.Nodes.{changed, vacant_in, made, without, holding, bytes_at, is_file_at, has_space, length_after, told_at, ceiling_at, fs_ceiling, with_node, opened, are_within, blocks_of, free_blocks};
-ghost use Rattle.ix_inode.specs.declared.node.Node.{Node};
+ghost use Rattle.ix_inode.specs.{Shown.{new_node, is_dir_kind}, declared.node.Node.{Node}};
+ghost use Rattle.ix_inode.specs.Nodes.{changed, vacant_in, made, without, holding, bytes_at, is_file_at, has_space, length_after, told_at, ceiling_at, opened};
+ghost use Rattle.ix_inode.specs.Nodes.{fs_ceiling, with_node, are_within, blocks_of, free_blocks};
 
 use crate::node::{Inode, Node};
 use crate::spot::{object_of, spot_of, spot_there};
@@ -35,8 +33,7 @@ pub struct Inodes {
 impl Model for Inodes {
     ghost use Rattle.std.specs.Coded.{codes};
     ghost use Rattle.ix_label.specs.contracts.label.Label as label_type;
-    ghost use Rattle.ix_inode.specs.Nodes.{Nodes};
-    ghost use Rattle.ix_inode.specs.Volumes.{nodes_of, AreVolumes};
+    ghost use Rattle.ix_inode.specs.{Nodes.{Nodes}, Volumes.{nodes_of, AreVolumes}};
 
     ghost Value = { Nodes };
 

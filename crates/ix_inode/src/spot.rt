@@ -1,5 +1,4 @@
-ghost use Rattle.std.specs.Prelude.{◌≡◌, ◌+◌, ◌<◌, ◌≤◌, ◌^◌, IfSome, MatchOption, length};
-ghost use Rattle.std.proofs.Common.{option_map};
+ghost use Rattle.std.{specs.Prelude.{◌≡◌, ◌+◌, ◌<◌, ◌≤◌, ◌^◌, IfSome, MatchOption, length}, proofs.Common.{option_map}};
 ghost use Rattle.ix_inode.specs.Volumes.{AreVolumes, IsSpot, all_nodes};
 
 use crate::volume::Volume;

@@ -16,10 +16,9 @@ pub(crate) struct Table {
 }
 
 impl Model for Table {
-    ghost use Rattle.std.specs.Prelude.{◌≡◌, List, Option};
+    ghost use Rattle.std.specs.{Prelude.{◌≡◌, List, Option}, Coded.{codes}};
     ghost use Rattle.ix_numbers.specs.Marks.{vacancies};
     ghost use Rattle.ix_inode.specs.declared.node.Node.{Node};
-    ghost use Rattle.std.specs.Coded.{codes};
     ghost use Rattle.ix_label.specs.contracts.label.Label as label_type;
 
     ghost Value = { List (Option Node) };

@@ -1,21 +1,13 @@
 -- The calls that neither read nor edit what is held.
 use Rattle.std.proofs.Common.{◌≡◌, ◌+◌, ℕ, Bool, true, false, true≢false, ◌&&◌, List, length, is_some, if◌then◌else◌, refl, sym, ap, ◌∙◌, arith, subst, get_or}
 use Rattle.ix_label.specs.Category.{Categories}
-use Rattle.ix_model.specs.world.World.{World, Frame, at, is_ended}
-use Rattle.ix_model.specs.world.Contents.{keep, grown, carried, holds_nothing}
-use Rattle.ix_model.specs.rows.Table.{Decision, verdict}
-use Rattle.ix_model.specs.rows.Telling.{told, nothing_told}
-use Rattle.ix_model.specs.history.Step.{Given, plainly, answer, step}
-use Rattle.ix_model.specs.history.Lowering.{Crosses}
-use Rattle.ix_model.specs.two_runs.TwoRuns.{shape, Alike, AlikeIn}
-use Rattle.ix_model.specs.history.Events.{Op}
+use Rattle.ix_model.specs.{world.{World.{World, Frame, at, is_ended}, Contents.{keep, grown, carried, holds_nothing}}, two_runs.TwoRuns.{shape, Alike, AlikeIn}}
+use Rattle.ix_model.specs.rows.{Table.{Decision, verdict}, Telling.{told, nothing_told}}
+use Rattle.ix_model.specs.history.{Step.{Given, plainly, answer, step}, Lowering.Crosses, Events.Op}
 use Rattle.ix_model.specs.history.Events as op
 use Rattle.ix_model.proofs.clean.Carrying.{get_or-keep}
-use Rattle.ix_iso.specs.Laws.{goes_by_shape, LeavesWhatIsHeld, GoesByShape}
-use Rattle.ix_iso.proofs.Counts.{shape_frames}
-use Rattle.ix_iso.proofs.Shapes.{twins_itself, one_shape, left, right}
-use Rattle.ix_iso.proofs.Entries.{EntriesStay, entries_stay, entries_rise, leaves_labels}
-use Rattle.ix_iso.proofs.Inside.{carried_alike, grown_at}
+use Rattle.ix_iso.{specs.Laws.{goes_by_shape, LeavesWhatIsHeld, GoesByShape}, proofs.Counts.shape_frames, proofs.Shapes.{twins_itself, one_shape, left, right}}
+use Rattle.ix_iso.{proofs.Entries.{EntriesStay, entries_stay, entries_rise, leaves_labels}, proofs.Inside.{carried_alike, grown_at}}
 
 -- ---- plainly
 plain_answer : (w : World) (pid : ℕ) (o : Op) (d : Decision) → goes_by_shape o ≡ true → answer w pid o d ≡ plainly w d

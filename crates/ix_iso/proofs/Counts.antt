@@ -1,22 +1,17 @@
 -- How many of each a content has, and the part of a reply that the frame decides: neither looks at what is held.
-use Rattle.std.proofs.Common.{◌≡◌, ◌+◌, ◌-◌, ℕ, Bool, true, false, true≢false, ◌&&◌, not, List, [], ◌∷◌, length, map, replicate, Option, Some, None}
-use Rattle.std.proofs.Common.{if◌then◌else◌, refl, sym, ap, ◌∙◌, arith, set, length-set, length-append}
+use Rattle.std.proofs.Common.{◌≡◌, ◌+◌, ◌-◌, ℕ, Bool, true, false, true≢false, ◌&&◌, not, List, [], ◌∷◌, length, map, replicate, Option, Some, None, refl, sym}
+use Rattle.std.proofs.Common.{if◌then◌else◌, ap, ◌∙◌, arith, set, length-set, length-append}
 use Rattle.std.proofs.lemmas.List.{length-map, length-replicate}
-use Rattle.ix_model.specs.world.Naming.{PathOf}
-use Rattle.ix_model.specs.world.World.{Frame, World, Content, Holding, at, is_ended}
-use Rattle.ix_model.specs.rows.Walks.{OpenFile, behind}
+use Rattle.ix_model.specs.{world.{Naming.PathOf, World.{Frame, World, Content, Holding, at, is_ended}}, rows.{Walks.{OpenFile, behind}, Table.Decision}}
+use Rattle.ix_model.specs.{two_runs.TwoRuns.{shape, blank}, history.Events.Op, declared.reply.Reply.Reply}
 use Rattle.ix_model.specs.world.Contents.{grown, carried, after_read, after_write, after_cut, after_seek, after_exit, emptied, holds_nothing, on_pipe}
-use Rattle.ix_model.specs.rows.Table.{Decision}
-use Rattle.ix_model.specs.history.Step.{Given, plainly, read_answer, write_answer, cut_answer, seek_answer, stat_answer, exit_answer, wait_answer, pex_answer, is_whole, answer}
-use Rattle.ix_model.specs.two_runs.TwoRuns.{shape, blank}
-use Rattle.ix_model.specs.history.Events.{Op}
+use Rattle.ix_model.specs.history.Step.{Given, plainly, read_answer, write_answer, cut_answer, seek_answer, stat_answer, exit_answer, wait_answer, pex_answer}
+use Rattle.ix_model.specs.history.Step.{is_whole, answer}
 use Rattle.ix_model.specs.history.Events as op
 use Rattle.ix_model.specs.declared.reply.Kind.TheVariants as kind
-use Rattle.ix_model.specs.declared.reply.Reply.{Reply}
 use Rattle.ix_model.specs.declared.reply.Reply.TheVariants as reply
 use Rattle.ix_model.proofs.clean.Carrying.{length-keep}
-use Rattle.ix_iso.specs.Laws.{frame_part, gives_bytes}
-use Rattle.ix_iso.proofs.OneKind.{kind_number}
+use Rattle.ix_iso.{specs.Laws.{frame_part, gives_bytes}, proofs.OneKind.kind_number}
 
 -- as many objects, open entries and processes
 pub record SameCounts (c d : Content) : Type 0 where

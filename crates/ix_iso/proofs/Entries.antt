@@ -1,20 +1,12 @@
 -- What calls do to the labels of open entries: most leave them, reads, writes and seeks raise one, and a new one is at bottom.
 use Rattle.std.proofs.Common.{◌≡◌, ℕ, Bool, true, false, true≢false, List, Option, Some, None, is_some, refl, sym, ap, ◌∙◌, subst, inl, inr}
-use Rattle.ix_label.specs.Category.{Categories, bottom, join, leq}
-use Rattle.ix_label.specs.Lattice.{leq-refl, leq-trans, leq-join_left}
-use Rattle.ix_model.specs.world.World.{Frame, Open, at, put, change}
-use Rattle.ix_model.specs.rows.Rows.{change_object, change_process, change_open, put_object, put_open, put_process, add_process}
-use Rattle.ix_model.specs.rows.Auditing.{logged}
-use Rattle.ix_model.specs.rows.OnProcesses.{end_process}
-use Rattle.ix_model.specs.rows.OnDescriptors.{LengthChecks}
-use Rattle.ix_model.specs.rows.Table.{row, verdict}
+use Rattle.ix_label.specs.{Category.{Categories, bottom, join, leq}, Lattice.{leq-refl, leq-trans, leq-join_left}}
+use Rattle.ix_model.specs.{world.World.{Frame, Open, at, put, change}, rows.Auditing.logged, rows.OnProcesses.end_process, rows.OnDescriptors.LengthChecks}
+use Rattle.ix_model.specs.{rows.Rows.{change_object, change_process, change_open, put_object, put_open, put_process, add_process}, rows.Table.{row, verdict}}
 use Rattle.ix_model.specs.history.Events.{Op}
 use Rattle.ix_model.specs.history.Events as op
-use Rattle.ix_model.proofs.tables.Finds.{at_put, at_change}
-use Rattle.ix_model.proofs.words.Keeps.{Holds, Keeps}
-use Rattle.ix_model.proofs.words.Lasts.{Lasting, lasting_itself, lasting_put, decided}
-use Rattle.ix_model.proofs.words.Rowwise.{Change, Moving, Opening, LettingGo, Moves, moved_row}
-use Rattle.ix_model.proofs.words.Turns.{holds_more}
+use Rattle.ix_model.proofs.{tables.Finds.{at_put, at_change}, words.Keeps.{Holds, Keeps}, words.Lasts.{Lasting, lasting_itself, lasting_put, decided}}
+use Rattle.ix_model.proofs.{words.Rowwise.{Change, Moving, Opening, LettingGo, Moves, moved_row}, words.Turns.holds_more}
 
 -- ---- what is asked of the open entries alone
 module _ (can : Change → Bool) (pid : ℕ) (S : List (Option Open) → Type 0) where

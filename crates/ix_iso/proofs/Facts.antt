@@ -1,25 +1,14 @@
 -- What is known where the rows pass that answer bytes, sizes and statuses: whose labels the caller's is not below.
 use Rattle.std.proofs.Common.{◌≡◌, ℕ, true, false, true≢false, ◌&&◌, List, Option, Some, None, refl, sym, ap, ◌∙◌, subst, inl, inr}
-use Rattle.std.proofs.lemmas.Bool.{and_parts, not-false}
-use Rattle.std.proofs.lemmas.List.Quantifiers.{position-Some}
-use Rattle.ix_label.specs.Category.{Categories, join, leq}
-use Rattle.ix_label.specs.Lattice.{leq-trans, leq-join_left, leq-join_right}
-use Rattle.ix_model.specs.world.Naming.{PathOf}
-use Rattle.ix_model.specs.world.World.{Frame, Object, Process, Open, at, put, change, living, is_pipe, is_ended}
-use Rattle.ix_model.specs.rows.Rows.{change_process, observe}
-use Rattle.ix_model.specs.rows.Walks.{OpenFile, behind, walked_to, object_at}
-use Rattle.ix_model.specs.rows.OnDescriptors.{LengthChecks, read_fd, write_fd}
-use Rattle.ix_model.specs.rows.OnPaths.{stat_at, stat_passed}
-use Rattle.ix_model.specs.rows.OnProcesses.{is_child, wait_child, wait_passed}
-use Rattle.ix_model.specs.declared.reply.Reply.{Reply}
-use Rattle.ix_model.proofs.tables.Finds.{at_put, at_change}
-use Rattle.ix_model.proofs.words.Living.{is_living, not_ended, lives_as}
-use Rattle.ix_model.proofs.words.Keeps.{Holds, Keeps, keeping}
-use Rattle.ix_model.proofs.words.Ends.{Ends, Anything, ends_kept, ends_bind, ends_then, ends_pass, ends_frame, ends_need, ends_some}
-use Rattle.ix_model.proofs.words.Ends.{ends_object}
-use Rattle.ix_model.proofs.words.Endings.{ends_put_process, ends_record_of}
-use Rattle.ix_model.proofs.words.Standing.{behind_is}
+use Rattle.std.proofs.lemmas.{Bool.{and_parts, not-false}, List.Quantifiers.position-Some}
+use Rattle.ix_label.specs.{Category.{Categories, join, leq}, Lattice.{leq-trans, leq-join_left, leq-join_right}}
+use Rattle.ix_model.specs.{world.{Naming.PathOf, World.{Frame, Object, Process, Open, at, put, change, living, is_pipe, is_ended}}, declared.reply.Reply.Reply}
+use Rattle.ix_model.specs.{rows.Rows.{change_process, observe}, rows.Walks.{OpenFile, behind, walked_to, object_at}, rows.OnPaths.{stat_at, stat_passed}}
+use Rattle.ix_model.specs.{rows.OnDescriptors.{LengthChecks, read_fd, write_fd}, rows.OnProcesses.{is_child, wait_child, wait_passed}}
+use Rattle.ix_model.proofs.{tables.Finds.{at_put, at_change}, words.Living.{is_living, not_ended, lives_as}, words.Keeps.{Holds, Keeps, keeping}}
+use Rattle.ix_model.proofs.{words.Endings.{ends_put_process, ends_record_of}, words.Standing.behind_is}
 use Rattle.ix_model.proofs.words.Transfers.{ends_looks, ends_affects, ends_read, ends_read_behind, ends_write, ends_floated}
+use Rattle.ix_model.proofs.words.Ends.{Ends, Anything, ends_kept, ends_bind, ends_then, ends_pass, ends_frame, ends_need, ends_some, ends_object}
 
 one_living : (o : Option Process) (p q : Process) → living o ≡ Some p → living o ≡ Some q → p ≡ q
 one_living o p q is here = let h : Some p ≡ Some q = sym is ∙ here in cc

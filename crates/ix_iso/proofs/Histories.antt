@@ -1,14 +1,10 @@
 -- Whole histories, by induction.
 use Rattle.std.proofs.Common.{false, ◌≡◌, ℕ, zero, suc, true, List, [], ◌∷◌, take, slice_get, Some, sym, ap, ◌+◌, arith, subst}
 use Rattle.ix_label.specs.Category.{Categories}
-use Rattle.ix_model.specs.world.World.{World}
-use Rattle.ix_model.specs.history.Step.{Given, step_of, run}
+use Rattle.ix_model.specs.{world.World.World, history.{Step.{Given, step_of, run}, Events.Event}}
 use Rattle.ix_model.specs.two_runs.TwoRuns.{shape, Alike, IsLow, AgreeAt, Same, Other, Agree, is_one_kind}
-use Rattle.ix_model.specs.history.Events.{Event}
 use Rattle.ix_iso.specs.Laws.{frame_part, gives_bytes, OneShape, NoneCrosses, given_after, Isolated}
-use Rattle.ix_iso.proofs.Shapes.{twins_itself, twins_replaced, shape_twins}
-use Rattle.ix_iso.proofs.Steps.{alike_events}
-use Rattle.ix_iso.proofs.Lowerings.{low_is_same}
+use Rattle.ix_iso.proofs.{Shapes.{twins_itself, twins_replaced, shape_twins}, Steps.alike_events, Lowerings.low_is_same}
 
 -- ---- one entry
 pub shape_events : (l : Categories) (v w : World) (place : ℕ) (e f : Event) → shape v ≡ shape w → AgreeAt l v.frame e f

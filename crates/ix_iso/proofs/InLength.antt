@@ -1,30 +1,25 @@
 -- Worlds of one outline stay so, and give equal replies but for a status; so runs with equal lengths agree.
-use Rattle.std.proofs.Common.{◌≡◌, ℕ, zero, suc, ◌+◌, Bool, true, false, not, ◌&&◌, List, [], ◌∷◌, length, take, Option, Some, None, if◌then◌else◌, refl, sym, ap, ◌∙◌, subst, inl, inr, arith}
-use Rattle.std.specs.Prelude.{slice_get}
-use Rattle.std.proofs.lemmas.List.{length-map}
+use Rattle.std.proofs.Common.{◌≡◌, ℕ, zero, suc, ◌+◌, Bool, true, false, not, ◌&&◌, List, [], ◌∷◌, length, take, Option, Some, None, if◌then◌else◌, refl, sym}
+use Rattle.std.proofs.Common.{ap, ◌∙◌, subst, inl, inr, arith}
+use Rattle.std.{specs.Prelude.slice_get, proofs.lemmas.List.length-map}
 use Rattle.ix_label.specs.Category.{Categories}
-use Rattle.ix_model.specs.world.World.{World, Frame, Content}
-use Rattle.ix_model.specs.rows.Walks.{OpenFile, behind}
+use Rattle.ix_model.specs.{world.World.{World, Frame, Content}, two_runs.TwoRuns.{shape, Alike, Agree, AgreeAt, Replaced}, history.Events.{Op, Event}}
+use Rattle.ix_model.specs.rows.{Walks.{OpenFile, behind}, Table.{Decision, verdict}, Telling.{told, told_of_read, told_of_write, told_of_cut}}
+use Rattle.ix_model.specs.declared.reply.Reply.{Reply}
 use Rattle.ix_model.specs.world.Contents.{carried, holding_of, readable, after_read, after_write, after_cut, after_seek, after_exit, emptied}
-use Rattle.ix_model.specs.rows.Table.{Decision, verdict}
-use Rattle.ix_model.specs.rows.Telling.{told, told_of_read, told_of_write, told_of_cut}
-use Rattle.ix_model.specs.history.Step.{Given, plainly, read_answer, write_answer, cut_answer, seek_answer, stat_answer, exit_answer, wait_answer, pex_answer, is_whole, answer, step, step_of, run}
-use Rattle.ix_model.specs.two_runs.TwoRuns.{shape, Alike, Agree, AgreeAt, Replaced}
+use Rattle.ix_model.specs.history.Step.{Given, plainly, read_answer, write_answer, cut_answer, seek_answer, stat_answer, exit_answer, wait_answer, pex_answer}
+use Rattle.ix_model.specs.history.Step.{is_whole, answer, step, step_of, run}
 use Rattle.ix_model.specs.two_runs.TwoRuns as two
-use Rattle.ix_model.specs.two_runs.EqualLengths.{zeros, zeroed, outline, AlikeInLength, AgreeInLength, AgreeInLengthAt, ReplacedInLength, Same, Other, Written, Exited}
-use Rattle.ix_model.specs.history.Events.{Op, Event}
+use Rattle.ix_model.specs.two_runs.EqualLengths.{zeros, zeroed, outline, AlikeInLength, AgreeInLength, AgreeInLengthAt, ReplacedInLength, Same, Other, Written}
+use Rattle.ix_model.specs.two_runs.EqualLengths.{Exited}
 use Rattle.ix_model.specs.history.Events as op
 use Rattle.ix_model.specs.declared.reply.Kind.TheVariants as kind
-use Rattle.ix_model.specs.declared.reply.Reply.{Reply}
 use Rattle.ix_model.specs.declared.reply.Reply.TheVariants as reply
 use Rattle.ix_model.proofs.words.Answered.{step_frame}
 use Rattle.ix_iso.specs.Laws.{AreLikeInLength, but_status, OneOutline, IsolatedInLength}
-use Rattle.ix_iso.proofs.OneKind.{one_kind}
-use Rattle.ix_iso.proofs.Counts.{SameCounts, shape_from}
-use Rattle.ix_iso.proofs.Shapes.{Twins, twins_itself, twins_replaced}
-use Rattle.ix_iso.proofs.Histories.{isolated}
-use Rattle.ix_iso.proofs.Zeroed.{zero_content, take_zeros, length_zeros, first_length, same_zeros, readable_zero, carried_zero, read_zero, write_zero}
-use Rattle.ix_iso.proofs.Zeroed.{cut_zero, seek_zero, exit_zero, emptied_zero, told_read_zero, told_write_zero, told_cut_zero}
+use Rattle.ix_iso.proofs.{OneKind.one_kind, Counts.{SameCounts, shape_from}, Shapes.{Twins, twins_itself, twins_replaced}, Histories.isolated}
+use Rattle.ix_iso.proofs.Zeroed.{zero_content, take_zeros, length_zeros, first_length, same_zeros, readable_zero, carried_zero, read_zero, write_zero, cut_zero}
+use Rattle.ix_iso.proofs.Zeroed.{seek_zero, exit_zero, emptied_zero, told_read_zero, told_write_zero, told_cut_zero}
 
 -- ---- outlines
 pub outline_from : (v w : World) → v.frame ≡ w.frame → zero_content v.content ≡ zero_content w.content → outline v ≡ outline w

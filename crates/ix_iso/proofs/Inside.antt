@@ -1,18 +1,13 @@
 -- What two contents hold alike is carried over alike.
-use Rattle.std.proofs.Common.{◌≡◌, ◌+◌, ℕ, zero, suc, Bool, true, false, ◌&&◌, List, [], ◌∷◌, ◌++◌, length, replicate, Option, Some, None, is_some}
-use Rattle.std.proofs.Common.{if◌then◌else◌, refl, sym, ap, ◌∙◌, arith, get_or, set}
+use Rattle.std.proofs.Common.{◌≡◌, ◌+◌, ℕ, zero, suc, Bool, true, false, ◌&&◌, List, [], ◌∷◌, ◌++◌, length, replicate, Option, Some, None, is_some, refl, sym}
+use Rattle.std.proofs.Common.{if◌then◌else◌, ap, ◌∙◌, arith, get_or, set}
 use Rattle.std.proofs.lemmas.Bool.{and_parts, true_from_ne_false}
-use Rattle.ix_label.specs.Category.{Categories, leq}
-use Rattle.ix_label.specs.Lattice.{leq-trans}
-use Rattle.ix_model.specs.world.World.{Frame, Content, Holding, Object, Process, Open, at, is_ended}
+use Rattle.ix_label.specs.{Category.{Categories, leq}, Lattice.leq-trans}
+use Rattle.ix_model.specs.{world.World.{Frame, Content, Holding, Object, Process, Open, at, is_ended}, history.Lowering.Crosses, two_runs.TwoRuns.AlikeIn}
 use Rattle.ix_model.specs.world.Contents.{keep, grown, carried, holding_of, offset_of, status_of, holds_nothing}
-use Rattle.ix_model.specs.history.Lowering.{Crosses}
 use Rattle.ix_model.specs.history.Lowering as low
-use Rattle.ix_model.specs.two_runs.TwoRuns.{AlikeIn}
-use Rattle.ix_model.proofs.sound.Carried.{there_is}
-use Rattle.ix_model.proofs.clean.Carrying.{get_or-keep}
-use Rattle.ix_iso.proofs.Counts.{SameCounts}
-use Rattle.ix_iso.proofs.Entries.{EntriesRise}
+use Rattle.ix_model.proofs.{sound.Carried.there_is, clean.Carrying.get_or-keep}
+use Rattle.ix_iso.proofs.{Counts.SameCounts, Entries.EntriesRise}
 
 -- ---- what doesn't cross was low
 module _ (l : Categories) (f g : Frame) (steady : Crosses l f g → ⊥) where

@@ -1,20 +1,13 @@
 -- What a row decides depends on the frame and on the kind of its reply alone, whatever it is told of lengths.
 use Rattle.std.proofs.Common.{◌≡◌, ◌≢◌, ℕ, Bool, true, false, refl, sym, arith, if◌then◌else◌}
-use Rattle.ix_model.specs.rows.Refusals.{number_of, keeps_label}
-use Rattle.ix_model.specs.world.World.{Frame, Object, lives}
-use Rattle.ix_model.specs.rows.Outcomes.{Row, Outcome, Refuse, Pass}
-use Rattle.ix_model.specs.rows.Rows.{◌>>=◌, ◌>>◌, on_pass, pass, refuse, need, process}
-use Rattle.ix_model.specs.rows.Walks.{OpenFile}
-use Rattle.ix_model.specs.rows.OnDescriptors.{LengthChecks, float_entry, read_fd, write_fd, cut_fd, read_passed}
-use Rattle.ix_model.specs.rows.Table.{Decision, row, settled, verdict}
-use Rattle.ix_model.specs.history.Events.{Op}
+use Rattle.ix_model.specs.{rows.Refusals.{number_of, keeps_label}, rows.Outcomes.{Row, Outcome, Refuse, Pass}, rows.Walks.OpenFile, history.Events.Op}
+use Rattle.ix_model.specs.{rows.Rows.{◌>>=◌, ◌>>◌, on_pass, pass, refuse, need, process}, rows.Table.{Decision, row, settled, verdict}}
+use Rattle.ix_model.specs.{rows.OnDescriptors.{LengthChecks, float_entry, read_fd, write_fd, cut_fd, read_passed}, world.World.{Frame, Object, lives}}
+use Rattle.ix_model.specs.declared.{reply.Reply.Reply, refusal.Refusal.Refusal}
 use Rattle.ix_model.specs.history.Events as op
-use Rattle.ix_model.specs.declared.reply.Reply.{Reply}
 use Rattle.ix_model.specs.declared.reply.Reply.TheVariants as reply
-use Rattle.ix_model.specs.declared.refusal.Refusal.{Refusal}
 use Rattle.ix_model.specs.declared.refusal.Refusal.TheVariants as refusal
-use Rattle.ix_model.proofs.words.Ends.{Ends, ending, ends_bind, ends_then, ends_caller, ends_pass}
-use Rattle.ix_model.proofs.words.Looks.{ends_touch, ends_float_entry}
+use Rattle.ix_model.proofs.words.{Ends.{Ends, ending, ends_bind, ends_then, ends_caller, ends_pass}, Looks.{ends_touch, ends_float_entry}}
 use Rattle.ix_iso.proofs.OneKind.{kind_number, one_refusal}
 
 -- two outcomes from one frame leave the same where their replies are of one kind

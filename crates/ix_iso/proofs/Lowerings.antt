@@ -1,50 +1,27 @@
 -- What is lowered is logged: of the two calls that set a label, each that lowers one has its line.
-use Rattle.std.proofs.Common.{◌≡◌, ℕ, zero, suc, ◌+◌, Bool, true, false, true≢false, not, List, [], ◌∷◌, ◌++◌, length, take, Some, if◌then◌else◌}
-use Rattle.std.proofs.Common.{refl, sym, ap, ◌∙◌, subst, inl, inr, append-nil, arith}
-use Rattle.std.specs.Prelude.{slice_get}
-use Rattle.std.specs.Option.{option_map_or}
-use Rattle.std.proofs.lemmas.Bool.{not-false, false_from_ne_true}
-use Rattle.std.proofs.Math.Bool.{and-false}
-use Rattle.std.proofs.lemmas.List.{append_cancel_left}
-use Rattle.ix_label.specs.Category.{Categories, leq, same}
-use Rattle.ix_label.specs.Lattice.{leq-trans}
-use Rattle.ix_model.specs.world.Naming.{PathOf}
-use Rattle.ix_model.specs.world.Privs.{to_lower}
-use Rattle.ix_model.specs.world.World.{World, Frame, Object, Process, at, change, living}
-use Rattle.ix_model.specs.rows.Rows.{◌>>◌, pass, need, only_if, change_process}
-use Rattle.ix_model.specs.rows.Walks.{object_at}
-use Rattle.ix_model.specs.rows.Auditing.{logged, audit_line}
-use Rattle.ix_model.specs.history.AuditLog.{audit_log, lines_added, is_licensed, exercises, line_of_act}
-use Rattle.ix_model.specs.rows.OnLabels.{set_label, set_self}
-use Rattle.ix_model.specs.rows.OnDescriptors.{LengthChecks}
-use Rattle.ix_model.specs.rows.Table.{row}
-use Rattle.ix_model.specs.rows.Telling.{told}
-use Rattle.ix_model.specs.history.Step.{step, step_of, run}
-use Rattle.ix_model.specs.history.Lowering.{Lowered}
-use Rattle.ix_model.specs.history.Lowering as low
+use Rattle.std.proofs.Common.{◌≡◌, ℕ, zero, suc, ◌+◌, Bool, true, false, true≢false, not, List, [], ◌∷◌, ◌++◌, length, take, Some, if◌then◌else◌, refl, sym, ap}
+use Rattle.std.proofs.Common.{◌∙◌, subst, inl, inr, append-nil, arith}
+use Rattle.std.specs.{Prelude.slice_get, Option.option_map_or}
+use Rattle.std.proofs.{lemmas.{Bool.{not-false, false_from_ne_true}, List.append_cancel_left}, Math.Bool.and-false}
+use Rattle.ix_label.specs.{Category.{Categories, leq, same}, Lattice.leq-trans}
+use Rattle.ix_model.specs.{world.{Naming.PathOf, Privs.to_lower, World.{World, Frame, Object, Process, at, change, living}}, rows.Walks.object_at}
+use Rattle.ix_model.specs.{rows.Rows.{◌>>◌, pass, need, only_if, change_process}, rows.Auditing.{logged, audit_line}, rows.OnLabels.{set_label, set_self}}
+use Rattle.ix_model.specs.{rows.OnDescriptors.LengthChecks, rows.Table.row, rows.Telling.told, history.Step.{step, step_of, run}, history.Lowering.Lowered}
+use Rattle.ix_model.specs.{history.AuditLog.{audit_log, lines_added, is_licensed, exercises, line_of_act}, history.Events.{Op, Event}}
 use Rattle.ix_model.specs.two_runs.TwoRuns.{Low, AgreeAt, Same, Other, Replaced, Written, Exited}
-use Rattle.ix_model.specs.history.Events.{Op, Event}
+use Rattle.ix_model.specs.declared.{audit.AuditLine.AuditLine, refusal.Refusal.Refusal, reply.Reply.Reply}
+use Rattle.ix_model.specs.history.Lowering as low
 use Rattle.ix_model.specs.history.Events as op
 use Rattle.ix_model.specs.declared.audit.Act.TheVariants as act
-use Rattle.ix_model.specs.declared.audit.AuditLine.{AuditLine}
-use Rattle.ix_model.specs.declared.refusal.Refusal.{Refusal}
 use Rattle.ix_model.specs.declared.refusal.Refusal.TheVariants as refusal
-use Rattle.ix_model.specs.declared.reply.Reply.{Reply}
 use Rattle.ix_model.specs.declared.reply.Reply.TheVariants as reply
-use Rattle.ix_model.proofs.tables.Finds.{at_change}
-use Rattle.ix_model.proofs.words.Living.{is_living}
-use Rattle.ix_model.proofs.words.Keeps.{Holds}
-use Rattle.ix_model.proofs.words.Ends.{Ends, ends_kept, kept_ends, ends_bind, ends_then, ends_pass, ends_need, ends_only_if, ends_caller, ends_object, ends_change_object, ends_change_caller}
-use Rattle.ix_model.proofs.words.RowEnds.{ends_exercise, ends_allowed, ends_movable, ends_logged}
-use Rattle.ix_model.proofs.words.Lasts.{decided}
-use Rattle.ix_model.proofs.sound.Logging.{holds_both}
-use Rattle.ix_model.proofs.told.Logs.{logged_run}
-use Rattle.ix_model.proofs.words.Rowwise.{moved_found}
-use Rattle.ix_model.proofs.words.Turns.{holds_more}
-use Rattle.ix_model.proofs.words.Answered.{step_frame}
+use Rattle.ix_model.proofs.{tables.Finds.at_change, words.Living.is_living, words.Keeps.Holds, words.Lasts.decided, words.Rowwise.moved_found}
+use Rattle.ix_model.proofs.{words.RowEnds.{ends_exercise, ends_allowed, ends_movable, ends_logged}, words.Turns.holds_more, words.Answered.step_frame}
+use Rattle.ix_model.proofs.{sound.Logging.holds_both, told.Logs.logged_run}
+use Rattle.ix_model.proofs.words.Ends.{Ends, ends_kept, kept_ends, ends_bind, ends_then, ends_pass, ends_need, ends_only_if, ends_caller, ends_object}
+use Rattle.ix_model.proofs.words.Ends.{ends_change_object, ends_change_caller}
 use Rattle.ix_iso.specs.Laws.{line_of_lowering, IsLogged, LowersUnderLog}
-use Rattle.ix_iso.proofs.Facts.{Looking, looking_found}
-use Rattle.ix_iso.proofs.Rising.{Risen, risen_itself, rising, no_lowering, risen_row}
+use Rattle.ix_iso.proofs.{Facts.{Looking, looking_found}, Rising.{Risen, risen_itself, rising, no_lowering, risen_row}}
 
 -- what is lowered from one frame to the next has its line at the end of the log
 record Tells (place pid : ℕ) (f g : Frame) : Type 0 where

@@ -1,16 +1,9 @@
 -- Each history hides what is high, and so does its last entry.
 use Rattle.std.proofs.Common.{◌≡◌, ℕ, suc, ◌+◌, List, [], ◌∷◌, ◌++◌, length, refl, arith, subst}
 use Rattle.ix_label.specs.Category.{Categories}
-use Rattle.ix_model.specs.world.World.{World}
-use Rattle.ix_model.specs.history.Step.{step_of, run}
-use Rattle.ix_model.specs.two_runs.TwoRuns.{Alike, Low, Agree}
-use Rattle.ix_model.specs.history.Events.{Event}
-use Rattle.ix_iso.specs.Laws.{NoneCrosses}
-use Rattle.ix_iso.specs.Noninterference.{RunsAgree, InKind, InLength, Noninterferent}
-use Rattle.ix_iso.proofs.Steps.{alike_events}
-use Rattle.ix_iso.proofs.Histories.{isolated}
-use Rattle.ix_iso.proofs.InLength.{agree_from, alike_from}
-use Rattle.ix_iso.proofs.Lowerings.{lowerings_stay}
+use Rattle.ix_model.specs.{world.World.World, history.{Step.{step_of, run}, Events.Event}, two_runs.TwoRuns.{Alike, Low, Agree}}
+use Rattle.ix_iso.specs.{Laws.NoneCrosses, Noninterference.{RunsAgree, InKind, InLength, Noninterferent}}
+use Rattle.ix_iso.proofs.{Steps.alike_events, Histories.isolated, InLength.{agree_from, alike_from}, Lowerings.lowerings_stay}
 
 -- runs of equal lengths agree in kind too
 pub alike_runs : (l : Categories) (v w : World) (events others : List Event) → RunsAgree l v w events others → Alike l v w × Agree l v w 1 events others

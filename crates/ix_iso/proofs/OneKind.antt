@@ -1,11 +1,8 @@
 -- Replies of one kind, by number.
 use Rattle.std.proofs.Common.{◌≡◌, ◌+◌, ℕ, true, false, true≢false, [], ◌∷◌, ◌⊎◌, inl, inr, refl, sym, ap, ◌∙◌, arith, slice_index_or}
 use Rattle.std.proofs.lemmas.Bool.Decides.{eqb_tells}
-use Rattle.ix_model.specs.rows.Refusals.{number_of}
-use Rattle.ix_model.specs.two_runs.TwoRuns.{is_one_kind}
-use Rattle.ix_model.specs.declared.refusal.Refusal.{Refusal}
+use Rattle.ix_model.specs.{rows.Refusals.number_of, two_runs.TwoRuns.is_one_kind, declared.{refusal.Refusal.Refusal, reply.Reply.Reply}}
 use Rattle.ix_model.specs.declared.refusal.Refusal.TheVariants as refusal
-use Rattle.ix_model.specs.declared.reply.Reply.{Reply}
 use Rattle.ix_model.specs.declared.reply.Reply.TheVariants as reply
 use Rattle.ix_iso.specs.Laws.{but_status}
 

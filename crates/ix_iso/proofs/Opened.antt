@@ -1,24 +1,15 @@
 -- Two configs that differ in what high files hold open worlds that are alike.
-use Rattle.std.proofs.Common.{◌≡◌, ℕ, true, List, [], ◌∷◌, ◌++◌, length, map, Option, Some, None, refl, sym, ap, ◌∙◌, ◌⊎◌, subst, inl, inr, get_or, set, unwrap_or, length-set}
-use Rattle.std.specs.Option.{option_map_or}
-use Rattle.std.proofs.lemmas.List.{map-set}
+use Rattle.std.proofs.Common.{◌≡◌, ℕ, true, List, [], ◌∷◌, ◌++◌, length, map, Option, Some, None, refl, sym, ap, ◌∙◌, ◌⊎◌, subst, inl, inr, get_or, set}
+use Rattle.std.proofs.Common.{unwrap_or, length-set}
+use Rattle.std.{specs.Option.option_map_or, proofs.lemmas.List.map-set}
 use Rattle.ix_label.specs.Category.{Categories, leq}
-use Rattle.ix_model.specs.world.Naming.{last_name}
-use Rattle.ix_model.specs.world.World.{World, Frame, Holding, Object, at, put, change}
-use Rattle.ix_model.specs.world.Numbers.{free_inode}
-use Rattle.ix_model.specs.rows.Walks.{node}
-use Rattle.ix_model.specs.world.Contents.{holding_of, holds_nothing}
+use Rattle.ix_model.specs.{world.Naming.last_name, world.World.{World, Frame, Holding, Object, at, put, change}, world.Numbers.free_inode, rows.Walks.node}
+use Rattle.ix_model.specs.{world.Contents.{holding_of, holds_nothing}, two_runs.{TwoRuns.AlikeIn, EqualLengths.zeroed}}
+use Rattle.ix_model.specs.declared.config.{Config.Config, ObjSpec.ObjSpec}
 use Rattle.ix_model.specs.opening.Opening.{directory_of, object_of, placed, with_object, with_objects, bare_objects, bare_world, opening_world}
-use Rattle.ix_model.specs.two_runs.TwoRuns.{AlikeIn}
-use Rattle.ix_model.specs.two_runs.EqualLengths.{zeroed}
-use Rattle.ix_model.specs.declared.config.Config.{Config}
-use Rattle.ix_model.specs.declared.config.ObjSpec.{ObjSpec}
 use Rattle.ix_model.proofs.tables.Finds.{at_put, at_change}
 use Rattle.ix_iso.specs.Configs.{SameLine, SameLines, DifferAbove, SameLengths, OpenAlike}
-use Rattle.ix_iso.proofs.Counts.{shape_from}
-use Rattle.ix_iso.proofs.Inside.{set_alike}
-use Rattle.ix_iso.proofs.Zeroed.{zero_content, same_zeros}
-use Rattle.ix_iso.proofs.InLength.{outline_from}
+use Rattle.ix_iso.proofs.{Counts.shape_from, Inside.set_alike, Zeroed.{zero_content, same_zeros}, InLength.outline_from}
 
 -- two worlds of one frame, in which what low objects hold is equal
 record Beside (l : Categories) (v w : World) : Type 0 where

@@ -1,23 +1,15 @@
 -- No call but SetLabel and SetSelf lowers a label.
-use Rattle.std.proofs.Common.{◌≡◌, ◌≤◌, ◌<◌, ℕ, Bool, true, false, true≢false, List, [], ◌∷◌, ◌++◌, length, Option, Some, None, is_some, option_map}
-use Rattle.std.proofs.Common.{if◌then◌else◌, refl, sym, ap, ◌∙◌, subst, arith, length-set, length-append, inl, inr}
+use Rattle.std.proofs.Common.{◌≡◌, ◌≤◌, ◌<◌, ℕ, Bool, true, false, true≢false, List, [], ◌∷◌, ◌++◌, length, Option, Some, None, is_some, option_map, refl, sym}
+use Rattle.std.proofs.Common.{if◌then◌else◌, ap, ◌∙◌, subst, arith, length-set, length-append, inl, inr}
 use Rattle.std.specs.Option.{option_and_then}
-use Rattle.ix_label.specs.Category.{Categories, leq}
-use Rattle.ix_label.specs.Lattice.{leq-refl, leq-trans}
-use Rattle.ix_model.specs.world.World.{Frame, Object, Process, at, put, change}
-use Rattle.ix_model.specs.rows.Rows.{change_object, change_process, change_open, put_object, put_open, put_process, add_process}
-use Rattle.ix_model.specs.rows.Auditing.{logged}
-use Rattle.ix_model.specs.rows.OnProcesses.{remains, end_process}
+use Rattle.ix_label.specs.{Category.{Categories, leq}, Lattice.{leq-refl, leq-trans}}
+use Rattle.ix_model.specs.{world.World.{Frame, Object, Process, at, put, change}, rows.Auditing.logged, rows.OnProcesses.{remains, end_process}, rows.Table.row}
+use Rattle.ix_model.specs.{rows.Rows.{change_object, change_process, change_open, put_object, put_open, put_process, add_process}, history.Events.Op}
 use Rattle.ix_model.specs.rows.OnDescriptors.{LengthChecks}
-use Rattle.ix_model.specs.rows.Table.{row}
-use Rattle.ix_model.specs.history.Events.{Op}
 use Rattle.ix_model.specs.history.Events as op
-use Rattle.ix_model.proofs.tables.Finds.{at_put, at_change, at_push, in_table}
-use Rattle.ix_model.proofs.tables.FreeNumbers.{free_inode_is, free_pipe_is}
-use Rattle.ix_model.proofs.words.Keeps.{Holds, Keeps}
-use Rattle.ix_model.proofs.words.Lasts.{Lasting, lasting_itself, lasting_change, lasting_put}
+use Rattle.ix_model.proofs.{tables.{Finds.{at_put, at_change, at_push, in_table}, FreeNumbers.{free_inode_is, free_pipe_is}}, words.Keeps.{Holds, Keeps}}
+use Rattle.ix_model.proofs.{words.Lasts.{Lasting, lasting_itself, lasting_change, lasting_put}, words.Turns.holds_more}
 use Rattle.ix_model.proofs.words.Rowwise.{Change, Lowering, Making, LettingGo, Moves, moved_row}
-use Rattle.ix_model.proofs.words.Turns.{holds_more}
 
 -- ---- tables
 -- of what stands in both tables no label is below what it was

@@ -1,20 +1,12 @@
 -- Two worlds of one shape keep one shape.
 use Rattle.std.proofs.Common.{◌≡◌, ℕ, true, List, length, refl, sym, ap, ◌∙◌}
-use Rattle.ix_model.specs.world.World.{Frame, World, Content}
-use Rattle.ix_model.specs.world.Contents.{carried}
-use Rattle.ix_model.specs.rows.OnDescriptors.{LengthChecks}
-use Rattle.ix_model.specs.rows.Table.{Decision, row, verdict}
-use Rattle.ix_model.specs.rows.Telling.{told}
-use Rattle.ix_model.specs.history.Step.{step}
+use Rattle.ix_model.specs.{world.{World.{Frame, World, Content}, Contents.carried}, history.{Step.step, Events.Op}, declared.reply.Reply.Reply}
+use Rattle.ix_model.specs.rows.{OnDescriptors.LengthChecks, Table.{Decision, row, verdict}, Telling.told}
 use Rattle.ix_model.specs.two_runs.TwoRuns.{shape, is_one_kind, Replaced, Written, Exited}
-use Rattle.ix_model.specs.history.Events.{Op}
 use Rattle.ix_model.specs.history.Events as op
-use Rattle.ix_model.specs.declared.reply.Reply.{Reply}
 use Rattle.ix_model.specs.declared.reply.Reply.TheVariants as reply
 use Rattle.ix_model.proofs.words.Answered.{step_frame}
-use Rattle.ix_iso.specs.Laws.{frame_part, gives_bytes, OneShape}
-use Rattle.ix_iso.proofs.OneKind.{kind_number, kinds_equal}
-use Rattle.ix_iso.proofs.Kin.{verdict_kind}
+use Rattle.ix_iso.{specs.Laws.{frame_part, gives_bytes, OneShape}, proofs.OneKind.{kind_number, kinds_equal}, proofs.Kin.verdict_kind}
 use Rattle.ix_iso.proofs.Counts.{SameCounts, counts_carried, kept_answer, told_answer, shape_from, shape_frames, shape_counts}
 
 -- two calls whose rows are one, and of whose replies the frame decides the same part

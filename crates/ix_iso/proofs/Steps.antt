@@ -1,34 +1,24 @@
 -- Two worlds alike at a label are so after each call, and what a low process is told is the same.
-use Rattle.std.proofs.Common.{◌≡◌, ◌⊎◌, ◌+◌, ◌-◌, ℕ, Bool, true, false, true≢false, not, ◌&&◌, List, ◌++◌, length, take, drop, Option, Some, None}
-use Rattle.std.proofs.Common.{if◌then◌else◌, refl, sym, ap, ◌∙◌, subst, inl, inr, set}
+use Rattle.std.proofs.Common.{◌≡◌, ◌⊎◌, ◌+◌, ◌-◌, ℕ, Bool, true, false, true≢false, not, ◌&&◌, List, ◌++◌, length, take, drop, Option, Some, None, refl, sym}
+use Rattle.std.proofs.Common.{if◌then◌else◌, ap, ◌∙◌, subst, inl, inr, set}
 use Rattle.std.specs.Option.{option_map_or}
-use Rattle.ix_label.specs.Category.{Categories, leq}
-use Rattle.ix_label.specs.Lattice.{leq-trans}
-use Rattle.ix_model.specs.world.World.{World, Frame, Content, Holding, Object, Process, Open, at, living, is_pipe, is_ended}
-use Rattle.ix_model.specs.rows.Walks.{OpenFile, behind}
-use Rattle.ix_model.specs.world.Contents.{carried, holding_of, offset_of, status_of, side, with_side, on_pipe, readable, change_side, after_read}
-use Rattle.ix_model.specs.world.Contents.{after_write, spliced, after_cut, cut_to, after_seek, after_exit, emptied, holds_nothing}
-use Rattle.ix_model.specs.rows.OnDescriptors.{LengthChecks}
-use Rattle.ix_model.specs.rows.Table.{Decision, row, verdict}
-use Rattle.ix_model.specs.rows.Telling.{told}
-use Rattle.ix_model.specs.history.AuditLog.{is_answer}
-use Rattle.ix_model.specs.history.Step.{Given, plainly, read_answer, write_answer, cut_answer, seek_answer, stat_answer, exit_answer, wait_answer, pex_answer, is_whole, answer, step, step_of}
-use Rattle.ix_model.specs.history.Lowering.{Crosses}
+use Rattle.ix_label.specs.{Category.{Categories, leq}, Lattice.leq-trans}
+use Rattle.ix_model.specs.{world.World.{World, Frame, Content, Holding, Object, Process, Open, at, living, is_pipe, is_ended}, declared.reply.Reply.Reply}
+use Rattle.ix_model.specs.rows.{Walks.{OpenFile, behind}, OnDescriptors.LengthChecks, Table.{Decision, row, verdict}, Telling.told}
+use Rattle.ix_model.specs.history.{AuditLog.is_answer, Lowering.Crosses, Events.{Op, Event}}
+use Rattle.ix_model.specs.world.Contents.{carried, holding_of, offset_of, status_of, side, with_side, on_pipe, readable, change_side, after_read, after_write}
+use Rattle.ix_model.specs.world.Contents.{spliced, after_cut, cut_to, after_seek, after_exit, emptied, holds_nothing}
+use Rattle.ix_model.specs.history.Step.{Given, plainly, read_answer, write_answer, cut_answer, seek_answer, stat_answer, exit_answer, wait_answer, pex_answer}
+use Rattle.ix_model.specs.history.Step.{is_whole, answer, step, step_of}
 use Rattle.ix_model.specs.two_runs.TwoRuns.{AlikeIn, Alike, IsLow, IsHigh, AgreeAt, Same, Other, Replaced, Written, Exited, is_one_kind}
-use Rattle.ix_model.specs.history.Events.{Op, Event}
 use Rattle.ix_model.specs.history.Events as op
 use Rattle.ix_model.specs.declared.reply.Kind.TheVariants as kind
-use Rattle.ix_model.specs.declared.reply.Reply.{Reply}
 use Rattle.ix_model.specs.declared.reply.Reply.TheVariants as reply
-use Rattle.ix_model.proofs.words.Answered.{passed}
-use Rattle.ix_model.proofs.words.Living.{is_living}
-use Rattle.ix_model.proofs.words.Standing.{behind_is}
-use Rattle.ix_iso.specs.Laws.{AlikeAfter}
-use Rattle.ix_iso.proofs.Counts.{SameCounts, counts_carried, shape_counts, shape_frames}
+use Rattle.ix_model.proofs.words.{Answered.passed, Living.is_living, Standing.behind_is}
+use Rattle.ix_iso.{specs.Laws.AlikeAfter, proofs.Counts.{SameCounts, counts_carried, shape_counts, shape_frames}, proofs.Entries.{EntriesRise, entries_rise}}
 use Rattle.ix_iso.proofs.Shapes.{twins_itself, twins_replaced, Twins, one_decision, shape_twins}
-use Rattle.ix_iso.proofs.Entries.{EntriesRise, entries_rise}
-use Rattle.ix_iso.proofs.Inside.{carried_alike, object_was_low, process_was_low, offset_carried, holding_alike, offset_alike, status_alike}
 use Rattle.ix_iso.proofs.Facts.{ReadKnown, read_known, WriteKnown, write_known, StatFacts, stat_known, WaitFacts, wait_known}
+use Rattle.ix_iso.proofs.Inside.{carried_alike, object_was_low, process_was_low, offset_carried, holding_alike, offset_alike, status_alike}
 
 -- what is alike after two calls, from one frame
 pub record Inside (l : Categories) (pid : ℕ) (f : Frame) (a b : Given) : Type 0 where

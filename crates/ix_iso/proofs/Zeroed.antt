@@ -1,15 +1,12 @@
 -- What is held, with every byte and status 0: each edit of it does the same as of what is held.
-use Rattle.std.proofs.Common.{◌≡◌, ◌+◌, ◌-◌, ◌==◌, nat_le, nat_lt, ℕ, zero, suc, Bool, true, false, not, ◌&&◌, ◌||◌, List, [], ◌∷◌, ◌++◌, length, map}
-use Rattle.std.proofs.Common.{take, drop, replicate, Option, Some, None, is_some, if◌then◌else◌, refl, sym, ap, ◌∙◌, arith, set}
-use Rattle.std.proofs.Math.ListN.{get_or-map}
-use Rattle.std.proofs.lemmas.List.{length-map, map-append, map-set}
-use Rattle.ix_model.specs.world.World.{Frame, Content, Holding, at, is_ended}
-use Rattle.ix_model.specs.rows.Walks.{OpenFile}
-use Rattle.ix_model.specs.world.Contents.{keep, grown, carried, holding_of, offset_of, side, with_side, on_pipe, readable, change_side, after_read}
-use Rattle.ix_model.specs.world.Contents.{after_write, spliced, after_cut, cut_to, after_seek, after_exit, emptied, holds_nothing}
-use Rattle.ix_model.specs.rows.Telling.{blocks_for, blocks_where, blocks_on, blocks_beside, lies_on, fs_of_object, length_then, nothing_told}
-use Rattle.ix_model.specs.rows.Telling.{told_of_read, told_of_pipe_write, told_of_file_write, told_of_write, told_of_cut}
-use Rattle.ix_model.specs.two_runs.EqualLengths.{zeros, zeroed}
+use Rattle.std.proofs.Common.{◌≡◌, ◌+◌, ◌-◌, ◌==◌, nat_le, nat_lt, ℕ, zero, suc, Bool, true, false, not, ◌&&◌, ◌||◌, List, [], ◌∷◌, ◌++◌, length, map, take, ap}
+use Rattle.std.proofs.Common.{drop, replicate, Option, Some, None, is_some, if◌then◌else◌, refl, sym, ◌∙◌, arith, set}
+use Rattle.std.proofs.{Math.ListN.get_or-map, lemmas.List.{length-map, map-append, map-set}}
+use Rattle.ix_model.specs.{world.World.{Frame, Content, Holding, at, is_ended}, rows.Walks.OpenFile, two_runs.EqualLengths.{zeros, zeroed}}
+use Rattle.ix_model.specs.world.Contents.{keep, grown, carried, holding_of, offset_of, side, with_side, on_pipe, readable, change_side, after_read, after_write}
+use Rattle.ix_model.specs.world.Contents.{spliced, after_cut, cut_to, after_seek, after_exit, emptied, holds_nothing}
+use Rattle.ix_model.specs.rows.Telling.{blocks_for, blocks_where, blocks_on, blocks_beside, lies_on, fs_of_object, length_then, nothing_told, told_of_read}
+use Rattle.ix_model.specs.rows.Telling.{told_of_pipe_write, told_of_file_write, told_of_write, told_of_cut}
 
 abbrev pub zero_content : Content → Content
 zero_content c = record c { holdings = map zeroed c.holdings; statuses = zeros c.statuses }

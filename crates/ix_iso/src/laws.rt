@@ -1,14 +1,11 @@
 //! The laws of isolation. These functions do nothing: each states a law, which is proved.
 ghost use Rattle.std.specs.Prelude.{ℕ, List};
 ghost use Rattle.ix_label.specs.Category.{Categories};
-ghost use Rattle.ix_model.specs.world.Naming.{PathOf};
+ghost use Rattle.ix_model.specs.{world.Naming.{PathOf}, declared.{call.{Mode.{Mode}, Keep.{Keep}}, privs.PrivSet.{PrivSet}}};
 ghost use Rattle.ix_model.specs.history.Events as op;
-ghost use Rattle.ix_model.specs.declared.call.Mode.{Mode};
-ghost use Rattle.ix_model.specs.declared.call.Keep.{Keep};
-ghost use Rattle.ix_model.specs.declared.privs.PrivSet.{PrivSet};
-ghost use Rattle.ix_iso.specs.Configs.{ConfigsOpenAlike};
-ghost use Rattle.ix_iso.specs.Forms.{FormsStay};
-ghost use Rattle.ix_iso.specs.Laws.{KeepShape, KeepAlike, Isolation, LoweringsAreLogged, LoweringsStayLogged, OutlinesDecideReplies, IsolationInLength, MostCallsGoByShape};
+ghost use Rattle.ix_iso.specs.{Configs.{ConfigsOpenAlike}, Forms.{FormsStay}};
+ghost use Rattle.ix_iso.specs.Laws.{KeepShape, KeepAlike, Isolation, LoweringsAreLogged, LoweringsStayLogged, OutlinesDecideReplies, IsolationInLength};
+ghost use Rattle.ix_iso.specs.Laws.{MostCallsGoByShape};
 
 // ---- equal shapes
 

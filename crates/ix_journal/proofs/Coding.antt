@@ -1,14 +1,9 @@
 -- A call that was packed comes back from its head and its words.
 use Rattle.std.proofs.Common.{◌≡◌, ℕ, ◌+◌, ◌≤◌, List, [], ◌∷◌, ◌++◌, length, take, drop, map, refl, arith, length-append}
-use Rattle.std.specs.List.{sum}
-use Rattle.std.proofs.Math.Seq.{drop-append_seam, take-append_seam}
-use Rattle.ix_model.specs.world.Texts.{names_in}
-use Rattle.ix_model.specs.world.Paths.{path_from, path_of}
-use Rattle.ix_model.specs.history.Calls.{op_of}
-use Rattle.ix_model.specs.history.Cost.{cost_of_path, cost_of_words}
+use Rattle.std.{specs.List.sum, proofs.Math.Seq.{drop-append_seam, take-append_seam}}
+use Rattle.ix_model.specs.{world.{Texts.names_in, Paths.{path_from, path_of}}, history.{Calls.op_of, Cost.{cost_of_path, cost_of_words}}}
+use Rattle.ix_model.specs.declared.{path.Path.Path, call.Call.Call}
 use Rattle.ix_model.specs.history.Events as op
-use Rattle.ix_model.specs.declared.path.Path.{Path}
-use Rattle.ix_model.specs.declared.call.Call.{Call}
 use Rattle.ix_model.specs.declared.call.Call.TheVariants as call
 use Rattle.ix_model.proofs.texts.Joining.{text_cost}
 use Rattle.ix_journal.specs.Heads.{words_of, head_of, op_in, IsPacked}

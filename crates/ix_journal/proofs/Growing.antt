@@ -1,18 +1,11 @@
 -- A journal that grows by an entry.
-use Rattle.std.proofs.Common.{◌≡◌, ℕ, ◌+◌, ◌-◌, ◌/◌, ◌<◌, ◌≤◌, ◌^◌, List, [], ◌∷◌, ◌++◌, length, take, drop, map, refl, sym, ap, subst, ◌∙◌, arith, length-append}
-use Rattle.std.specs.List.{All}
-use Rattle.std.proofs.Math.Seq.{drop-append_seam}
-use Rattle.std.proofs.lemmas.List.{map-append, drop-append-le, take-append-le, take_all, length-drop}
-use Rattle.std.proofs.lemmas.List.Elements.{All-nil, All-cons, All-head, All-tail, All-append}
-use Rattle.std.proofs.lemmas.List.Sums.{sum-map, sum_by-append, sum_by-cons}
-use Rattle.ix_model.specs.history.Cost.{cost_of, cost_of_words, cost_of_history}
-use Rattle.ix_model.specs.history.Events.{Op, Event}
-use Rattle.ix_model.specs.history.Calls.{op_of}
-use Rattle.ix_model.specs.declared.call.Call.{Call}
-use Rattle.ix_journal.specs.Heads.{words_of, head_of, op_in, IsPacked}
+use Rattle.std.proofs.Common.{◌≡◌, ℕ, ◌+◌, ◌-◌, ◌/◌, ◌<◌, ◌≤◌, ◌^◌, List, [], ◌∷◌, ◌++◌, length, take, drop, map, refl, sym, ap, subst, ◌∙◌, arith}
+use Rattle.std.proofs.Common.{length-append}
+use Rattle.std.{specs.List.All, proofs.Math.Seq.drop-append_seam, proofs.lemmas.List.{map-append, drop-append-le, take-append-le, take_all, length-drop}}
+use Rattle.std.{proofs.lemmas.List.Elements.{All-nil, All-cons, All-head, All-tail, All-append}, proofs.lemmas.List.Sums.{sum-map, sum_by-append, sum_by-cons}}
+use Rattle.ix_model.specs.{history.{Cost.{cost_of, cost_of_words, cost_of_history}, Events.{Op, Event}, Calls.op_of}, declared.call.Call.Call}
+use Rattle.ix_journal.{specs.Heads.{words_of, head_of, op_in, IsPacked}, specs.Recorded.Recorded, proofs.Coding.packs}
 use Rattle.ix_journal.specs.Entries.{Entries, Fits, with_event, words_in, event_in, record_of, IsWhole, AreEntries}
-use Rattle.ix_journal.specs.Recorded.{Recorded}
-use Rattle.ix_journal.proofs.Coding.{packs}
 
 -- ---- what stands stays
 length_words : (words : List ℕ) (r : Recorded) → r.start + r.len ≤ length words → r.start + r.len - r.start ≤ length (drop r.start words)

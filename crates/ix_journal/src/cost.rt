@@ -1,6 +1,5 @@
 ghost use Rattle.std.specs.Prelude.{◌≡◌, ◌≤◌};
-ghost use Rattle.ix_model.specs.history.Calls.{op_of};
-ghost use Rattle.ix_model.specs.history.Cost.{cost_of, cost_of_words};
+ghost use Rattle.ix_model.specs.history.{Calls.{op_of}, Cost.{cost_of, cost_of_words}};
 
 use crate::words::{Words, words_in};
 use ix_model::Call;

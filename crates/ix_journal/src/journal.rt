@@ -1,7 +1,6 @@
 ghost use Rattle.std.specs.Prelude.{◌≡◌, ◌≤◌, ◌+◌, ◌==◌, ◌-◌, ◌↔◌, IfOk, IsTrue, None, [], length, slice_get, if◌then◌else◌};
 ghost use Rattle.std.specs.Option.{option_map};
-ghost use Rattle.ix_model.specs.history.Calls.{op_of, event_of};
-ghost use Rattle.ix_model.specs.history.Cost.{cost_of, cost_of_history};
+ghost use Rattle.ix_model.specs.history.{Calls.{op_of, event_of}, Cost.{cost_of, cost_of_history}};
 ghost use Rattle.ix_journal.specs.Entries.{Fits, with_event, event_in, IsWhole};
 
 use crate::cost::{ENTRY, cost_of};
@@ -28,8 +27,7 @@ pub struct Journal {
 }
 
 impl Model for Journal {
-    ghost use Rattle.std.specs.Prelude.{map, vec_capacity};
-    ghost use Rattle.std.specs.Coded.{codes};
+    ghost use Rattle.std.specs.{Prelude.{map, vec_capacity}, Coded.{codes}};
     ghost use Rattle.ix_label.specs.contracts.label.Label as label_type;
     ghost use Rattle.ix_journal.specs.Entries.{Entries, AreEntries, event_in};
 

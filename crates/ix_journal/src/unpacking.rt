@@ -1,6 +1,5 @@
 ghost use Rattle.std.specs.Prelude.{◌≡◌};
-ghost use Rattle.ix_model.specs.history.Calls.{op_of};
-ghost use Rattle.ix_model.specs.world.Paths.{path_of};
+ghost use Rattle.ix_model.specs.{history.Calls.{op_of}, world.Paths.{path_of}};
 ghost use Rattle.ix_journal.specs.Heads.{op_alone, op_on, op_in, IsPacked};
 
 use crate::record::{Alone, Head, OnPath};

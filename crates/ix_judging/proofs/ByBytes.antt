@@ -1,14 +1,10 @@
 -- What judges a text of bytes.
 use Rattle.std.proofs.Common.{◌≡◌, ℕ, ◌<◌, true, List, [], ◌∷◌, ◌++◌, take, length, refl, sym, ap, ◌∙◌, subst, inl, inr}
-use Rattle.std.specs.List.{list_all}
-use Rattle.std.proofs.lemmas.Bool.{and_from}
-use Rattle.ix_judging.specs.Plan.{Plan, Lawful}
-use Rattle.ix_judging.specs.Lanes.{State}
-use Rattle.ix_judging.specs.Runs.{entered}
+use Rattle.std.{specs.List.list_all, proofs.lemmas.Bool.and_from}
+use Rattle.ix_judging.specs.{Plan.{Plan, Lawful}, Lanes.State, Runs.entered}
+use Rattle.ix_judging.proofs.{Split.{count_feeds, first_are_lines, joined-append, joined-split, split-all, split-joined}, Judged.judge_is_right}
 use Rattle.ix_judging.specs.Judge.{BeginsIn, IsGoodText, IsJudged, IsReport, IsReportWith, IsWrongAt, No, Text, Verdict, Yes, report_from, report_of}
 use Rattle.ix_judging.specs.Bytes.{BeginsGood, IsGoodBytes, IsGoodWith, IsWrongIn, JudgesBytes, PrintsLines, is_line, joined, judge_bytes, split}
-use Rattle.ix_judging.proofs.Split.{count_feeds, first_are_lines, joined-append, joined-split, split-all, split-joined}
-use Rattle.ix_judging.proofs.Judged.{judge_is_right}
 
 module _ {W E A L : Type 0} (p : Plan W E A L (List ℕ)) (prints : PrintsLines p) where
   from_lines : (at : State W L) (events : List E) → list_all is_line (report_from p at events) ≡ true

@@ -1,13 +1,10 @@
 -- Each run can be brought to an end.
-use Rattle.std.proofs.Common.{refl, ◌≡◌, ℕ, zero, suc, ◌+◌, ◌≤◌, ◌<◌, List, [], ◌∷◌, ◌++◌, length, Option, Some, None, sym, ap, subst, arith, inl, inr, slice_get}
+use Rattle.std.proofs.Common.{refl, ◌≡◌, ℕ, zero, suc, ◌+◌, ◌≤◌, ◌<◌, List, [], ◌∷◌, ◌++◌, length, Option, Some, None, sym, ap, subst, arith, inl, inr}
+use Rattle.std.proofs.Common.{slice_get}
 use Rattle.std.proofs.lemmas.Bool.{cases_eq}
-use Rattle.ix_judging.specs.Plan.{Plan, Lawful}
-use Rattle.ix_judging.specs.Lanes.{State, IsGood}
-use Rattle.ix_judging.specs.Runs.{IsTurn, IsWholeRun, IsRun, entered, reached}
+use Rattle.ix_judging.specs.{Plan.{Plan, Lawful}, Lanes.{State, IsGood}, Runs.{IsTurn, IsWholeRun, IsRun, entered, reached}}
 use Rattle.ix_judging.specs.Judge.{BeginsIn, IsReport, lines_of, report_from, report_of}
-use Rattle.ix_judging.proofs.Stores.{after_other, after_same, asking_lane, asks_within, length-entered}
-use Rattle.ix_judging.proofs.Turns.{a_turn}
-use Rattle.ix_judging.proofs.GoodRuns.{runs_good}
+use Rattle.ix_judging.proofs.{Stores.{after_other, after_same, asking_lane, asks_within, length-entered}, Turns.a_turn, GoodRuns.runs_good}
 
 module _ {W E A L T : Type 0} (p : Plan W E A L T) where
   -- ---- how many more calls lanes can make

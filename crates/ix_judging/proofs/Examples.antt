@@ -1,9 +1,8 @@
 -- The example is a script.
-use Rattle.std.proofs.Common.{◌≡◌, ℕ, zero, suc, ◌+◌, ◌*◌, ◌≤◌, ◌<◌, ◌==◌, Bool, true, false, List, [], ◌∷◌, length, Some, None, refl, ap, ◌∙◌, arith, if◌then◌else◌}
+use Rattle.std.proofs.Common.{◌≡◌, ℕ, zero, suc, ◌+◌, ◌*◌, ◌≤◌, ◌<◌, ◌==◌, Bool, true, false, List, [], ◌∷◌, length, Some, None, refl, ap, ◌∙◌, arith}
+use Rattle.std.proofs.Common.{if◌then◌else◌}
 use Rattle.std.proofs.lemmas.Bool.{and_parts, and_from, eqb-true, eq-eqb, ne_eqb}
-use Rattle.ix_judging.specs.Lines.{Ask, AsksFew, Done, LinesRise, lines_from}
-use Rattle.ix_judging.specs.Asking.{IsLane, IsScript, plan_of}
-use Rattle.ix_judging.specs.Bytes.{PrintsLines, is_empty, is_line}
+use Rattle.ix_judging.specs.{Lines.{Ask, AsksFew, Done, LinesRise, lines_from}, Asking.{IsLane, IsScript, plan_of}, Bytes.{PrintsLines, is_empty, is_line}}
 use Rattle.ix_judging.specs.Example.{Entry, Line, lines_of, same_line, line_asks, script, shown, told_in}
 use Rattle.ix_judging.proofs.LaneLines.{lines_are, more_room}
 

@@ -1,13 +1,7 @@
 -- Good histories whose reports have the same first lines have the same first entries.
 use Rattle.std.proofs.Common.{◌≡◌, ℕ, zero, suc, ◌-◌, List, [], ◌∷◌, take, length, Some, None, refl, sym, ap, ◌∙◌, subst, arith}
-use Rattle.ix_judging.specs.Plan.{Plan, Lawful}
-use Rattle.ix_judging.specs.Lanes.{State, IsGood}
-use Rattle.ix_judging.specs.Runs.{IsTurn, IsWholeRun, entered}
-use Rattle.ix_judging.specs.Judge.{report_from, report_of}
-use Rattle.ix_judging.specs.Walk.{told_call}
-use Rattle.ix_judging.proofs.Stores.{length-entered}
-use Rattle.ix_judging.proofs.Turns.{turn_told}
-use Rattle.ix_judging.proofs.GoodRuns.{good_runs}
+use Rattle.ix_judging.specs.{Plan.{Plan, Lawful}, Lanes.{State, IsGood}, Runs.{IsTurn, IsWholeRun, entered}, Judge.{report_from, report_of}, Walk.told_call}
+use Rattle.ix_judging.proofs.{Stores.length-entered, Turns.turn_told, GoodRuns.good_runs}
 
 -- the first item and the rest of lists that begin alike
 pub same_first : {X : Type 0} (n : ℕ) (x y : X) (xs ys : List X) → take (suc n) (x ∷ xs) ≡ take (suc n) (y ∷ ys)

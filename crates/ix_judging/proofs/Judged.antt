@@ -1,16 +1,10 @@
 -- What is found by a walk over a text, line by line, judges it.
-use Rattle.std.proofs.Common.{◌≡◌, ℕ, zero, suc, ◌+◌, ◌≤◌, ◌<◌, ◌⊎◌, Bool, true, false, List, [], ◌∷◌, ◌++◌, take, drop, length, fold, Option, Some, None}
-use Rattle.std.proofs.Common.{refl, sym, ap, ◌∙◌, subst, arith, inl, inr, append_assoc, take-append-drop, if◌then◌else◌}
-use Rattle.ix_judging.specs.Plan.{Plan, Lawful}
-use Rattle.ix_judging.specs.Lanes.{State}
-use Rattle.ix_judging.specs.Runs.{IsOver, IsWholeRun, entered}
+use Rattle.std.proofs.Common.{◌≡◌, ℕ, zero, suc, ◌+◌, ◌≤◌, ◌<◌, ◌⊎◌, Bool, true, false, List, [], ◌∷◌, ◌++◌, take, drop, length, fold, Option, Some, None, refl}
+use Rattle.std.proofs.Common.{sym, ap, ◌∙◌, subst, arith, inl, inr, append_assoc, take-append-drop, if◌then◌else◌}
+use Rattle.ix_judging.{specs.{Plan.{Plan, Lawful}, Lanes.State, Runs.{IsOver, IsWholeRun, entered}}, proofs.Stores.length-entered, proofs.Endings.an_end}
+use Rattle.ix_judging.{proofs.Turns.{is_over_from, over_is, told_turn, turn_told}, proofs.GoodRuns.{good_runs, runs_good}, proofs.Fronts.one_run}
 use Rattle.ix_judging.specs.Judge.{BeginsIn, IsJudged, IsLeastWrong, IsReport, IsReportWith, No, Text, Verdict, Yes, report_from, report_of}
 use Rattle.ix_judging.specs.Walk.{Begins, Closing, Entries, Fails, Walk, closed, closes, ended, is_over, judge, line_after, makes, told_call, walked}
-use Rattle.ix_judging.proofs.Stores.{length-entered}
-use Rattle.ix_judging.proofs.Turns.{is_over_from, over_is, told_turn, turn_told}
-use Rattle.ix_judging.proofs.GoodRuns.{good_runs, runs_good}
-use Rattle.ix_judging.proofs.Endings.{an_end}
-use Rattle.ix_judging.proofs.Fronts.{one_run}
 
 -- fewer of the first items
 take_less : {X : Type 0} (j i : ℕ) (xs : List X) → j ≤ i → take j (take i xs) ≡ take j xs

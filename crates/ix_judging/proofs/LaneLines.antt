@@ -1,8 +1,7 @@
 -- Lanes that are told by their lines are lanes.
 use Rattle.std.proofs.Common.{◌≡◌, ℕ, zero, suc, ◌+◌, ◌*◌, ◌≤◌, ◌<◌, List, [], ◌∷◌, ◌++◌, length, Some, None, refl, ap, ◌∙◌, subst, arith}
 use Rattle.std.proofs.Math.Nat.{suc-mul}
-use Rattle.ix_judging.specs.Lanes.{Calls, no_calls, with_entry_first}
-use Rattle.ix_judging.specs.Asking.{IsLane}
+use Rattle.ix_judging.specs.{Lanes.{Calls, no_calls, with_entry_first}, Asking.IsLane}
 use Rattle.ix_judging.specs.Lines.{Ask, Asking, AsksFew, Done, LinesRise, asks_for, calls_then, lines_from}
 
 module _ {E A : Type 0} (seat phase : E → ℕ) where

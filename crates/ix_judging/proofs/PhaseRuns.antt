@@ -1,12 +1,8 @@
 -- Runs that go phase by phase are the runs.
 use Rattle.std.proofs.Common.{◌≡◌, ℕ, ◌≤◌, ◌<◌, ◌⊎◌, List, [], ◌∷◌, Some, refl, sym, ◌∙◌, subst, arith, inl, inr}
 use Rattle.std.proofs.lemmas.Bool.{cases_eq}
-use Rattle.ix_judging.specs.Plan.{Plan, Lawful}
-use Rattle.ix_judging.specs.Lanes.{State, IsGood}
-use Rattle.ix_judging.specs.Runs.{IsTurn, IsWholeRun, asks, entered}
-use Rattle.ix_judging.specs.Phases.{IsPhasedRun, IsInPhase}
-use Rattle.ix_judging.proofs.Stores.{asking_lane, asks-other, asks-same}
-use Rattle.ix_judging.proofs.GoodRuns.{good_runs, runs_good}
+use Rattle.ix_judging.specs.{Plan.{Plan, Lawful}, Lanes.{State, IsGood}, Runs.{IsTurn, IsWholeRun, asks, entered}, Phases.{IsPhasedRun, IsInPhase}}
+use Rattle.ix_judging.proofs.{Stores.{asking_lane, asks-other, asks-same}, GoodRuns.{good_runs, runs_good}}
 
 order : (a b : ℕ) → (a ≤ b) ⊎ (b < a)
 order a b = grind arith

@@ -1,11 +1,8 @@
 -- Lanes that are told by all that they ask for are lanes of a plan.
-use Rattle.std.proofs.Common.{◌≡◌, ℕ, ◌<◌, nat_lt, true, List, [], ◌∷◌, ◌++◌, length, replicate, Option, Some, None, refl, sym, ap, ◌∙◌, subst, arith, slice_get, append_assoc}
-use Rattle.std.proofs.Common.{append-nil, length-append}
-use Rattle.std.proofs.lemmas.List.{get_or-replicate, length-replicate}
-use Rattle.std.proofs.lemmas.Option.{slice_get-get_or}
-use Rattle.std.specs.List.{list_all}
-use Rattle.ix_judging.specs.Plan.{Lawful}
-use Rattle.ix_judging.specs.Lanes.{Calls, IsGood, asked_first, calls_from, calls_in, calls_of, replies_from}
+use Rattle.std.proofs.Common.{◌≡◌, ℕ, ◌<◌, nat_lt, true, List, [], ◌∷◌, ◌++◌, length, replicate, Option, Some, None, refl, sym, ap, ◌∙◌, subst, arith}
+use Rattle.std.proofs.Common.{slice_get, append_assoc, append-nil, length-append}
+use Rattle.std.{proofs.lemmas.{List.{get_or-replicate, length-replicate}, Option.slice_get-get_or}, specs.List.list_all}
+use Rattle.ix_judging.specs.{Plan.Lawful, Lanes.{Calls, IsGood, asked_first, calls_from, calls_in, calls_of, replies_from}}
 use Rattle.ix_judging.specs.Asking.{IsHistory, IsScript, Script, opened, plan_of}
 
 module _ {W E A T : Type 0} (s : Script W E A T) (count : ℕ) (is : IsScript s count) where

@@ -1,9 +1,8 @@
 -- Texts of bytes and their lines.
-use Rattle.std.proofs.Common.{◌≡◌, ℕ, zero, suc, ◌==◌, Bool, true, false, List, [], ◌∷◌, ◌++◌, take, length, refl, sym, ap, ◌∙◌, append_assoc, append-nil, if◌then◌else◌}
-use Rattle.std.specs.List.{list_all}
-use Rattle.std.proofs.lemmas.Bool.{and_parts, and_from, eqb-true}
-use Rattle.ix_judging.specs.Judge.{Text}
-use Rattle.ix_judging.specs.Bytes.{feeds, is_empty, is_line, joined, split, with_byte, with_feed}
+use Rattle.std.proofs.Common.{◌≡◌, ℕ, zero, suc, ◌==◌, Bool, true, false, List, [], ◌∷◌, ◌++◌, take, length, refl, sym, ap, ◌∙◌, append_assoc, append-nil}
+use Rattle.std.proofs.Common.{if◌then◌else◌}
+use Rattle.std.{specs.List.list_all, proofs.lemmas.Bool.{and_parts, and_from, eqb-true}}
+use Rattle.ix_judging.specs.{Judge.Text, Bytes.{feeds, is_empty, is_line, joined, split, with_byte, with_feed}}
 
 -- ---- a byte in front, as it is a line feed or not
 abbrev put : ℕ → Text (List ℕ) → Bool → Text (List ℕ)

@@ -2,9 +2,7 @@
 use Rattle.std.proofs.Common.{◌≡◌, ℕ, ◌≤◌, ◌<◌, List, length, Option, Some, None, refl, sym, ap, ◌∙◌, inl, inr, slice_get, slice_set}
 use Rattle.std.proofs.lemmas.List.{get_or-set_same, get_or-set_other, length-set}
 use Rattle.std.proofs.lemmas.Option.{slice_get_within, slice_get_cases, slice_get-get_or, slice_get_past}
-use Rattle.ix_judging.specs.Plan.{Plan}
-use Rattle.ix_judging.specs.Lanes.{State}
-use Rattle.ix_judging.specs.Runs.{asks, asks_in, entered, lanes_after, moved}
+use Rattle.ix_judging.specs.{Plan.Plan, Lanes.State, Runs.{asks, asks_in, entered, lanes_after, moved}}
 
 -- ---- items of a list
 pub get-set_same : {X : Type 0} (xs : List X) (i : ℕ) (x : X) → i < length xs → slice_get (slice_set xs i x) i ≡ Some x

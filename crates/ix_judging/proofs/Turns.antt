@@ -1,12 +1,9 @@
 -- Whose turn it is.
-use Rattle.std.proofs.Common.{◌≡◌, ℕ, zero, suc, ◌≤◌, ◌<◌, ◌⊎◌, Bool, true, false, is_none, List, length, Option, Some, None, refl, sym, ap, ◌∙◌, subst, arith, inl, inr}
-use Rattle.std.proofs.Common.{if◌then◌else◌}
+use Rattle.std.proofs.Common.{◌≡◌, ℕ, zero, suc, ◌≤◌, ◌<◌, ◌⊎◌, Bool, true, false, is_none, List, length, Option, Some, None, refl, sym, ap, ◌∙◌, subst, arith}
+use Rattle.std.proofs.Common.{inl, inr, if◌then◌else◌}
 use Rattle.std.proofs.lemmas.Bool.{and_parts, and_from, cases_eq, le-leb, leb-true}
-use Rattle.ix_judging.specs.Plan.{Plan, Lawful}
-use Rattle.ix_judging.specs.Lanes.{State}
-use Rattle.ix_judging.specs.Runs.{IsOver, IsTurn, asks}
+use Rattle.ix_judging.{specs.Plan.{Plan, Lawful}, specs.Lanes.State, specs.Runs.{IsOver, IsTurn, asks}, proofs.Stores.{asks_within, asking_lane, none_past}}
 use Rattle.ix_judging.specs.Walk.{called_by, is_not_before, is_over, least_to, on_turn, over_to, told_call}
-use Rattle.ix_judging.proofs.Stores.{asks_within, asking_lane, none_past}
 
 module _ {W E A L T : Type 0} (p : Plan W E A L T) where
   -- ---- all lanes are done

@@ -1,9 +1,8 @@
 //! The laws of judging a report. These functions do nothing: the contract of each is a law. The laws speak of plans whose states,
 //! entries and answers are numbers; the lemmas in `proofs/` that prove them are of all types.
 
-ghost use Rattle.ix_judging.specs.Example.{IsExample};
+ghost use Rattle.ix_judging.specs.{Example.{IsExample}, Names.{NamesTell}};
 ghost use Rattle.ix_judging.specs.Laws.{BytesAreJudged, JudgeIsRight, LinesAreLanes, LinesTell, PhasesGo, RunsAreGood, RunsEnd, RunsHold, ScriptsArePlans};
-ghost use Rattle.ix_judging.specs.Names.{NamesTell};
 
 /// The histories that hold each lane's calls in order, and in which phases never fall, are those that runs come to.
 pub fn runs_are_good()

@@ -1,29 +1,15 @@
 -- What a seat has made of what it has seen, and how it goes on.
-use Rattle.std.proofs.Common.{◌≡◌, ◌≤◌, ◌+◌, ◌==◌, ℕ, suc, Bool, true, false, List, [], ◌∷◌, ◌++◌, length, Option, Some, None, refl, sym, ap, ◌∙◌, arith, append-nil, if◌then◌else◌}
+use Rattle.std.proofs.Common.{◌≡◌, ◌≤◌, ◌+◌, ◌==◌, ℕ, suc, Bool, true, false, List, [], ◌∷◌, ◌++◌, length, Option, Some, None, refl, sym, ap, ◌∙◌, arith}
+use Rattle.std.proofs.Common.{append-nil, if◌then◌else◌}
 use mathlib.Core.List.{IsPrefix}
-use Rattle.std.specs.List.{filter, sum_by}
-use Rattle.std.specs.Option.{option_map_or}
-use Rattle.std.proofs.lemmas.List.Elements.{filter-append}
-use Rattle.std.proofs.lemmas.List.Sums.{sum-map, sum_by-append}
-use Rattle.ix_model.specs.world.World.{World}
-use Rattle.ix_model.specs.opening.Opening.{opening_world}
-use Rattle.ix_model.specs.history.Cost.{cost_of, cost_of_history}
-use Rattle.ix_model.specs.history.Step.{step_of, run}
-use Rattle.ix_model.specs.history.Events.{Op, Event}
-use Rattle.ix_model.specs.history.Made.{Made, entry}
-use Rattle.ix_model.specs.history.Seats.{made_of, replied, made_by}
-use Rattle.ix_model.specs.history.Systems.{made_after, stops_after, last_stop, FullFor}
-use Rattle.ix_model.specs.declared.config.Config.{Config}
-use Rattle.ix_model.specs.declared.ids.Pid.{Pid}
-use Rattle.ix_model.specs.declared.reply.Answer.{Answer}
+use Rattle.std.{specs.{List.{filter, sum_by}, Option.option_map_or}, proofs.lemmas.List.{Elements.filter-append, Sums.{sum-map, sum_by-append}}}
+use Rattle.ix_model.specs.{world.World.World, opening.Opening.opening_world, history.Cost.{cost_of, cost_of_history}, history.Step.{step_of, run}}
+use Rattle.ix_model.specs.{history.Events.{Op, Event}, history.Made.{Made, entry}, history.Seats.{made_of, replied, made_by}}
+use Rattle.ix_model.specs.{history.Systems.{made_after, stops_after, last_stop, FullFor}, declared.{config.Config.Config, ids.Pid.Pid, reply.Answer.Answer}}
 use Rattle.ix_model.specs.declared.reply.Answer.TheVariants as answer
-use Rattle.ix_gate.specs.History.{entries_of}
-use Rattle.ix_gate.specs.Seat.{after_meeting}
-use Rattle.ix_gate.proofs.Entries.{entries_of-rest}
+use Rattle.ix_gate.{specs.{History.entries_of, Seat.after_meeting}, proofs.Entries.entries_of-rest}
 use Rattle.ix_core.proofs.Seated.{makes}
-use Rattle.ix_kernel.specs.Seen.{KSeatState, seat_of, own, after_turn}
-use Rattle.ix_kernel.specs.Turns.{InTurn, HasRoom}
-use Rattle.ix_kernel.specs.Systems.{SystemState, made_at, SeatGoesOn, Sits}
+use Rattle.ix_kernel.specs.{Seen.{KSeatState, seat_of, own, after_turn}, Turns.{InTurn, HasRoom}, Systems.{SystemState, made_at, SeatGoesOn, Sits}}
 
 -- ---- costs
 -- a history costs no less than what begins it

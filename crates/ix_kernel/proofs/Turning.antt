@@ -2,21 +2,14 @@
 use Rattle.std.proofs.Common.{◌≡◌, ◌+◌, ◌<◌, ℕ, List, [], ◌∷◌, ◌++◌, Some, None, refl, ap, sym, ◌∙◌, subst, inl, inr, arith, append_assoc}
 use mathlib.Core.List.{IsPrefix}
 use Rattle.std.proofs.lemmas.List.Elements.{filter-append}
-use Rattle.ix_gate.specs.History.{entries_of, Grows, KeepsEnded}
-use Rattle.ix_gate.specs.Seat.{after_take, after_give, LearnsServed}
-use Rattle.ix_gate.proofs.Entries.{entries_of-own, grows_prefix}
+use Rattle.ix_gate.{specs.{History.{entries_of, Grows, KeepsEnded}, Seat.{after_take, after_give, LearnsServed}}, proofs.Entries.{entries_of-own, grows_prefix}}
 use Rattle.ix_core.specs.Stepping.{StepsTo, StepsAs}
 use Rattle.ix_iso.specs.Noninterference.{Noninterferent}
 use Rattle.ix_journal.proofs.Growing.{cost_more}
-use Rattle.ix_model.specs.opening.Opening.{opening_world}
-use Rattle.ix_model.specs.history.Cost.{cost_of, cost_of_history}
-use Rattle.ix_model.specs.history.Events.{Event}
-use Rattle.ix_model.specs.history.History.{History}
-use Rattle.ix_model.specs.declared.config.Config.{Config}
-use Rattle.ix_model.specs.declared.reply.Answer.{Answer}
+use Rattle.ix_model.specs.{opening.Opening.opening_world, history.{Cost.{cost_of, cost_of_history}, Events.Event, History.History}}
+use Rattle.ix_model.specs.declared.{config.Config.Config, reply.Answer.Answer}
 use Rattle.ix_model.specs.declared.reply.Answer.TheVariants as answer
-use Rattle.ix_kernel.specs.Seen.{KSeatState, seat_of, own, own_after, after_turn}
-use Rattle.ix_kernel.specs.Turns.{InTurn, HasRoom, SeenNoninterferent}
+use Rattle.ix_kernel.specs.{Seen.{KSeatState, seat_of, own, own_after, after_turn}, Turns.{InTurn, HasRoom, SeenNoninterferent}}
 
 -- ---- a step
 pub step_grows : (a : Answer) (old new : History) (e : Event) (before after : List ℕ) → StepsTo a old new before after e → Grows seat_of e.seat old.events new.events

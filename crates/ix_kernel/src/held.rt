@@ -1,6 +1,5 @@
 // What the gate of a kernel keeps.
-ghost use Rattle.ix_model.specs.history.Calls.{op_of};
-ghost use Rattle.ix_model.specs.history.Made.{entry};
+ghost use Rattle.ix_model.specs.history.{Calls.{op_of}, Made.{entry}};
 ghost use Rattle.ix_core.specs.Stepping.{StepsAs};
 
 use ix_core::Core;

@@ -1,7 +1,6 @@
 // A kernel: a gate round a core.
 ghost use Rattle.std.specs.Prelude.{◌≡◌, ℕ, ◌<◌, ◌≤◌, [], Some, IfOk, All, vec_len, slice_get};
-ghost use Rattle.ix_gate.specs.Rule.{most_seats};
-ghost use Rattle.ix_gate.specs.Seat.{new_seat, StandsFor};
+ghost use Rattle.ix_gate.specs.{Rule.{most_seats}, Seat.{new_seat, StandsFor}};
 
 use crate::held::Held;
 use crate::seat::KSeat;

@@ -1,14 +1,9 @@
 // A seat of a kernel, and what it may call.
 ghost use Rattle.std.specs.Prelude.{◌≡◌, ◌+◌, ◌<◌, ◌≤◌, ◌∷◌, ◌++◌, IfOk, IfErr, IsOk};
 ghost use mathlib.Core.List.{IsPrefix};
-ghost use Rattle.ix_gate.specs.History.{IsInLine};
-ghost use Rattle.ix_gate.specs.Rule.{most_turns};
-ghost use Rattle.ix_gate.specs.Seat.{after_meeting, after_busy, LearnsServed};
-ghost use Rattle.ix_model.specs.history.Calls.{op_of};
-ghost use Rattle.ix_model.specs.history.Made.{entry};
-ghost use Rattle.ix_model.specs.history.Systems.{Fits, LeavesRest};
-ghost use Rattle.ix_kernel.specs.Seen.{own, own_after, after_turn};
-ghost use Rattle.ix_kernel.specs.Turns.{InTurn, HasRoom, SeenNoninterferent};
+ghost use Rattle.ix_gate.specs.{History.{IsInLine}, Rule.{most_turns}, Seat.{after_meeting, after_busy, LearnsServed}};
+ghost use Rattle.ix_model.specs.history.{Calls.{op_of}, Made.{entry}, Systems.{Fits, LeavesRest}};
+ghost use Rattle.ix_kernel.specs.{Seen.{own, own_after, after_turn}, Turns.{InTurn, HasRoom, SeenNoninterferent}};
 
 use crate::held::Held;
 use crate::kernel::Kernel;
@@ -27,8 +22,7 @@ pub struct KSeat {
 }
 
 impl Model for KSeat {
-    ghost use Rattle.std.specs.Prelude.{◌≡◌, None};
-    ghost use Rattle.std.specs.Coded.{codes};
+    ghost use Rattle.std.specs.{Prelude.{◌≡◌, None}, Coded.{codes}};
     ghost use Rattle.ix_label.specs.contracts.label.Label as label_type;
     ghost use Rattle.ix_kernel.specs.Seen.{KSeatState};
 

@@ -1,25 +1,17 @@
 -- What the code's work on words does to the label that they hold.
-use Rattle.std.proofs.Common.{◌≡◌, ℕ, zero, suc, ◌+◌, ◌-◌, ◌*◌, ◌^◌, ◌/◌, ◌%◌, ◌<◌, ◌≤◌, ◌==◌, not, Bool, true, false, true≢false, ◌&&◌, ◌||◌, List, [], ◌∷◌, length, get_or, refl, sym, ◌∙◌}
-use Rattle.std.proofs.Common.{ap, arith, min, max, inl, inr, ◌≢◌, w64, Option, None, Some, get_or-set_same, get_or-set_other, nat_eq}
-use Rattle.std.specs.Bool.{Decides}
-use Rattle.std.specs.Cmp.Lexicographic.{pointwise, bytes_decides}
-use Rattle.std.specs.Int.{bit_at, bit_not, trailing_zeros}
-use Rattle.std.specs.Int.Bits.{bit_or, bit_and}
+use Rattle.std.proofs.Common.{◌≡◌, ℕ, zero, suc, ◌+◌, ◌-◌, ◌*◌, ◌^◌, ◌/◌, ◌%◌, ◌<◌, ◌≤◌, ◌==◌, not, Bool, true, false, true≢false, ◌&&◌, ◌||◌, List, [], ◌∷◌}
+use Rattle.std.proofs.Common.{length, get_or, refl, sym, ◌∙◌, ap, arith, min, max, inl, inr, ◌≢◌, w64, Option, None, Some, get_or-set_same, get_or-set_other}
+use Rattle.std.proofs.Common.{nat_eq}
+use Rattle.std.specs.{Bool.Decides, Cmp.Lexicographic.{pointwise, bytes_decides}, Int.{bit_at, bit_not, trailing_zeros, Bits.{bit_or, bit_and}}}
 use Rattle.std.proofs.lemmas.Nat.Bits.{same_from_bits, same_from_bits_below, bit_at_above, bit_at_not, bit_at-trailing_zeros, bit_at_or, bit_at_and, bit_at-lt}
 use Rattle.std.proofs.lemmas.Nat.Bits.{bit_at-zero, shr_and_one, bit_at_ones, bit_at_set_same, bit_at_set_other}
-use Rattle.std.proofs.lemmas.List.{get_or_past}
-use Rattle.std.proofs.lemmas.Bool.{cases_lt, ne_eqb, eq-eqb, eqb-true, false_from_ne_true}
-use Rattle.std.proofs.lemmas.Nat.{or_lt, shr-shr}
-use Rattle.std.proofs.lemmas.Bool.Decides.{eqb_tells, same_from_decides}
-use Rattle.std.proofs.Math.ListN.{set, length-set}
-use Rattle.std.proofs.Math.Nat.{div-le_self}
-use Rattle.ix_label.specs.declared.form.Form.TheVariants.{One, Two}
-use Rattle.ix_label.specs.Category.{IsLabel, has, bottom, top, all_below, with, join, meet, leq, same}
-use Rattle.ix_label.specs.Forms.{all_of, greatest, narrow}
-use Rattle.ix_label.specs.Scanning.{IsFirstBit, FirstBit, FirstFrom, RunsTo}
-use Rattle.ix_label.specs.Members.{same_members, has-bottom, has-all_below, has-all_below_past, has-with, has-join, has-meet, leq-has, has-leq}
+use Rattle.std.proofs.{lemmas.List.get_or_past, lemmas.Bool.{cases_lt, ne_eqb, eq-eqb, eqb-true, false_from_ne_true}, lemmas.Nat.{or_lt, shr-shr}}
+use Rattle.std.proofs.{lemmas.Bool.Decides.{eqb_tells, same_from_decides}, Math.{ListN.{set, length-set}, Nat.div-le_self}}
+use Rattle.ix_label.specs.{declared.form.Form.TheVariants.{One, Two}, Category.{IsLabel, has, bottom, top, all_below, with, join, meet, leq, same}}
+use Rattle.ix_label.specs.{Forms.{all_of, greatest, narrow}, Scanning.{IsFirstBit, FirstBit, FirstFrom, RunsTo}}
 use Rattle.ix_label.specs.Lattice.{join-absorbs, leq-by_join, same-decides}
 use Rattle.ix_label.specs.Words.{has_bit, has_bit_past, members, has-members, AreWords, words_of, words_of-members}
+use Rattle.ix_label.specs.Members.{same_members, has-bottom, has-all_below, has-all_below_past, has-with, has-join, has-meet, leq-has, has-leq}
 
 -- words that hold one label are equal
 members_injective : (a b : List ℕ) → AreWords a → AreWords b → members a ≡ members b → a ≡ b

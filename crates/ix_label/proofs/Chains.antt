@@ -1,15 +1,10 @@
 -- The longest runs of a label stand in ascending order, with a gap between each two.
-use Rattle.std.proofs.Common.{◌≡◌, ℕ, zero, suc, ◌+◌, ◌<◌, ◌≤◌, true, false, true≢false, List, [], ◌∷◌, refl, sym, ◌∙◌, arith, add-one, Option, None, Some, inl, inr}
-use Rattle.std.specs.List.{range_with_len, zip, filter}
-use Rattle.std.proofs.lemmas.Bool.{cases_Bool, cases_order, false_from_ne_true}
-use Rattle.std.proofs.Math.Bool.{and-false}
-use Rattle.ix_label.specs.declared.form.Form.{Form}
-use Rattle.ix_label.specs.Category.{Categories, has}
-use Rattle.ix_label.specs.Forms.{greatest, IsWithin}
+use Rattle.std.proofs.Common.{◌≡◌, ℕ, zero, suc, ◌+◌, ◌<◌, ◌≤◌, true, false, true≢false, List, [], ◌∷◌, refl, sym, ◌∙◌, arith, add-one, Option, None, Some, inl}
+use Rattle.std.proofs.Common.{inr}
+use Rattle.std.{specs.List.{range_with_len, zip, filter}, proofs.{lemmas.Bool.{cases_Bool, cases_order, false_from_ne_true}, Math.Bool.and-false}}
+use Rattle.ix_label.specs.{declared.form.Form.Form, Category.{Categories, has}, Forms.{greatest, IsWithin}, Reading.IsAbove}
 use Rattle.ix_label.specs.Spelling.{categories, has_before, begins, ends, runs}
-use Rattle.ix_label.specs.Reading.{IsAbove}
-use Rattle.ix_label.proofs.Runs.{are_below}
-use Rattle.ix_label.proofs.Numbers.{greatest-below}
+use Rattle.ix_label.proofs.{Runs.are_below, Numbers.greatest-below}
 
 -- a run that may follow a run which ends at the last number
 pub record IsLink (form : Form) (last : Option ℕ) (a b : ℕ) : Type 0 where

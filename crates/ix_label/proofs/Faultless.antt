@@ -1,18 +1,10 @@
 -- The spelling of a label has no fault.
-use Rattle.std.proofs.Common.{◌≡◌, ℕ, ◌+◌, ◌<◌, ◌≤◌, false, true≢false, List, [], ◌∷◌, ◌++◌, length, drop, refl, sym, ◌∙◌, ap, subst}
-use Rattle.std.proofs.Common.{arith, append_assoc, length-append, length-drop, Option, None, Some, inl, inr}
-use Rattle.std.specs.List.{slice_get}
-use Rattle.std.specs.Fmt.{decimal}
-use Rattle.std.proofs.lemmas.Bool.{cases_lt}
-use Rattle.std.proofs.lemmas.List.{drop-drop, drop_at}
-use Rattle.std.proofs.lemmas.Option.{slice_get_within}
-use Rattle.ix_label.specs.declared.form.Form.{Form}
-use Rattle.ix_label.specs.Forms.{greatest, whole_run}
-use Rattle.ix_label.specs.Spelling.{item, items, comma, dash}
-use Rattle.ix_label.specs.Faults.{at_digit, at_dash, at_comma, last_number, is_text}
-use Rattle.ix_label.specs.Reading.{fault_from, IsNumberAt, BeginsItem, IsItemAt}
-use Rattle.ix_label.proofs.Chains.{Chain, IsLink}
-use Rattle.ix_label.proofs.Reading.{drop-next, drop-past, back-next, item_single, item_range, item_one, item_more, order_above}
+use Rattle.std.proofs.Common.{◌≡◌, ℕ, ◌+◌, ◌<◌, ◌≤◌, false, true≢false, List, [], ◌∷◌, ◌++◌, length, drop, refl, sym, ◌∙◌, ap, subst, arith, append_assoc, None}
+use Rattle.std.proofs.Common.{length-append, length-drop, Option, Some, inl, inr}
+use Rattle.std.{specs.{List.slice_get, Fmt.decimal}, proofs.lemmas.{Bool.cases_lt, List.{drop-drop, drop_at}, Option.slice_get_within}}
+use Rattle.ix_label.specs.{declared.form.Form.Form, Forms.{greatest, whole_run}, Spelling.{item, items, comma, dash}}
+use Rattle.ix_label.specs.{Faults.{at_digit, at_dash, at_comma, last_number, is_text}, Reading.{fault_from, IsNumberAt, BeginsItem, IsItemAt}}
+use Rattle.ix_label.proofs.{Chains.{Chain, IsLink}, Reading.{drop-next, drop-past, back-next, item_single, item_range, item_one, item_more, order_above}}
 use Rattle.ix_label.proofs.Unique.{after_item, items_are, Stops, after_item_Stops}
 
 -- ---- what stands at a place

@@ -1,11 +1,7 @@
 -- The labels that a form has a spelling for are those within its greatest number.
-use Rattle.std.proofs.Common.{◌≡◌, ℕ, ◌+◌, ◌<◌, ◌≤◌, true, true≢false, sym, ◌∙◌, arith, inl, inr}
-use Rattle.std.proofs.lemmas.Bool.{cases_lt}
-use Rattle.ix_label.specs.declared.form.Form.{Form}
-use Rattle.ix_label.specs.declared.form.Form.TheVariants.{One, Two}
-use Rattle.ix_label.specs.Category.{Categories, IsLabel, has, bottom, all_below}
-use Rattle.ix_label.specs.Members.{has-bottom, has-all_below, has-all_below_past, has-leq, leq-has}
-use Rattle.ix_label.specs.Forms.{greatest, all_of, narrow, Fits, IsWithin}
+use Rattle.std.proofs.{Common.{◌≡◌, ℕ, ◌+◌, ◌<◌, ◌≤◌, true, true≢false, sym, ◌∙◌, arith, inl, inr}, lemmas.Bool.cases_lt}
+use Rattle.ix_label.specs.{declared.form.Form.{Form, TheVariants.{One, Two}}, Category.{Categories, IsLabel, has, bottom, all_below}}
+use Rattle.ix_label.specs.{Members.{has-bottom, has-all_below, has-all_below_past, has-leq, leq-has}, Forms.{greatest, all_of, narrow, Fits, IsWithin}}
 use Rattle.ix_label.proofs.Numbers.{greatest-below}
 
 -- a number of a set of all numbers below n is below n

@@ -1,23 +1,13 @@
 -- The loop over the items of a text: what it has read up to a place.
-use Rattle.std.proofs.Common.{◌≡◌, ℕ, ◌+◌, ◌-◌, ◌<◌, ◌≤◌, nat_le, true, true≢false, ◌&&◌, ◌||◌, List, [], ◌∷◌, length, get_or, take, drop, refl, sym}
-use Rattle.std.proofs.Common.{◌∙◌, ap, arith, length-append, length-drop, Option, None, Some, inl, inr}
-use Rattle.std.specs.List.{slice_get}
-use Rattle.std.proofs.lemmas.Bool.{or_cases, or_right, and_parts, leb-true, le-leb, ne_eqb, cases_order}
-use Rattle.std.proofs.lemmas.List.{take_all}
+use Rattle.std.proofs.Common.{◌≡◌, ℕ, ◌+◌, ◌-◌, ◌<◌, ◌≤◌, nat_le, true, true≢false, ◌&&◌, ◌||◌, List, [], ◌∷◌, length, get_or, take, drop, refl, sym, ◌∙◌, ap}
+use Rattle.std.proofs.Common.{arith, length-append, length-drop, Option, None, Some, inl, inr}
+use Rattle.std.{specs.List.slice_get, proofs.lemmas.Bool.{or_cases, or_right, and_parts, leb-true, le-leb, ne_eqb, cases_order}, proofs.lemmas.List.take_all}
 use Rattle.std.proofs.lemmas.Option.{slice_get_within, slice_get-get_or, slice_get_past}
-use Rattle.ix_label.specs.declared.form.Form.{Form}
-use Rattle.ix_label.specs.Forms.{greatest}
-use Rattle.ix_label.specs.declared.fault.LabelFault.TheVariants.{BadNumber}
-use Rattle.ix_label.specs.Category.{Categories, has, bottom}
-use Rattle.ix_label.specs.Members.{has-bottom}
-use Rattle.ix_label.specs.Spelling.{item, items, runs, comma}
-use Rattle.ix_label.specs.Scanning.{comma_after}
-use Rattle.ix_label.specs.Faults.{at_comma, last_number}
+use Rattle.ix_label.specs.{declared.{form.Form.Form, fault.LabelFault.TheVariants.BadNumber}, Forms.greatest, Category.{Categories, has, bottom}}
+use Rattle.ix_label.specs.{Members.has-bottom, Spelling.{item, items, runs, comma}, Scanning.comma_after, Faults.{at_comma, last_number}}
 use Rattle.ix_label.specs.Reading.{back_from, fault_from, BeginsItem, IsAbove, IsItemAt, fault_after_item, IsRead}
-use Rattle.ix_label.proofs.Runs.{AddsRun, runs-AddsRun, runs-bottom}
-use Rattle.ix_label.proofs.Numbers.{greatest-below}
+use Rattle.ix_label.proofs.{Runs.{AddsRun, runs-AddsRun, runs-bottom}, Numbers.greatest-below, Reading.{drop-next, take-written, back-next}}
 use Rattle.ix_label.proofs.Texts.{items-push, items_none, comma_after_none, comma_after_some, item_some}
-use Rattle.ix_label.proofs.Reading.{drop-next, take-written, back-next}
 
 -- no category of the label is above the last number
 abbrev pub IsUpTo : Option ℕ → Categories → Type 0

@@ -1,22 +1,13 @@
 -- The decimal digits of a category, as they are written and as they are read.
-use Rattle.std.proofs.Common.{◌≡◌, ℕ, ◌+◌, ◌*◌, ◌-◌, take, ◌<◌, ◌≤◌, ◌==◌, nat_lt, zero, suc, true, false, ◌&&◌, List, ◌++◌, length, get_or, refl, sym, arith, rules, None, Some, inl, inr}
-use Rattle.std.specs.List.{list_all}
-use Rattle.std.specs.Char.{is_ascii_digit}
-use Rattle.std.specs.Fmt.{decimal}
-use Rattle.std.specs.Str.Parse.{digits_value}
+use Rattle.std.proofs.Common.{◌≡◌, ℕ, ◌+◌, ◌*◌, ◌-◌, take, ◌<◌, ◌≤◌, ◌==◌, nat_lt, zero, suc, true, false, ◌&&◌, List, ◌++◌, length, get_or, refl, sym, arith}
+use Rattle.std.proofs.Common.{rules, None, Some, inl, inr}
+use Rattle.std.specs.{List.list_all, Char.{is_ascii_digit, digit_value}, Fmt.decimal, Str.Parse.digits_value, Int.IsInRange}
 use Rattle.std.proofs.lemmas.Bool.{le-ltb, lt-ltb, eqb-false, ltb-false, ne_eqb, cases_lt, or_parts, or_from, and_cases, and_left, and_right}
 use Rattle.std.proofs.lemmas.Fmt.{decimal_digit, first_decimal, digits_decimal, digits_value-decimal, decimal-digits_value}
-use Rattle.std.proofs.lemmas.Str.Parse.{IsNumeralModel, numerals_by_value, digits_value-take-le, digit_at}
-use Rattle.std.proofs.lemmas.Int.Digits.{digits_value_more}
-use Rattle.std.specs.Char.{digit_value}
-use Rattle.std.specs.Int.{IsInRange}
-use Rattle.ix_label.specs.declared.form.Form.{Form}
-use Rattle.ix_label.specs.declared.form.Form.TheVariants.{One, Two}
-use Rattle.ix_label.specs.Forms.{greatest}
-use Rattle.ix_label.specs.declared.fault.LabelFault.TheVariants.{NotAscending, NotLongest}
+use Rattle.std.proofs.{lemmas.Str.Parse.{IsNumeralModel, numerals_by_value, digits_value-take-le, digit_at}, lemmas.Int.Digits.digits_value_more}
+use Rattle.ix_label.specs.{declared.{form.Form.{Form, TheVariants.{One, Two}}, fault.LabelFault.TheVariants.{NotAscending, NotLongest}}, Forms.greatest}
 use Rattle.ix_label.specs.Faults.{digits, number_ahead, at_digit, is_bad, is_not_ascending, is_not_longest, number_fault}
-use Rattle.ix_label.proofs.Texts.{decimal_some}
-use Rattle.ix_label.proofs.Places.{digits-append}
+use Rattle.ix_label.proofs.{Texts.decimal_some, Places.digits-append}
 
 -- each form's numbers are categories
 pub greatest-below : (form : Form) → greatest form < 512

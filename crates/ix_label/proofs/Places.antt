@@ -1,18 +1,12 @@
 -- How the first fault of a text is found, number by number.
-use Rattle.std.proofs.Common.{◌≡◌, ℕ, suc, ◌+◌, ◌<◌, ◌==◌, Bool, true, false, true≢false, not, ◌&&◌, cond, List, [], ◌∷◌, ◌++◌, length}
-use Rattle.std.proofs.Common.{reverse, drop, refl, sym, ◌∙◌, ap, arith, append_assoc, None, Some}
-use Rattle.std.specs.List.{list_all, prefix_len}
-use Rattle.std.specs.Char.{is_ascii_digit}
-use Rattle.std.specs.Str.Parse.{digits_value}
-use Rattle.std.proofs.lemmas.List.{take_at, drop_at, reverse-append, reverse-reverse, length-reverse, take-append-drop}
-use Rattle.std.proofs.lemmas.List.Sums.{take_while-cons}
-use Rattle.std.proofs.lemmas.List.Folds.{list_all-append}
-use Rattle.std.proofs.lemmas.Bool.{and_parts, ne_eqb, false_from_ne_true}
-use Rattle.ix_label.specs.declared.form.Form.{Form}
-use Rattle.ix_label.specs.declared.fault.LabelFault.{LabelFault}
-use Rattle.ix_label.specs.declared.fault.LabelFault.TheVariants.{BadNumber}
-use Rattle.ix_label.specs.Spelling.{comma, dash}
-use Rattle.ix_label.specs.Faults.{digits, after_digits, number_back, at_digit, at_dash, is_due, number_fault, may_follow, follower_fault, fault_here, first_fault}
+use Rattle.std.proofs.Common.{◌≡◌, ℕ, suc, ◌+◌, ◌<◌, ◌==◌, Bool, true, false, true≢false, not, ◌&&◌, cond, List, [], ◌∷◌, ◌++◌, length, reverse, drop, refl, ap}
+use Rattle.std.proofs.Common.{sym, ◌∙◌, arith, append_assoc, None, Some}
+use Rattle.std.specs.{List.{list_all, prefix_len}, Char.is_ascii_digit, Str.Parse.digits_value}
+use Rattle.std.proofs.{lemmas.List.{take_at, drop_at, reverse-append, reverse-reverse, length-reverse, take-append-drop}, lemmas.List.Sums.take_while-cons}
+use Rattle.std.proofs.{lemmas.List.Folds.list_all-append, lemmas.Bool.{and_parts, ne_eqb, false_from_ne_true}}
+use Rattle.ix_label.specs.{declared.{form.Form.Form, fault.LabelFault.{LabelFault, TheVariants.BadNumber}}, Spelling.{comma, dash}}
+use Rattle.ix_label.specs.Faults.{digits, after_digits, number_back, at_digit, at_dash, is_due, number_fault, may_follow, follower_fault, fault_here}
+use Rattle.ix_label.specs.Faults.{first_fault}
 
 -- ---- the digits that bytes begin with
 

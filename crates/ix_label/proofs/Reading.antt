@@ -1,24 +1,19 @@
 -- What the numbers and items that stand at a place say of the text's first fault.
-use Rattle.std.proofs.Common.{◌≡◌, ℕ, ◌+◌, ◌-◌, ◌<◌, ◌≤◌, ◌==◌, nat_le, Bool, true, false, true≢false, not, ◌&&◌, List, [], ◌∷◌, ◌++◌, length, get_or, take, drop, reverse, if◌then◌else◌, ◌⊎◌, refl}
-use Rattle.std.proofs.Common.{sym, ◌∙◌, ap, arith, append_assoc, length-append, length-drop, Option, None, Some, inl, inr, codes}
-use Rattle.std.specs.List.{slice_get, list_all, prefix_len}
-use Rattle.std.specs.Char.{is_ascii_digit}
-use Rattle.std.specs.Fmt.{decimal}
+use Rattle.std.proofs.Common.{◌≡◌, ℕ, ◌+◌, ◌-◌, ◌<◌, ◌≤◌, ◌==◌, nat_le, Bool, true, false, true≢false, not, ◌&&◌, List, [], ◌∷◌, ◌++◌, length, get_or, take, ap}
+use Rattle.std.proofs.Common.{drop, reverse, if◌then◌else◌, ◌⊎◌, refl, sym, ◌∙◌, arith, append_assoc, length-append, length-drop, Option, None, Some, inl, inr}
+use Rattle.std.proofs.Common.{codes}
+use Rattle.std.specs.{List.{slice_get, list_all, prefix_len}, Char.is_ascii_digit, Fmt.decimal, Str.Parse.digits_value}
 use Rattle.std.proofs.lemmas.Bool.{lt-ltb, cases_lt, cases_Bool, cases_order, eqb-true, eqb-false, eq-eqb, ne_eqb, le-leb, lt-leb, leb-false, and_left}
 use Rattle.std.proofs.lemmas.List.{take-append-drop, take_at, drop_more, drop-drop, drop_all, length-take, length-reverse, reverse-append}
-use Rattle.std.proofs.lemmas.List.Folds.{length-prefix_len}
-use Rattle.std.proofs.lemmas.List.Sums.{prefix_len-le-length}
+use Rattle.std.proofs.{lemmas.List.Folds.length-prefix_len, lemmas.List.Sums.prefix_len-le-length, Math.Bool.{and-false, or-false}}
 use Rattle.std.proofs.lemmas.Option.{slice_get_within, get_or_from_slice_get, slice_get-get_or}
-use Rattle.std.specs.Str.Parse.{digits_value}
-use Rattle.std.proofs.Math.Bool.{and-false, or-false}
-use Rattle.ix_label.specs.declared.form.Form.{Form}
-use Rattle.ix_label.specs.Forms.{greatest, whole_run}
-use Rattle.ix_label.specs.declared.fault.LabelFault.{LabelFault}
-use Rattle.ix_label.specs.declared.fault.LabelFault.TheVariants.{BadNumber, OutOfRange, NotAscending, NotLongest}
-use Rattle.ix_label.specs.Spelling.{item, comma, dash}
-use Rattle.ix_label.specs.Faults.{digits, after_digits, number_ahead, is_bad, at_comma, at_dash, at_digit, is_due, is_not_ascending, is_not_longest, is_text, last_number, number_back, number_fault}
+use Rattle.ix_label.specs.declared.{form.Form.Form, fault.LabelFault.{LabelFault, TheVariants.{BadNumber, OutOfRange, NotAscending, NotLongest}}}
+use Rattle.ix_label.specs.{Forms.{greatest, whole_run}, Spelling.{item, comma, dash}}
+use Rattle.ix_label.specs.Faults.{digits, after_digits, number_ahead, is_bad, at_comma, at_dash, at_digit, is_due, is_not_ascending, is_not_longest, is_text}
+use Rattle.ix_label.specs.Faults.{last_number, number_back, number_fault}
 use Rattle.ix_label.specs.Reading.{back_from, fault_from, IsValueOf, IsNumberAt, AfterLast, BeginsItem, IsAbove, order_fault, fault_after_item, IsItemAt}
-use Rattle.ix_label.proofs.Places.{are_digits, digits-and_after, no_digit_after, fault_due, first_fault-some, over_number, number_back-number, end_follows, comma_follows, dash_follows, other_follows}
+use Rattle.ix_label.proofs.Places.{are_digits, digits-and_after, no_digit_after, fault_due, first_fault-some, over_number, number_back-number, end_follows}
+use Rattle.ix_label.proofs.Places.{comma_follows, dash_follows, other_follows}
 use Rattle.ix_label.proofs.Texts.{decimal_some}
 use Rattle.ix_label.proofs.Numbers.{greatest-below, sound-decimal, decimal-digits, decimal-value, number_ahead-decimal, in_order, not_ascending, not_longest}
 

@@ -1,12 +1,9 @@
 -- The longest runs of a label that gains one run above all that it has.
-use Rattle.std.proofs.Common.{◌≡◌, ℕ, zero, suc, ◌+◌, ◌<◌, ◌≤◌, nat_le, Bool, true, false, not, ◌&&◌, ◌||◌, cond, add-zero, zero-add, add-one, List}
-use Rattle.std.proofs.Common.{[], ◌∷◌, ◌++◌, length, refl, ◌∙◌, ap, arith, inl, inr}
+use Rattle.std.proofs.Common.{◌≡◌, ℕ, zero, suc, ◌+◌, ◌<◌, ◌≤◌, nat_le, Bool, true, false, not, ◌&&◌, ◌||◌, cond, add-zero, zero-add, add-one, List, [], ◌∷◌}
+use Rattle.std.proofs.Common.{◌++◌, length, refl, ◌∙◌, ap, arith, inl, inr}
 use Rattle.std.specs.List.{range_with_len, zip, filter}
-use Rattle.std.proofs.lemmas.Bool.{cases_lt, cases_Bool, false_from_ne_true, le-leb, lt-leb}
-use Rattle.std.proofs.Math.Bool.{and-false, or-false}
-use Rattle.ix_label.specs.Category.{Categories, has, bottom}
-use Rattle.ix_label.specs.Members.{has-bottom}
-use Rattle.ix_label.specs.Spelling.{categories, has_before, begins, ends, runs}
+use Rattle.std.proofs.{lemmas.Bool.{cases_lt, cases_Bool, false_from_ne_true, le-leb, lt-leb}, Math.Bool.{and-false, or-false}}
+use Rattle.ix_label.specs.{Category.{Categories, has, bottom}, Members.has-bottom, Spelling.{categories, has_before, begins, ends, runs}}
 
 -- ---- lists
 

@@ -1,30 +1,17 @@
 -- A text is a label's spelling exactly where it has no fault, and then of that label alone.
-use Rattle.std.proofs.Common.{◌≡◌, ℕ, ◌+◌, ◌<◌, ◌≤◌, ◌==◌, true, false, true≢false, ◌&&◌, ◌||◌, List, [], ◌∷◌, length, refl, sym, ◌∙◌, ap, arith, None, Some, Result, Ok, Err, inl, inr, codes, nat_le}
-use Rattle.std.specs.Bool.{Decides}
-use Rattle.std.specs.Fmt.{decimal, digits as radix_digits}
-use Rattle.std.specs.Result.{result_err, IfOk}
-use Rattle.std.specs.Cmp.Lexicographic.{bytes_decides}
+use Rattle.std.proofs.Common.{◌≡◌, ℕ, ◌+◌, ◌<◌, ◌≤◌, ◌==◌, true, false, true≢false, ◌&&◌, ◌||◌, List, [], ◌∷◌, length, refl, sym, ◌∙◌, ap, arith, None, Some}
+use Rattle.std.proofs.Common.{Result, Ok, Err, inl, inr, codes, nat_le}
+use Rattle.std.specs.{Bool.Decides, Fmt.{decimal, digits as radix_digits}, Result.{result_err, IfOk}, Cmp.Lexicographic.bytes_decides}
 use Rattle.std.proofs.lemmas.Bool.{cases_Bool, cases_lt, eqb-true, eqb-false, false_from_ne_true, le-leb, lt-leb}
-use Rattle.ix_label.specs.declared.fault.LabelFault.{LabelFault}
-use Rattle.ix_label.specs.declared.fault.LabelFault.TheVariants.{Empty, NotLongest}
-use Rattle.ix_label.specs.declared.form.Form.{Form}
-use Rattle.ix_label.specs.declared.form.Form.TheVariants.{One, Two}
-use Rattle.ix_label.specs.Category.{Categories, IsLabel, has, bottom, same}
-use Rattle.ix_label.specs.Forms.{greatest, all_of, whole_run, Fits, IsWithin}
-use Rattle.ix_label.specs.Members.{has-bottom, has-all_below, has-all_below_past}
-use Rattle.ix_label.specs.Lattice.{same-decides, IsLabel-bottom}
-use Rattle.ix_label.specs.Spelling.{spelling, items, item, runs}
-use Rattle.ix_label.specs.Faults.{is_text, fault_of, first_fault, fault_here, is_due, number_fault, is_bad, number_ahead, number_back, is_not_ascending, is_not_longest}
-use Rattle.ix_label.specs.Faults.{at_dash, at_comma, at_digit, last_number, follower_fault, may_follow}
-use Rattle.ix_label.specs.Reading.{back_from, fault_from, ItemsRead, BeginsItem}
-use Rattle.ix_label.proofs.Runs.{runs-AddsRun, runs-bottom}
-use Rattle.ix_label.proofs.Chains.{Chain, runs-Chain}
-use Rattle.ix_label.proofs.Places.{begins_with_digit}
-use Rattle.ix_label.proofs.Numbers.{decimal-digits, greatest-below}
-use Rattle.ix_label.proofs.Fitting.{fits-within, within-fits, within-label, within-bottom, within-all_of}
-use Rattle.ix_label.proofs.Texts.{items_some, decimal_some}
-use Rattle.ix_label.proofs.Unique.{items_injective, runs_injective, items_are, after_item, after_first, item_parts}
-use Rattle.ix_label.proofs.Faultless.{chain_faultless}
+use Rattle.ix_label.specs.declared.{fault.LabelFault.{LabelFault, TheVariants.{Empty, NotLongest}}, form.Form.{Form, TheVariants.{One, Two}}}
+use Rattle.ix_label.specs.{Category.{Categories, IsLabel, has, bottom, same}, Forms.{greatest, all_of, whole_run, Fits, IsWithin}}
+use Rattle.ix_label.specs.{Members.{has-bottom, has-all_below, has-all_below_past}, Lattice.{same-decides, IsLabel-bottom}}
+use Rattle.ix_label.specs.{Spelling.{spelling, items, item, runs}, Reading.{back_from, fault_from, ItemsRead, BeginsItem}}
+use Rattle.ix_label.specs.Faults.{is_text, fault_of, first_fault, fault_here, is_due, number_fault, is_bad, number_ahead, number_back, is_not_ascending}
+use Rattle.ix_label.specs.Faults.{is_not_longest, at_dash, at_comma, at_digit, last_number, follower_fault, may_follow}
+use Rattle.ix_label.proofs.{Runs.{runs-AddsRun, runs-bottom}, Chains.{Chain, runs-Chain}, Places.begins_with_digit, Numbers.{decimal-digits, greatest-below}}
+use Rattle.ix_label.proofs.{Fitting.{fits-within, within-fits, within-label, within-bottom, within-all_of}, Texts.{items_some, decimal_some}}
+use Rattle.ix_label.proofs.{Unique.{items_injective, runs_injective, items_are, after_item, after_first, item_parts}, Faultless.chain_faultless}
 
 -- ---- sets and texts that are compared
 

@@ -1,12 +1,9 @@
 -- The items of runs, as they are written one after another.
-use Rattle.std.proofs.Common.{◌≡◌, ℕ, zero, suc, ◌+◌, ◌*◌, ◌/◌, ◌%◌, ◌<◌, ◌≤◌, ◌==◌, nat_eq, Bool, true, false, cond, List, [], ◌∷◌, ◌++◌, length}
-use Rattle.std.proofs.Common.{map, refl, sym, ◌∙◌, ap, arith, append_assoc, length-append, ◌-◌, inl, inr}
-use Rattle.std.specs.List.{join_with_byte}
-use Rattle.std.specs.Fmt.{decimal, digits, digits_onto, digit_glyph}
-use Rattle.std.proofs.lemmas.Fmt.{length-decimal-le, decimal_digit, decimal_step}
-use Rattle.std.proofs.lemmas.Bool.Decides.{eqb_tells}
-use Rattle.ix_label.specs.Spelling.{item, items, comma, dash}
-use Rattle.ix_label.specs.Scanning.{comma_after}
+use Rattle.std.proofs.Common.{◌≡◌, ℕ, zero, suc, ◌+◌, ◌*◌, ◌/◌, ◌%◌, ◌<◌, ◌≤◌, ◌==◌, nat_eq, Bool, true, false, cond, List, [], ◌∷◌, ◌++◌, length, map, refl}
+use Rattle.std.proofs.Common.{sym, ◌∙◌, ap, arith, append_assoc, length-append, ◌-◌, inl, inr}
+use Rattle.std.specs.{List.join_with_byte, Fmt.{decimal, digits, digits_onto, digit_glyph}}
+use Rattle.std.proofs.lemmas.{Fmt.{length-decimal-le, decimal_digit, decimal_step}, Bool.Decides.eqb_tells}
+use Rattle.ix_label.specs.{Spelling.{item, items, comma, dash}, Scanning.comma_after}
 
 either_some : (b : Bool) (xs ys : List ℕ) → 0 < length xs → 0 < length ys → 0 < length (cond b xs ys)
 either_some true xs ys h k = h

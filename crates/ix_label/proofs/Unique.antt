@@ -1,22 +1,12 @@
 -- No two labels have one spelling.
 use Rattle.std.proofs.Common.{◌≡◌, ℕ, zero, suc, ◌+◌, ◌<◌, ◌≤◌, ◌==◌, nat_eq, Bool, true, false, true≢false, not, ◌&&◌, ◌||◌, List, [], ◌∷◌, ◌++◌, length, refl}
 use Rattle.std.proofs.Common.{sym, ◌∙◌, ap, arith, add-one, append_assoc, append-nil, cond, Option, Some, inl, inr}
-use Rattle.std.specs.List.{range_with_len, zip, filter, list_any}
-use Rattle.std.specs.Fmt.{decimal}
-use Rattle.std.proofs.lemmas.Fmt.{decimal_injective}
-use Rattle.std.proofs.lemmas.Bool.{cases_Bool, cases_lt, eqb-true, eq-eqb, ne_eqb, false_from_ne_true}
-use Rattle.std.proofs.Math.Bool.{and-true}
-use Rattle.ix_label.specs.declared.form.Form.{Form}
-use Rattle.ix_label.specs.Forms.{greatest}
-use Rattle.ix_label.specs.Category.{Categories, IsLabel, has}
-use Rattle.ix_label.specs.Members.{same_members}
-use Rattle.ix_label.specs.Spelling.{categories, has_before, begins, ends, runs, item, items, comma, dash}
-use Rattle.ix_label.specs.Faults.{digits, after_digits, at_digit, at_dash}
-use Rattle.ix_label.proofs.Runs.{are_below, as_many_begin_as_end}
-use Rattle.ix_label.proofs.Chains.{Chain}
-use Rattle.ix_label.proofs.Numbers.{decimal-digits, greatest-below}
-use Rattle.ix_label.proofs.Places.{digits-append, after_digits-append}
-use Rattle.ix_label.proofs.Texts.{items_none, items_one, items_more, items_some}
+use Rattle.std.specs.{List.{range_with_len, zip, filter, list_any}, Fmt.decimal}
+use Rattle.std.proofs.{lemmas.{Fmt.decimal_injective, Bool.{cases_Bool, cases_lt, eqb-true, eq-eqb, ne_eqb, false_from_ne_true}}, Math.Bool.and-true}
+use Rattle.ix_label.specs.{declared.form.Form.Form, Forms.greatest, Category.{Categories, IsLabel, has}, Members.same_members}
+use Rattle.ix_label.specs.{Spelling.{categories, has_before, begins, ends, runs, item, items, comma, dash}, Faults.{digits, after_digits, at_digit, at_dash}}
+use Rattle.ix_label.proofs.{Runs.{are_below, as_many_begin_as_end}, Chains.Chain, Numbers.{decimal-digits, greatest-below}}
+use Rattle.ix_label.proofs.{Places.{digits-append, after_digits-append}, Texts.{items_none, items_one, items_more, items_some}}
 
 -- ---- texts of items
 

@@ -1,13 +1,12 @@
 -- The walk over a label's runs: what it has written of the categories below a place.
-use Rattle.std.proofs.Common.{◌≡◌, ℕ, ◌+◌, ◌*◌, ◌<◌, ◌≤◌, ◌==◌, nat_le, nat_lt, Bool, true, false, true≢false, ◌&&◌, ◌||◌, List, [], ◌++◌, length, refl, sym, ◌∙◌, subst, arith, inl, inr}
+use Rattle.std.proofs.Common.{◌≡◌, ℕ, ◌+◌, ◌*◌, ◌<◌, ◌≤◌, ◌==◌, nat_le, nat_lt, Bool, true, false, true≢false, ◌&&◌, ◌||◌, List, [], ◌++◌, length, refl, sym}
+use Rattle.std.proofs.Common.{◌∙◌, subst, arith, inl, inr}
 use Rattle.std.proofs.lemmas.Bool.{cases_lt, cases_order, ltb-true, and_parts, lt-ltb, le-ltb, le-leb, lt-leb, eq-eqb, ne_eqb, false_from_ne_true}
 use Rattle.std.proofs.Math.Bool.{or-false, or-true, and-true, and-false}
-use Rattle.ix_label.specs.Category.{Categories, has, bottom, with, meet, all_below}
+use Rattle.ix_label.specs.{Category.{Categories, has, bottom, with, meet, all_below}, Spelling.{item, items, runs}}
 use Rattle.ix_label.specs.Members.{same_members, has-bottom, has-with, has-meet, has-all_below, has-all_below_past}
-use Rattle.ix_label.specs.Spelling.{item, items, runs}
 use Rattle.ix_label.specs.Scanning.{IsFirstFrom, RunsTo, comma_after, left_from}
-use Rattle.ix_label.proofs.Runs.{AddsRun, runs-AddsRun, runs-bottom}
-use Rattle.ix_label.proofs.Texts.{items-push, items_none, length-more}
+use Rattle.ix_label.proofs.{Runs.{AddsRun, runs-AddsRun, runs-bottom}, Texts.{items-push, items_none, length-more}}
 
 -- the categories of a label that are below a place
 pub below : Categories → ℕ → Categories

@@ -1,6 +1,5 @@
 ghost use Rattle.std.specs.Prelude.{◌≡◌, ◌<◌};
-ghost use Rattle.ix_label.specs.Forms.{greatest, whole_run};
-ghost use Rattle.ix_label.specs.Faults.{is_text};
+ghost use Rattle.ix_label.specs.{Forms.{greatest, whole_run}, Faults.{is_text}};
 
 /// The two forms of a label's text.
 ///

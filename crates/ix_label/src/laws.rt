@@ -1,8 +1,7 @@
 //! Laws of the text of labels, each a contract of its own.
 
 ghost use Rattle.std.specs.Prelude.{◌≡◌, ◌+◌};
-ghost use Rattle.ix_label.specs.Forms.{Fits};
-ghost use Rattle.ix_label.specs.Laws.{OneLabelEach, SpelledOrFaulty};
+ghost use Rattle.ix_label.specs.{Forms.{Fits}, Laws.{OneLabelEach, SpelledOrFaulty}};
 
 use crate::fault::LabelFault;
 use crate::form::Form;

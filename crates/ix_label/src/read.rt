@@ -1,13 +1,7 @@
 ghost use Rattle.std.specs.Prelude.{◌≡◌, ◌+◌, ◌<◌, ◌≤◌, ◌↔◌, ℕ, true, IsTrue, slice_get, length, IfOk, MatchOption, codes, false};
-ghost use Rattle.std.specs.List.{list_all, prefix_len};
-ghost use Rattle.std.specs.Result.{result_err};
-ghost use Rattle.std.specs.Char.{is_ascii_digit};
-ghost use Rattle.std.specs.Str.Parse.{digits_value};
-ghost use Rattle.ix_label.specs.Category.{Categories, IsLabel};
-ghost use Rattle.ix_label.specs.Forms.{Fits, greatest, whole_run};
-ghost use Rattle.ix_label.specs.Spelling.{spelling};
-ghost use Rattle.ix_label.specs.Faults.{digits, is_bad, is_text, fault_of};
-ghost use Rattle.ix_label.specs.Reading.{NumberRead, BeginsItem, ItemRead, ItemsRead, order_fault, IsValueOf};
+ghost use Rattle.std.specs.{List.{list_all, prefix_len}, Result.{result_err}, Char.{is_ascii_digit}, Str.Parse.{digits_value}};
+ghost use Rattle.ix_label.specs.{Category.{Categories, IsLabel}, Forms.{Fits, greatest, whole_run}, Spelling.{spelling}};
+ghost use Rattle.ix_label.specs.{Faults.{digits, is_bad, is_text, fault_of}, Reading.{NumberRead, BeginsItem, ItemRead, ItemsRead, order_fault, IsValueOf}};
 
 use crate::fault::LabelFault;
 use crate::form::Form;

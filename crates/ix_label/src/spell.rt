@@ -1,7 +1,5 @@
 ghost use Rattle.std.specs.Prelude.{◌≡◌, ◌+◌, ◌≤◌, [], length};
-ghost use Rattle.ix_label.specs.Forms.{Fits};
-ghost use Rattle.ix_label.specs.Spelling.{spelling, items, runs};
-ghost use Rattle.ix_label.specs.Scanning.{RunFrom};
+ghost use Rattle.ix_label.specs.{Forms.{Fits}, Spelling.{spelling, items, runs}, Scanning.{RunFrom}};
 
 use crate::form::Form;
 use crate::label::Label;

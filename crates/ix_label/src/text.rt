@@ -1,7 +1,5 @@
-ghost use Rattle.std.specs.Prelude.{◌≡◌, ◌+◌, ◌<◌, ◌≤◌, [], ◌∷◌, ◌++◌, length};
-ghost use Rattle.std.specs.Fmt.{decimal};
-ghost use Rattle.ix_label.specs.Spelling.{item};
-ghost use Rattle.ix_label.specs.Scanning.{comma_after};
+ghost use Rattle.std.specs.{Prelude.{◌≡◌, ◌+◌, ◌<◌, ◌≤◌, [], ◌∷◌, ◌++◌, length}, Fmt.{decimal}};
+ghost use Rattle.ix_label.specs.{Spelling.{item}, Scanning.{comma_after}};
 
 use std::marker::Model;
 

@@ -1,7 +1,5 @@
-ghost use Rattle.std.specs.Prelude.{◌≡◌, ◌<◌, ℕ, length, slice_index, bit_or, bit_and};
-ghost use Rattle.std.specs.Int.{bit_not, w64};
-ghost use Rattle.ix_label.specs.Words.{AreWords};
-ghost use Rattle.ix_label.specs.Scanning.{FirstBit};
+ghost use Rattle.std.specs.{Prelude.{◌≡◌, ◌<◌, ℕ, length, slice_index, bit_or, bit_and}, Int.{bit_not, w64}};
+ghost use Rattle.ix_label.specs.{Words.{AreWords}, Scanning.{FirstBit}};
 
 use std::array;
 

@@ -1,11 +1,7 @@
 -- The bits of a set without those of another.
 use Rattle.std.proofs.Common.{◌≡◌, ℕ, ◌+◌, ◌-◌, ◌<◌, ◌^◌, ◌%◌, min, bit_and, arith, w8, sym, ap, ◌∙◌}
-use Rattle.std.specs.Int.Bits.{bit_xor}
-use Rattle.std.specs.Int.{bit_at}
-use Rattle.std.proofs.lemmas.Nat.{and_le_l, xor_lt}
-use Rattle.std.proofs.lemmas.Nat.Bits.{bit_at_and, bit_at_xor, bit_at_not, same_from_bits_below}
-use Rattle.ix_model.specs.world.Privs.{without}
-use Rattle.ix_model.specs.declared.privs.PrivSet.{PrivSet}
+use Rattle.std.{specs.Int.{Bits.bit_xor, bit_at}, proofs.lemmas.Nat.{and_le_l, xor_lt, Bits.{bit_at_and, bit_at_xor, bit_at_not, same_from_bits_below}}}
+use Rattle.ix_model.specs.{world.Privs.without, declared.privs.PrivSet.PrivSet}
 
 bit_below : (n i : ℕ) → bit_at n i < 2
 bit_below n i = omega arith

@@ -1,18 +1,12 @@
 -- What each call leaves and answers, over the fields.
-use Rattle.std.proofs.Common.{◌≡◌, ℕ, zero, suc, ◌+◌, ◌-◌, ◌<◌, ◌≤◌, ◌^◌, cond, List, [], ◌∷◌, ◌++◌, length, set, get_or, Option, Some, None, refl}
-use Rattle.std.proofs.Common.{sym, ap, ◌∙◌, subst, arith, inl, inr, slice_get, append-nil, nat_lt, add-one}
-use Rattle.std.specs.List.{last_or, Contains}
-use Rattle.std.specs.Vec.{with_items, with_item}
-use Rattle.std.proofs.lemmas.Bool.{cases_lt}
-use Rattle.std.proofs.lemmas.List.{with_items_is, get_or_past}
-use Rattle.std.proofs.lemmas.Option.{same_Some, get_or_from_slice_get}
-use Rattle.ix_links.specs.declared.link.Link.{Link}
-use Rattle.ix_links.specs.declared.link.Ends.{Ends}
-use Rattle.ix_links.specs.declared.links.Links.TheInside.{Inside}
-use Rattle.ix_links.specs.Chains.{Chains, lists, times, total, without, pushed_front, pushed_back, front_moved, back_moved, removed, before}
-use Rattle.ix_links.specs.Whole.{IsPool}
+use Rattle.std.proofs.Common.{◌≡◌, ℕ, zero, suc, ◌+◌, ◌-◌, ◌<◌, ◌≤◌, ◌^◌, cond, List, [], ◌∷◌, ◌++◌, length, set, get_or, Option, Some, None, refl, sym, ap}
+use Rattle.std.proofs.Common.{◌∙◌, subst, arith, inl, inr, slice_get, append-nil, nat_lt, add-one}
+use Rattle.std.specs.{List.{last_or, Contains}, Vec.{with_items, with_item}}
+use Rattle.std.proofs.lemmas.{Bool.cases_lt, List.{with_items_is, get_or_past}, Option.{same_Some, get_or_from_slice_get}}
+use Rattle.ix_links.specs.{declared.{link.{Link.Link, Ends.Ends}, links.Links.TheInside.Inside}, Whole.IsPool}
 use Rattle.ix_links.specs.Linking.{loose, link_at, Within, unlinked_items, unlinked_ends, inserted_items, inserted_ends}
 use Rattle.ix_links.specs.Standing.{head_or, Runs, IsChain, Hold, links_view, IsSound}
+use Rattle.ix_links.specs.Chains.{Chains, lists, times, total, without, pushed_front, pushed_back, front_moved, back_moved, removed, before}
 use Rattle.ix_links.proofs.Running.{Among, times-append, times_skip, link_between, link_in_chain, length-unlinked, length-inserted, head-among, last-among}
 use Rattle.ix_links.proofs.Listing.{part-le-total, chain_at, held_within, split, times_contained, shows, sound, some_free, hold_pushed, hold_removed}
 

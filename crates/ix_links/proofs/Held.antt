@@ -1,16 +1,12 @@
 -- For callers: what the law of a pool says of an index at a place of a chain.
-use Rattle.std.proofs.Common.{◌≡◌, ◌≢◌, ℕ, zero, suc, ◌+◌, ◌<◌, ◌≤◌, List, [], ◌∷◌, ◌++◌, length, get_or, Some, refl, sym, ap, subst, arith, inl, inr, slice_get, length-append}
+use Rattle.std.proofs.Common.{◌≡◌, ◌≢◌, ℕ, zero, suc, ◌+◌, ◌<◌, ◌≤◌, List, [], ◌∷◌, ◌++◌, length, get_or, Some, refl, sym, ap, subst, arith, inl, inr}
+use Rattle.std.proofs.Common.{slice_get, length-append}
 use Rattle.std.specs.List.{Contains}
-use Rattle.std.proofs.lemmas.Bool.{cases_eq, cases_lt}
-use Rattle.std.proofs.lemmas.Bool.Decides.{nat_tests}
-use Rattle.std.proofs.lemmas.List.{get_or_past}
-use Rattle.std.proofs.lemmas.List.FromFn.{length-range_with_len}
+use Rattle.std.proofs.{lemmas.Bool.{cases_eq, cases_lt}, lemmas.Bool.Decides.nat_tests, lemmas.List.get_or_past, lemmas.List.FromFn.length-range_with_len}
 use Rattle.std.proofs.lemmas.Option.{same_Some, slice_get_within, get_or_from_slice_get}
 use Rattle.ix_links.specs.Chains.{Chains, lists, total, times, pool, chain_of, all_free, pushed_front, pushed_back, front_moved, back_moved, removed, without}
 use Rattle.ix_links.specs.Whole.{IsPool}
-use Rattle.ix_links.proofs.Running.{times_here, times_skip}
-use Rattle.ix_links.proofs.Making.{total-empty}
-use Rattle.ix_links.proofs.Listing.{part-le-total, total-set, split, times_contained}
+use Rattle.ix_links.proofs.{Running.{times_here, times_skip}, Making.total-empty, Listing.{part-le-total, total-set, split, times_contained}}
 
 -- an index at a place of a list
 pub contained : (xs : List ℕ) (n i : ℕ) → slice_get xs n ≡ Some i → Contains xs i

@@ -1,14 +1,8 @@
 -- All chains together: an index moved from one list to another, and the lists that the fields show.
-use Rattle.std.proofs.Common.{◌≡◌, ◌≢◌, ℕ, zero, suc, ◌+◌, ◌<◌, ◌≤◌, ◌^◌, cond, List, [], ◌∷◌, ◌++◌, length, set, get_or, map, Option, Some, None}
-use Rattle.std.proofs.Common.{refl, sym, ap, ◌∙◌, subst, arith, inl, inr, length-set, length-append, nat_lt}
-use Rattle.std.proofs.lemmas.Bool.{cases_eq}
-use Rattle.std.proofs.lemmas.Bool.Decides.{nat_tests, eqb_tells}
-use Rattle.std.proofs.lemmas.List.{get_or-set_other}
-use Rattle.std.proofs.lemmas.Option.{same_Some, get_or_from_slice_get}
-use Rattle.ix_links.specs.declared.link.Link.{Link}
-use Rattle.ix_links.specs.declared.link.Ends.{Ends}
-use Rattle.ix_links.specs.declared.links.Links.TheInside.{Inside}
-use Rattle.ix_links.specs.Chains.{Chains, lists, times, total, without}
+use Rattle.std.proofs.Common.{◌≡◌, ◌≢◌, ℕ, zero, suc, ◌+◌, ◌<◌, ◌≤◌, ◌^◌, cond, List, [], ◌∷◌, ◌++◌, length, set, get_or, map, Option, Some, None, refl, sym}
+use Rattle.std.proofs.Common.{ap, ◌∙◌, subst, arith, inl, inr, length-set, length-append, nat_lt}
+use Rattle.std.proofs.lemmas.{Bool.{cases_eq, Decides.{nat_tests, eqb_tells}}, List.get_or-set_other, Option.{same_Some, get_or_from_slice_get}}
+use Rattle.ix_links.specs.{declared.{link.{Link.Link, Ends.Ends}, links.Links.TheInside.Inside}, Chains.{Chains, lists, times, total, without}}
 use Rattle.ix_links.specs.Linking.{loose, link_at, unlinked_items, unlinked_ends, inserted_items, inserted_ends}
 use Rattle.ix_links.specs.Standing.{walk, head_or, Runs, IsChain, AreChains, Hold, links_view, IsSound}
 use Rattle.ix_links.proofs.Running.{Kept, times-append, times_here, times_skip, times_other, runs_kept, link_between, chain-inserted, chain-unlinked}

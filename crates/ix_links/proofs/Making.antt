@@ -1,19 +1,12 @@
 -- How a new pool is made.
-use Rattle.std.proofs.Common.{◌≡◌, ℕ, zero, suc, ◌+◌, ◌<◌, ◌≤◌, ◌^◌, cond, List, [], ◌∷◌, ◌++◌, length, replicate, None, refl, sym, ap, ◌∙◌, subst, arith, inl, inr, append-nil, nat_lt}
+use Rattle.std.proofs.Common.{◌≡◌, ℕ, zero, suc, ◌+◌, ◌<◌, ◌≤◌, ◌^◌, cond, List, [], ◌∷◌, ◌++◌, length, replicate, None, refl, sym, ap, ◌∙◌, subst, arith, inl}
+use Rattle.std.proofs.Common.{inr, append-nil, nat_lt}
 use Rattle.std.specs.List.{range_with_len}
-use Rattle.std.proofs.lemmas.Bool.{cases_lt}
-use Rattle.std.proofs.lemmas.Bool.Decides.{nat_tests}
-use Rattle.std.proofs.lemmas.List.{map-id}
-use Rattle.std.proofs.lemmas.List.FromFn.{map-range_with_len_more, length-range_with_len}
-use Rattle.ix_links.specs.declared.link.Link.{Link}
-use Rattle.ix_links.specs.declared.link.Ends.{Ends}
-use Rattle.ix_links.specs.declared.links.Links.TheInside.{Inside}
-use Rattle.ix_links.specs.Chains.{lists, times, total, all_free}
-use Rattle.ix_links.specs.Linking.{Within, inserted_items, inserted_ends}
-use Rattle.ix_links.specs.Standing.{IsChain, AreChains, Hold}
+use Rattle.std.proofs.lemmas.{Bool.{cases_lt, Decides.nat_tests}, List.{map-id, FromFn.{map-range_with_len_more, length-range_with_len}}}
+use Rattle.ix_links.specs.{declared.{link.{Link.Link, Ends.Ends}, links.Links.TheInside.Inside}, Chains.{lists, times, total, all_free}}
+use Rattle.ix_links.specs.{Linking.{Within, inserted_items, inserted_ends}, Standing.{IsChain, AreChains, Hold}}
 use Rattle.ix_links.proofs.Running.{Once, times-append, times_here, times_other, link_between, chain-inserted, length-inserted, last-among}
-use Rattle.ix_links.proofs.Listing.{shows, sound}
-use Rattle.ix_links.proofs.Calls.{linked, Leaves, Within_from}
+use Rattle.ix_links.proofs.{Listing.{shows, sound}, Calls.{linked, Leaves, Within_from}}
 
 times-below : (a n j : ℕ) → j < a → times j (range_with_len a n) ≡ 0
 times-below a zero j h = refl

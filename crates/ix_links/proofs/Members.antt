@@ -1,10 +1,7 @@
 -- Whether an index stands in a list, a list from which one was taken, and a search among them.
-use Rattle.std.proofs.Common.{◌≡◌, ◌≤◌, ◌==◌, ◌||◌, not, ℕ, zero, suc, Bool, true, false, List, [], ◌∷◌, filter, find, Some, None, refl, sym, ap, ◌∙◌, arith, inl, inr, slice_get}
-use Rattle.std.specs.List.{list_any}
-use Rattle.std.proofs.lemmas.Bool.{eqb-true, eq-eqb, ne_eqb}
-use Rattle.std.proofs.lemmas.Bool.Decides.{eqb_tells}
-use Rattle.std.proofs.lemmas.Option.{same_Some}
-use Rattle.std.proofs.Math.Bool.{or-true}
+use Rattle.std.proofs.Common.{◌≡◌, ◌≤◌, ◌==◌, ◌||◌, not, ℕ, zero, suc, Bool, true, false, List, [], ◌∷◌, filter, find, Some, None, refl, sym, ap, ◌∙◌, arith}
+use Rattle.std.proofs.Common.{inl, inr, slice_get}
+use Rattle.std.{specs.List.list_any, proofs.{lemmas.{Bool.{eqb-true, eq-eqb, ne_eqb, Decides.eqb_tells}, Option.same_Some}, Math.Bool.or-true}}
 use Rattle.ix_links.specs.Chains.{times, without}
 
 -- whether an index stands in a list

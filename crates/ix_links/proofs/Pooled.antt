@@ -1,12 +1,8 @@
 -- What the law of a pool says of the indices that stand in its chains.
 use Rattle.std.proofs.Common.{◌≡◌, ℕ, ◌+◌, ◌<◌, ◌≤◌, Bool, true, false, List, [], ◌∷◌, length, set, Some, ◌++◌, drop, refl, sym, ap, ◌∙◌, arith, slice_get}
-use Rattle.std.proofs.lemmas.Option.{same_Some}
-use Rattle.std.specs.List.{Contains}
-use Rattle.ix_links.specs.Chains.{Chains, chain_of, times, pushed_back, back_moved}
-use Rattle.ix_links.specs.Whole.{IsPool}
-use Rattle.ix_links.proofs.Listing.{part-le-total}
-use Rattle.ix_links.proofs.Held.{contained, times_at, chain_within, held-not_free, at_most_once}
-use Rattle.ix_links.proofs.Members.{member, place_of}
+use Rattle.std.{proofs.lemmas.Option.same_Some, specs.List.Contains}
+use Rattle.ix_links.specs.{Chains.{Chains, chain_of, times, pushed_back, back_moved}, Whole.IsPool}
+use Rattle.ix_links.proofs.{Listing.part-le-total, Held.{contained, times_at, chain_within, held-not_free, at_most_once}, Members.{member, place_of}}
 
 -- an index of a chain is a member of it, and there once
 module _ (s : Chains) (pooled : IsPool s) where

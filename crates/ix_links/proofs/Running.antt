@@ -1,13 +1,9 @@
 -- Single chains: how a change of links changes them.
-use Rattle.std.proofs.Common.{◌≡◌, ◌≢◌, ℕ, zero, suc, ◌+◌, ◌<◌, ◌≤◌, List, [], ◌∷◌, ◌++◌, length, set, Option, Some, None, refl, sym, ap, ◌∙◌, subst, arith, slice_get, length-set}
-use Rattle.std.specs.List.{last_or}
-use Rattle.std.proofs.lemmas.Bool.Decides.{nat_tests}
-use Rattle.std.proofs.lemmas.Option.{same_Some, slice_get_within, get_or_from_slice_get}
-use Rattle.ix_links.specs.declared.link.Link.{Link}
-use Rattle.ix_links.specs.declared.link.Ends.{Ends}
-use Rattle.ix_links.specs.Chains.{times}
+use Rattle.std.proofs.Common.{◌≡◌, ◌≢◌, ℕ, zero, suc, ◌+◌, ◌<◌, ◌≤◌, List, [], ◌∷◌, ◌++◌, length, set, Option, Some, None, refl, sym, ap, ◌∙◌, subst, arith}
+use Rattle.std.proofs.Common.{slice_get, length-set}
+use Rattle.std.{specs.List.last_or, proofs.lemmas.{Bool.Decides.nat_tests, Option.{same_Some, slice_get_within, get_or_from_slice_get}}}
+use Rattle.ix_links.specs.{declared.link.{Link.Link, Ends.Ends}, Chains.times, Standing.{head_or, Runs, IsChain}}
 use Rattle.ix_links.specs.Linking.{loose, link_at, next_set, previous_set, first_set, last_set, unlinked_items, unlinked_ends, inserted_items, inserted_ends}
-use Rattle.ix_links.specs.Standing.{head_or, Runs, IsChain}
 
 -- no index stands twice in the list
 abbrev pub Once : List ℕ → Type 0

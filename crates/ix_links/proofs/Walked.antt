@@ -1,10 +1,8 @@
 -- A walk over a chain by place, and a search on the way.
-use Rattle.std.proofs.Common.{◌≡◌, ℕ, suc, ◌+◌, ◌<◌, ◌≤◌, Bool, true, false, List, ◌∷◌, length, find, drop, Some, None, refl, sym, ap, ◌∙◌, arith, inl, inr, slice_get, add-one, drop-cons}
-use Rattle.std.proofs.lemmas.Bool.{cases_lt}
-use Rattle.std.proofs.lemmas.List.{drop_all}
-use Rattle.std.proofs.lemmas.Option.{slice_get_within, get_or_from_slice_get, slice_get-get_or, slice_get_past}
-use Rattle.ix_links.specs.Chains.{Chains, pool, chain_of}
-use Rattle.ix_links.proofs.Listing.{part-le-total}
+use Rattle.std.proofs.Common.{◌≡◌, ℕ, suc, ◌+◌, ◌<◌, ◌≤◌, Bool, true, false, List, ◌∷◌, length, find, drop, Some, None, refl, sym, ap, ◌∙◌, arith, inl, inr}
+use Rattle.std.proofs.Common.{slice_get, add-one, drop-cons}
+use Rattle.std.proofs.lemmas.{Bool.cases_lt, List.drop_all, Option.{slice_get_within, get_or_from_slice_get, slice_get-get_or, slice_get_past}}
+use Rattle.ix_links.{specs.Chains.{Chains, pool, chain_of}, proofs.Listing.part-le-total}
 
 -- a chain ends where nothing stands
 ended : (xs : List ℕ) (k : ℕ) → slice_get xs k ≡ None → length xs ≤ k

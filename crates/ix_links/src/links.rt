@@ -1,7 +1,5 @@
-ghost use Rattle.std.specs.Prelude.{◌≡◌, ℕ, ◌+◌, ◌<◌, length, slice_get, IfOk, Some, None};
-ghost use Rattle.std.specs.List.{last_or, Contains};
-ghost use Rattle.ix_links.specs.Whole.{IsPool};
-ghost use Rattle.ix_links.specs.Chains.{chain_of, pool, all_free, pushed_front, pushed_back, removed, before};
+ghost use Rattle.std.specs.{Prelude.{◌≡◌, ℕ, ◌+◌, ◌<◌, length, slice_get, IfOk, Some, None}, List.{last_or, Contains}};
+ghost use Rattle.ix_links.specs.{Whole.{IsPool}, Chains.{chain_of, pool, all_free, pushed_front, pushed_back, removed, before}};
 
 use crate::link;
 use crate::link::{Ends, Link};

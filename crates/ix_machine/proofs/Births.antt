@@ -1,31 +1,19 @@
 -- A child of a living process, in the world and in the parts that count it.
-use Rattle.std.proofs.Common.{◌≡◌, ◌<◌, ◌≤◌, ◌-◌, ◌^◌, ◌++◌, ◌∷◌, [], ℕ, Bool, true, false, true≢false, nat_lt, List, length, count_by}
-use Rattle.std.proofs.Common.{Option, Some, None, is_some, option_map, refl, sym, ap, subst, ◌∙◌, arith, if◌then◌else◌}
+use Rattle.std.proofs.Common.{◌≡◌, ◌<◌, ◌≤◌, ◌-◌, ◌^◌, ◌++◌, ◌∷◌, [], ℕ, Bool, true, false, true≢false, nat_lt, List, length, count_by, Option, Some, None, sym}
+use Rattle.std.proofs.Common.{is_some, option_map, refl, ap, subst, ◌∙◌, arith, if◌then◌else◌}
 use Rattle.std.specs.Option.{option_map_or}
-use Rattle.ix_model.specs.world.World.{World, Frame, Object, Process, at, living, is_dir}
-use Rattle.ix_model.specs.world.Contents.{carried}
-use Rattle.ix_model.specs.laws.Sound.{Sound}
-use Rattle.ix_model.specs.rows.OnProcesses.{fork, has_kept}
-use Rattle.ix_model.specs.rows.Outcomes.{Outcome, Pass}
+use Rattle.ix_model.specs.{world.{World.{World, Frame, Object, Process, at, living, is_dir}, Contents.carried, Callers.caller_of}, laws.Sound.Sound}
+use Rattle.ix_model.specs.{rows.OnProcesses.{fork, has_kept}, rows.Outcomes.{Outcome, Pass}}
 use Rattle.ix_model.specs.rows.Rows.{◌>>=◌, ◌>>◌, on_pass, process, some, need, frame, pass, add_process}
-use Rattle.ix_model.specs.declared.reply.Reply.{Reply}
+use Rattle.ix_model.specs.declared.{reply.Reply.Reply, call.Keep.Keep, ids.Pid.Pid, config.Limits.Limits, views.Caller.Caller}
 use Rattle.ix_model.specs.declared.reply.Reply.TheVariants as reply
-use Rattle.ix_model.specs.declared.call.Keep.{Keep}
 use Rattle.ix_model.specs.declared.call.Keep.TheVariants as keep
-use Rattle.ix_model.specs.declared.ids.Pid.{Pid}
-use Rattle.ix_model.specs.declared.config.Limits.{Limits}
-use Rattle.ix_model.specs.declared.views.Caller.{Caller}
-use Rattle.ix_model.proofs.tables.Finds.{in_table}
-use Rattle.ix_model.proofs.words.Living.{not_ended}
-use Rattle.ix_model.proofs.sound.Forking.{kept_is}
+use Rattle.ix_model.proofs.{tables.Finds.in_table, words.Living.not_ended, sound.Forking.kept_is}
 use Rattle.ix_audit.specs.Lines.{Lines}
-use Rattle.ix_model.specs.world.Callers.{caller_of}
 use Rattle.ix_proc.specs.Table.{ProcTable, Adds, child_of, keeps}
 use Rattle.ix_tables.specs.Parts.{Parts}
 use Rattle.ix_fcalls.specs.Counted.{IsCounted}
-use Rattle.ix_machine.specs.Born.{BornIs, with_process}
-use Rattle.ix_machine.specs.Joined.{joined, AreJoined}
-use Rattle.ix_machine.proofs.Carried.{carried_more}
+use Rattle.ix_machine.{specs.{Born.{BornIs, with_process}, Joined.{joined, AreJoined}}, proofs.Carried.carried_more}
 
 -- ---- the child's descriptors
 pub kept_same : (k : Keep) (p : Process) → keeps k p.fds ≡ has_kept k p

@@ -1,22 +1,15 @@
 -- The opening world, in its three parts.
-use Rattle.std.proofs.Common.{◌≡◌, ◌<◌, ◌≤◌, ◌+◌, ◌-◌, ◌^◌, ℕ, true, false, List, [], ◌∷◌, ◌++◌, length, map, take, replicate, get_or, count_by, cond}
-use Rattle.std.proofs.Common.{nat_lt, Option, Some, None, is_some, refl, sym, ap, subst, ◌∙◌, arith}
-use Rattle.std.proofs.lemmas.Bool.{ltb-false}
-use Rattle.std.proofs.lemmas.List.{take_more, length-take, length-map, length-append, map-append, replicate-append-replicate}
+use Rattle.std.proofs.Common.{◌≡◌, ◌<◌, ◌≤◌, ◌+◌, ◌-◌, ◌^◌, ℕ, true, false, List, [], ◌∷◌, ◌++◌, length, map, take, replicate, get_or, count_by, cond, nat_lt}
+use Rattle.std.proofs.Common.{Option, Some, None, is_some, refl, sym, ap, subst, ◌∙◌, arith}
+use Rattle.std.proofs.{lemmas.Bool.ltb-false, lemmas.List.{take_more, length-take, length-map, length-append, map-append, replicate-append-replicate}}
 use Rattle.std.proofs.lemmas.List.Sums.{sum_by-cons, count_by-le-length}
-use Rattle.ix_model.specs.world.World.{World, Process}
-use Rattle.ix_model.specs.opening.Opening.{process_of, opening_world}
-use Rattle.ix_model.specs.opening.Valid.{is_valid}
-use Rattle.ix_model.specs.declared.config.Config.{Config}
-use Rattle.ix_model.specs.declared.config.ProcSpec.{ProcSpec}
-use Rattle.ix_model.proofs.opening.OpenedWorlds.{world_with}
-use Rattle.ix_model.proofs.opening.Validity.{valid_parts}
-use Rattle.ix_model.proofs.sound.Reaching.{opening_is_built}
+use Rattle.ix_model.specs.{world.World.{World, Process}, opening.{Opening.{process_of, opening_world}, Valid.is_valid}}
+use Rattle.ix_model.specs.declared.config.{Config.Config, ProcSpec.ProcSpec}
+use Rattle.ix_model.proofs.{opening.{OpenedWorlds.world_with, Validity.valid_parts}, sound.Reaching.opening_is_built}
 use Rattle.ix_audit.specs.Lines.{Lines}
 use Rattle.ix_proc.specs.Table.{ProcTable, starting, with_process}
 use Rattle.ix_tables.specs.Parts.{Parts, parts_of}
-use Rattle.ix_machine.specs.Joined.{joined, AreJoined}
-use Rattle.ix_machine.specs.Opened.{opened}
+use Rattle.ix_machine.specs.{Joined.{joined, AreJoined}, Opened.opened}
 
 -- ---- processes, one by one
 abbrev lines : List ProcSpec → List (Option Process)

@@ -1,14 +1,9 @@
 -- What is carried over where the processes alone move.
-use Rattle.std.proofs.Common.{◌≡◌, ◌<◌, ◌≤◌, ◌+◌, ◌-◌, ◌&&◌, ◌++◌, ℕ, zero, suc, Bool, true, false, List, [], ◌∷◌, length, replicate, Option, Some}
-use Rattle.std.proofs.Common.{None, refl, sym, ap, ◌∙◌, arith, inl, inr, get_or, set, if◌then◌else◌, length-append, length-set}
-use Rattle.std.proofs.lemmas.Bool.Decides.{eqb_tells}
-use Rattle.std.proofs.lemmas.List.{same_lists, get_or_default, get_or-set_other, get_or_append_left, length-replicate}
-use Rattle.ix_model.specs.world.World.{World, Process, at, put, is_ended}
-use Rattle.ix_model.specs.world.Contents.{keep, grown, carried}
-use Rattle.ix_model.specs.laws.Clean.{IsClean}
-use Rattle.ix_model.proofs.clean.Carrying.{length-keep, get_or-keep}
-use Rattle.ix_model.proofs.frames.Floats.{floats_itself}
-use Rattle.ix_model.proofs.sound.Carried.{carried_floats}
+use Rattle.std.proofs.Common.{◌≡◌, ◌<◌, ◌≤◌, ◌+◌, ◌-◌, ◌&&◌, ◌++◌, ℕ, zero, suc, Bool, true, false, List, [], ◌∷◌, length, replicate, Option, Some, None, refl}
+use Rattle.std.proofs.Common.{sym, ap, ◌∙◌, arith, inl, inr, get_or, set, if◌then◌else◌, length-append, length-set}
+use Rattle.std.proofs.lemmas.{Bool.Decides.eqb_tells, List.{same_lists, get_or_default, get_or-set_other, get_or_append_left, length-replicate}}
+use Rattle.ix_model.specs.{world.{World.{World, Process, at, put, is_ended}, Contents.{keep, grown, carried}}, laws.Clean.IsClean}
+use Rattle.ix_model.proofs.{clean.Carrying.{length-keep, get_or-keep}, frames.Floats.floats_itself, sound.Carried.carried_floats}
 use Rattle.ix_model.proofs.tables.Finds.{in_table, put_none}
 
 -- ---- lists of statuses

@@ -1,38 +1,22 @@
 -- What a claim, and the end of one, make of a sound world.
-use Rattle.std.proofs.Common.{◌≡◌, ◌≢◌, ◌==◌, ◌-◌, ◌&&◌, ◌||◌, ℕ, Bool, true, false, true≢false, not, Option, Some, None, unwrap_or, Result, Ok, refl, sym, ap, subst, ◌∙◌, if◌then◌else◌, arith}
-use Rattle.std.specs.Option.{option_map_or}
-use Rattle.std.specs.List.{list_any}
-use Rattle.std.proofs.lemmas.Bool.{eqb-true}
-use Rattle.std.proofs.lemmas.List.{get_or-set_other}
+use Rattle.std.proofs.Common.{◌≡◌, ◌≢◌, ◌==◌, ◌-◌, ◌&&◌, ◌||◌, ℕ, Bool, true, false, true≢false, not, Option, Some, None, unwrap_or, Result, Ok, refl, sym, ap}
+use Rattle.std.proofs.Common.{subst, ◌∙◌, if◌then◌else◌, arith}
+use Rattle.std.{specs.{Option.option_map_or, List.list_any}, proofs.lemmas.{Bool.eqb-true, List.get_or-set_other}}
 use Rattle.ix_model.specs.world.World.{World, Frame, Content, Object, Process, at, put, change, is_pipe, living, lives, claimed_by, claimed_by_another, is_on}
-use Rattle.ix_model.specs.world.Contents.{carried, emptied}
-use Rattle.ix_model.specs.world.Owners.{has_end}
-use Rattle.ix_model.specs.laws.Sound.{Sound}
-use Rattle.ix_model.specs.history.Step.{pex_answer, is_whole}
-use Rattle.ix_model.specs.rows.OnDescriptors.{pex, unpex, claimed}
-use Rattle.ix_model.specs.rows.Outcomes.{Refuse, Pass}
+use Rattle.ix_model.specs.{world.{Contents.{carried, emptied}, Owners.has_end}, laws.Sound.Sound, history.Step.{pex_answer, is_whole}}
+use Rattle.ix_model.specs.{rows.OnDescriptors.{pex, unpex, claimed}, rows.Outcomes.{Refuse, Pass}, rows.Walks.{OpenFile, behind, opened, node, nothing}}
 use Rattle.ix_model.specs.rows.Rows.{◌>>=◌, ◌>>◌, on_pass, need, some, refuse, pass, frame, object, process, change_object}
-use Rattle.ix_model.specs.rows.Walks.{OpenFile, behind, opened, node, nothing}
-use Rattle.ix_model.specs.declared.refusal.Refusal.{Refusal}
+use Rattle.ix_model.specs.declared.{refusal.Refusal.Refusal, reply.Reply.Reply, views.Caller.Caller}
 use Rattle.ix_model.specs.declared.refusal.Refusal.TheVariants as refusal
-use Rattle.ix_model.specs.declared.reply.Reply.{Reply}
 use Rattle.ix_model.specs.declared.reply.Reply.TheVariants as reply
-use Rattle.ix_model.specs.declared.views.Caller.{Caller}
-use Rattle.ix_model.proofs.clean.Carrying.{carried_same}
-use Rattle.ix_model.proofs.words.Lasts.{lasting_itself, lasting_change}
-use Rattle.ix_model.proofs.words.Standing.{stands, behind_is}
+use Rattle.ix_model.proofs.{clean.Carrying.carried_same, words.{Lasts.{lasting_itself, lasting_change}, Standing.{stands, behind_is}}}
 use Rattle.ix_audit.specs.Lines.{Lines}
-use Rattle.ix_pipe.specs.Claims.{claim_answer, shared_with}
-use Rattle.ix_pipe.specs.declared.claim.Claim.{Claim}
+use Rattle.ix_pipe.specs.{Claims.{claim_answer, shared_with}, declared.claim.Claim.Claim}
 use Rattle.ix_pipe.specs.declared.claim.Claim.TheVariants as claim
 use Rattle.ix_proc.specs.Table.{ProcTable}
-use Rattle.ix_tables.specs.Parts.{Parts}
-use Rattle.ix_tables.specs.Views.{frame_alone, with_claim, emptied as parts_emptied}
-use Rattle.ix_fcalls.specs.Claiming.{entry_of, Claims, ClaimsAt, ClaimsBehind, Unclaims, UnclaimsAt, UnclaimsBehind}
-use Rattle.ix_fcalls.proofs.Counting.{counted_changed}
-use Rattle.ix_machine.specs.Claimed.{ClaimedIs, UnclaimedIs, AnswersPex}
-use Rattle.ix_machine.specs.Joined.{joined, AreJoined}
-use Rattle.ix_machine.proofs.Standing.{behind_by}
+use Rattle.ix_tables.specs.{Parts.Parts, Views.{frame_alone, with_claim, emptied as parts_emptied}}
+use Rattle.ix_fcalls.{specs.Claiming.{entry_of, Claims, ClaimsAt, ClaimsBehind, Unclaims, UnclaimsAt, UnclaimsBehind}, proofs.Counting.counted_changed}
+use Rattle.ix_machine.{specs.{Claimed.{ClaimedIs, UnclaimedIs, AnswersPex}, Joined.{joined, AreJoined}}, proofs.Standing.behind_by}
 
 -- ---- the row of a claim
 module _ (f : Frame) (pid fd : ℕ) (e : OpenFile) (x : Object) (is : behind f pid fd ≡ Some e) (there : at f.objects e.entry.object ≡ Some x) where

@@ -1,40 +1,22 @@
 -- A process ends, and the record of one that has ended goes.
-use Rattle.std.proofs.Common.{◌≡◌, ◌≢◌, ◌<◌, ◌≤◌, ◌&&◌, ◌||◌, ℕ, zero, suc, Bool, true, false, true≢false, not, List, [], ◌∷◌, length, map, sum}
-use Rattle.std.proofs.Common.{count_by, cond, Option, Some, None, option_map, is_some, refl, sym, ap, subst, ◌∙◌, arith, inl, inr, get_or, set}
-use Rattle.std.proofs.Common.{if◌then◌else◌, length-set, slice_index_or}
-use Rattle.std.specs.Option.{option_map_or, option_and_then}
-use Rattle.std.specs.List.{list_any, range_with_len}
-use Rattle.std.proofs.lemmas.List.{get_or-set_same, get_or-set_other, set-get_or}
-use Rattle.std.proofs.lemmas.List.Sums.{sum-map}
-use Rattle.std.proofs.lemmas.Bool.Decides.{eqb_tells}
-use Rattle.ix_model.specs.world.World.{World, Frame, Content, Process, at, put, change, living, lives, is_ended}
-use Rattle.ix_model.specs.world.Contents.{after_exit, carried, keep, grown, status_of}
-use Rattle.ix_model.specs.laws.Sound.{Sound}
-use Rattle.ix_model.specs.rows.Lifetimes.{let_go_all}
-use Rattle.ix_model.specs.rows.OnPaths.{is_home}
-use Rattle.ix_model.specs.rows.OnProcesses.{is_child, remains, end_process, exit}
-use Rattle.ix_model.specs.rows.Outcomes.{Outcome, Refuse, Pass}
-use Rattle.ix_model.specs.rows.Rows.{◌>>=◌, ◌>>◌, on_pass, need, frame, pass, put_process}
+use Rattle.std.proofs.Common.{◌≡◌, ◌≢◌, ◌<◌, ◌≤◌, ◌&&◌, ◌||◌, ℕ, zero, suc, Bool, true, false, true≢false, not, List, [], ◌∷◌, length, map, sum, count_by, cond}
+use Rattle.std.proofs.Common.{Option, Some, None, option_map, is_some, refl, sym, ap, subst, ◌∙◌, arith, inl, inr, get_or, set, if◌then◌else◌, length-set}
+use Rattle.std.proofs.Common.{slice_index_or}
+use Rattle.std.specs.{Option.{option_map_or, option_and_then}, List.{list_any, range_with_len}}
+use Rattle.std.proofs.lemmas.{List.{get_or-set_same, get_or-set_other, set-get_or, Sums.sum-map}, Bool.Decides.eqb_tells}
+use Rattle.ix_model.specs.{world.World.{World, Frame, Content, Process, at, put, change, living, lives, is_ended}, world.Callers.with_caller, laws.Sound.Sound}
+use Rattle.ix_model.specs.{world.Contents.{after_exit, carried, keep, grown, status_of}, rows.Lifetimes.let_go_all, rows.OnPaths.is_home, history.Step.step}
+use Rattle.ix_model.specs.{rows.OnProcesses.{is_child, remains, end_process, exit}, rows.Outcomes.{Outcome, Refuse, Pass}}
+use Rattle.ix_model.specs.{rows.Rows.{◌>>=◌, ◌>>◌, on_pass, need, frame, pass, put_process}, declared.{config.Limits.Limits, views.Caller.Caller}}
 use Rattle.ix_model.specs.history.Events as op
-use Rattle.ix_model.specs.history.Step.{step}
-use Rattle.ix_model.specs.declared.config.Limits.{Limits}
 use Rattle.ix_model.specs.declared.reply.Reply.TheVariants as reply
-use Rattle.ix_model.specs.declared.views.Caller.{Caller}
-use Rattle.ix_model.proofs.tables.Finds.{in_table, put_none}
-use Rattle.ix_model.proofs.tables.Tables.{seen_changed}
-use Rattle.ix_model.proofs.words.Fixed.{fixed_step}
+use Rattle.ix_model.proofs.{tables.{Finds.{in_table, put_none}, Tables.seen_changed}, words.Fixed.fixed_step}
 use Rattle.ix_tables.specs.Parts.{Parts, named_by}
 use Rattle.ix_audit.specs.Lines.{Lines}
 use Rattle.ix_proc.specs.Table.{ProcTable, collected, ended, ended_as}
-use Rattle.ix_model.specs.world.Callers.{with_caller}
-use Rattle.ix_fcalls.specs.Around.{with_who, around, frame_of, world_of}
-use Rattle.ix_fcalls.specs.Counted.{IsCounted}
-use Rattle.ix_machine.specs.Joined.{joined, AreJoined}
-use Rattle.ix_machine.specs.OwnCalls.{let_go_and_end}
-use Rattle.ix_machine.specs.Restoring.{Restores}
-use Rattle.ix_machine.proofs.Restoring.{has_label}
-use Rattle.ix_machine.proofs.Carried.{as_was, carried_without, statuses_are}
-use Rattle.ix_machine.proofs.Stepped.{exited}
+use Rattle.ix_fcalls.specs.{Around.{with_who, around, frame_of, world_of}, Counted.IsCounted}
+use Rattle.ix_machine.specs.{Joined.{joined, AreJoined}, OwnCalls.let_go_and_end, Restoring.Restores}
+use Rattle.ix_machine.proofs.{Restoring.has_label, Carried.{as_was, carried_without, statuses_are}, Stepped.exited}
 
 -- ---- the row of an exit
 passes_done : (o : Outcome (Unit {0})) (g : Frame) (k : Unit {0} → Frame → Outcome (Unit {0})) → on_pass o k ≡ Pass tt g → on_pass o (λ a h. on_pass (k a h) (λ b. pass reply.Done)) ≡ Pass reply.Done g

@@ -1,10 +1,7 @@
 -- What a call that has nothing to look at tells of its process.
-use Rattle.std.proofs.Common.{◌≡◌, ℕ, true, false, not, Option, Some, ap, ◌∙◌}
-use Rattle.std.specs.Option.{option_map_or}
-use Rattle.ix_model.specs.world.World.{Frame, Process, at, living, lives}
-use Rattle.ix_model.specs.history.Events.{Op}
+use Rattle.std.{proofs.Common.{◌≡◌, ℕ, true, false, not, Option, Some, ap, ◌∙◌}, specs.Option.option_map_or}
+use Rattle.ix_model.{specs.{world.World.{Frame, Process, at, living, lives}, history.Events.Op}, proofs.words.Living.{is_living, not_ended}}
 use Rattle.ix_model.specs.history.Events as op
-use Rattle.ix_model.proofs.words.Living.{is_living, not_ended}
 use Rattle.ix_fcalls.specs.Tested.{IsKnown}
 
 alive : (o : Option Process) (p : Process) → living o ≡ Some p → option_map_or (λ q. not q.ended) o false ≡ true

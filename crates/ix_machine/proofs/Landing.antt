@@ -1,22 +1,13 @@
 -- In a sound world a walk finds no pipe.
-use Rattle.std.proofs.Common.{◌≡◌, ℕ, Bool, true, false, not, List, Option, Some, None, is_some, unwrap_or, refl, subst}
-use Rattle.std.specs.Option.{option_map_or}
-use Rattle.ix_model.specs.world.Naming.{PathOf, last_name}
-use Rattle.ix_model.specs.world.World.{World, Frame, Object, at, is_dir, is_pipe}
-use Rattle.ix_model.specs.declared.reply.Kind.{Kind}
+use Rattle.std.{proofs.Common.{◌≡◌, ℕ, Bool, true, false, not, List, Option, Some, None, is_some, unwrap_or, refl, subst}, specs.Option.option_map_or}
+use Rattle.ix_model.specs.{world.{Naming.{PathOf, last_name}, World.{World, Frame, Object, at, is_dir, is_pipe}}, declared.{reply.Kind.Kind, ids.Obj.Obj}}
+use Rattle.ix_model.specs.{rows.{Outcomes.Pass, Walks.{Sought, node, walk, walked_to}}, laws.Sound.{NamesSound, Sound}}
 use Rattle.ix_model.specs.declared.reply.Kind.TheVariants as kind
-use Rattle.ix_model.specs.declared.ids.Obj.{Obj}
-use Rattle.ix_model.specs.rows.Outcomes.{Pass}
-use Rattle.ix_model.specs.rows.Walks.{Sought, node, walk, walked_to}
 use Rattle.ix_model.specs.rows.Walks as sought
-use Rattle.ix_model.specs.laws.Sound.{NamesSound, Sound}
-use Rattle.ix_model.proofs.words.Ends.{known_passed, Ends, Anything, ends_bind, ends_then, ends_caller, ends_frame, ends_pass}
-use Rattle.ix_model.proofs.words.Looks.{ends_observe}
-use Rattle.ix_model.proofs.words.There.{child_named}
-use Rattle.ix_model.proofs.words.Walked.{Leads, walks}
+use Rattle.ix_model.proofs.{words.Ends.{known_passed, Ends, Anything, ends_bind, ends_then, ends_caller, ends_frame, ends_pass}, words.Looks.ends_observe}
+use Rattle.ix_model.proofs.{words.There.child_named, words.Walked.{Leads, walks}}
 use Rattle.ix_machine.specs.Views.{is_inode}
-use Rattle.ix_fcalls.specs.Views.{sought_of}
-use Rattle.ix_fcalls.specs.declared.walks.Outcome.{Outcome as Ending}
+use Rattle.ix_fcalls.specs.{Views.sought_of, declared.walks.Outcome.{Outcome as Ending}}
 use Rattle.ix_fcalls.specs.declared.walks.Outcome.TheVariants as ending
 
 -- what is found is there, and no pipe

@@ -1,13 +1,8 @@
 -- Labels that stay below a ceiling.
 use Rattle.std.proofs.Common.{◌≡◌, ℕ, true, Option, Some, List, subst, sym, ap, ◌∙◌}
-use Rattle.ix_label.specs.Category.{Categories, leq, same}
-use Rattle.ix_label.specs.Lattice.{same-decides}
-use Rattle.ix_model.specs.declared.config.FsSpec.{FsSpec}
-use Rattle.ix_model.specs.world.World.{World, Object, at, ceiling_of}
-use Rattle.ix_model.specs.rows.Walks.{node}
-use Rattle.ix_model.specs.laws.Sound.{Sound}
-use Rattle.ix_tables.specs.Views.{object_by}
-use Rattle.ix_tables.specs.declared.row.ObjectRow.{ObjectRow}
+use Rattle.ix_label.specs.{Category.{Categories, leq, same}, Lattice.same-decides}
+use Rattle.ix_model.specs.{declared.config.FsSpec.FsSpec, world.World.{World, Object, at, ceiling_of}, rows.Walks.node, laws.Sound.Sound}
+use Rattle.ix_tables.specs.{Views.object_by, declared.row.ObjectRow.ObjectRow}
 
 -- the same label is below the same ceiling
 pub below_still : (was now ceiling : Categories) → same was now ≡ true → leq was ceiling ≡ true → leq now ceiling ≡ true

@@ -1,15 +1,11 @@
 -- The machine after a call of its files.
 use Rattle.std.proofs.Common.{◌≡◌, ◌≤◌, ℕ, List, Option, length, sym, ap, subst, ◌∙◌}
-use Rattle.ix_model.specs.world.World.{World, Process, change}
-use Rattle.ix_model.specs.history.Events.{Op}
-use Rattle.ix_model.specs.history.Step.{step}
-use Rattle.ix_model.specs.declared.config.Limits.{Limits}
-use Rattle.ix_model.specs.declared.views.Caller.{Caller}
+use Rattle.ix_model.specs.{world.{World.{World, Process, change}, Callers.with_caller}, history.{Events.Op, Step.step}}
+use Rattle.ix_model.specs.declared.{config.Limits.Limits, views.Caller.Caller}
 use Rattle.ix_model.proofs.words.Fixed.{fixed_step}
 use Rattle.ix_audit.specs.Lines.{Lines}
 use Rattle.ix_proc.specs.Table.{ProcTable}
 use Rattle.ix_tables.specs.Parts.{Parts, parts_of, owners_of, homes_of}
-use Rattle.ix_model.specs.world.Callers.{with_caller}
 use Rattle.ix_fcalls.specs.Around.{with_who, around, world_of}
 use Rattle.ix_machine.specs.Joined.{joined, AreJoined}
 

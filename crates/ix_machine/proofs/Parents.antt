@@ -1,6 +1,5 @@
 -- The parent of a living process.
-use Rattle.std.proofs.Common.{◌≡◌, Bool, true, false, Option, Some, None, if◌then◌else◌, ap}
-use Rattle.std.specs.Option.{option_and_then}
+use Rattle.std.{proofs.Common.{◌≡◌, Bool, true, false, Option, Some, None, if◌then◌else◌, ap}, specs.Option.option_and_then}
 use Rattle.ix_model.specs.world.World.{Process, living}
 
 pub parent_living : (o : Option Process) (q : Process) → living o ≡ Some q → option_and_then (λ p. p.parent) o ≡ q.parent

@@ -1,11 +1,8 @@
 -- A raised label is set back.
-use Rattle.std.proofs.Common.{◌≡◌, ℕ, List, Option, Some, None, option_map, true, false, not, refl, sym, ap, subst, ◌∙◌}
-use Rattle.std.proofs.Math.ListN.{set}
-use Rattle.std.proofs.lemmas.List.{set-get_or}
-use Rattle.std.specs.Option.{option_map_or}
+use Rattle.std.{proofs.Common.{◌≡◌, ℕ, List, Option, Some, None, option_map, true, false, not, refl, sym, ap, subst, ◌∙◌}, proofs.Math.ListN.set}
+use Rattle.std.{proofs.lemmas.List.set-get_or, specs.Option.option_map_or}
 use Rattle.ix_label.specs.Category.{Categories}
-use Rattle.ix_model.specs.world.World.{Frame, Process, at, change, lives}
-use Rattle.ix_model.proofs.tables.Tables.{change_twice, seen_changed}
+use Rattle.ix_model.{specs.world.World.{Frame, Process, at, change, lives}, proofs.tables.Tables.{change_twice, seen_changed}}
 use Rattle.ix_machine.specs.Restoring.{Restores, label_at}
 
 -- a label that stands already

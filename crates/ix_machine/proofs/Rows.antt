@@ -2,17 +2,13 @@
 use Rattle.std.proofs.Common.{◌≡◌, ℕ, Bool, true, false, not, List, Option, Some, None, option_map, unwrap_or, refl, sym, ap, subst, ◌∙◌, if◌then◌else◌}
 use Rattle.std.specs.Option.{option_map_or}
 use Rattle.ix_label.specs.Category.{Categories}
-use Rattle.ix_model.specs.world.World.{World, Process, at, put, change, living}
-use Rattle.ix_model.specs.world.Privs.{either_of, without}
-use Rattle.ix_model.specs.declared.privs.PrivSet.{PrivSet}
-use Rattle.ix_model.specs.declared.views.Caller.{Caller}
+use Rattle.ix_model.specs.world.{World.{World, Process, at, put, change, living}, Privs.{either_of, without}, Callers.{caller_of, with_caller}}
+use Rattle.ix_model.specs.declared.{privs.PrivSet.PrivSet, views.Caller.Caller}
 use Rattle.ix_model.proofs.tables.Tables.{change_same, change_twice}
 use Rattle.ix_proc.specs.Table.{ProcTable}
 use Rattle.ix_tables.specs.Parts.{Parts}
 use Rattle.ix_audit.specs.Lines.{Lines}
-use Rattle.ix_model.specs.world.Callers.{caller_of, with_caller}
-use Rattle.ix_fcalls.specs.Around.{with_who, no_process}
-use Rattle.ix_fcalls.proofs.Counting.{counted_kept}
+use Rattle.ix_fcalls.{specs.Around.{with_who, no_process}, proofs.Counting.counted_kept}
 use Rattle.ix_machine.specs.Joined.{joined, AreJoined}
 
 -- ---- a living process, as it is got

@@ -2,29 +2,18 @@
 use Rattle.std.proofs.Common.{◌≡◌, ℕ, Bool, true, false, not, List, Option, Some, None, option_map, unwrap_or, refl, sym, ap, ◌∙◌, if◌then◌else◌}
 use Rattle.std.specs.Option.{option_map_or, option_and_then}
 use Rattle.ix_label.specs.Category.{bottom}
-use Rattle.ix_model.specs.world.Naming.{PathOf}
-use Rattle.ix_model.specs.world.World.{World, Frame, Object, Process, at, living, lives}
-use Rattle.ix_model.specs.history.AuditLog.{object_of_path, object_sought, label_at, of_process}
-use Rattle.ix_model.specs.history.Calls.{op_of}
-use Rattle.ix_model.specs.history.Views.{shown_of}
+use Rattle.ix_model.specs.world.{Naming.PathOf, World.{World, Frame, Object, Process, at, living, lives}}
+use Rattle.ix_model.specs.history.{AuditLog.{object_of_path, object_sought, label_at, of_process}, Calls.op_of, Views.shown_of}
 use Rattle.ix_model.specs.rows.Walks.{OpenFile, behind, behind_of, entry_at, node, nothing, walk}
-use Rattle.ix_model.specs.declared.call.Call.{Call}
+use Rattle.ix_model.specs.declared.{call.Call.Call, ids.Obj.Obj, views.{Caller.Caller, ProcView.ProcView}}
 use Rattle.ix_model.specs.declared.call.Call.TheVariants as call
-use Rattle.ix_model.specs.declared.ids.Obj.{Obj}
-use Rattle.ix_model.specs.declared.views.Caller.{Caller}
-use Rattle.ix_model.specs.declared.views.ProcView.{ProcView}
 use Rattle.ix_audit.specs.Lines.{Lines}
 use Rattle.ix_proc.specs.Table.{ProcTable}
-use Rattle.ix_tables.specs.Parts.{Parts}
-use Rattle.ix_tables.specs.Views.{frame_alone}
-use Rattle.ix_fresh.specs.Laws.{Spot, spot_behind}
-use Rattle.ix_fresh.specs.Touched.{entry_target, label_of_entry, target}
-use Rattle.ix_fcalls.specs.Claiming.{entry_of}
-use Rattle.ix_fcalls.specs.Views.{Seen, seen_in, seen_of, sought_of}
-use Rattle.ix_fcalls.specs.Spots.{spot_in, spot_through}
-use Rattle.ix_fcalls.specs.declared.walks.Outcome.{Outcome}
+use Rattle.ix_tables.specs.{Parts.Parts, Views.frame_alone}
+use Rattle.ix_fresh.specs.{Laws.{Spot, spot_behind}, Touched.{entry_target, label_of_entry, target}}
+use Rattle.ix_fcalls.specs.{Claiming.entry_of, Views.{Seen, seen_in, seen_of, sought_of}, Spots.{spot_in, spot_through}}
+use Rattle.ix_fcalls.specs.declared.walks.{Outcome.Outcome, Walked.Walked}
 use Rattle.ix_fcalls.specs.declared.walks.Outcome.TheVariants as outcome
-use Rattle.ix_fcalls.specs.declared.walks.Walked.{Walked}
 use Rattle.ix_machine.specs.Joined.{joined}
 
 -- ---- behind a descriptor

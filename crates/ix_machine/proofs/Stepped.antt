@@ -1,32 +1,18 @@
 -- Steps that are refused, and steps that leave what the world holds.
-use Rattle.std.proofs.Common.{◌≡◌, ◌&&◌, ℕ, Bool, true, false, not, List, [], Option, Some, None, option_map, unwrap_or, refl, sym, ap, subst, ◌∙◌, if◌then◌else◌}
-use Rattle.ix_model.specs.world.World.{World, Frame, Process, at, lives, living}
-use Rattle.ix_model.specs.world.Contents.{after_exit, carried, status_of}
-use Rattle.ix_model.specs.laws.Clean.{IsClean}
-use Rattle.ix_model.specs.rows.OnDescriptors.{LengthChecks, pex}
-use Rattle.ix_model.specs.rows.OnProcesses.{fork, exit, wait_child, wait_passed}
-use Rattle.ix_model.specs.rows.Outcomes.{Refuse, Pass}
-use Rattle.ix_model.specs.rows.Refusals.{keeps_label}
-use Rattle.ix_model.specs.rows.Table.{Decision, verdict, row}
-use Rattle.ix_model.specs.rows.Telling.{told, nothing_told}
-use Rattle.ix_model.specs.rows.Walks.{OpenFile, behind}
-use Rattle.ix_model.specs.history.Events.{Op}
+use Rattle.std.proofs.Common.{◌≡◌, ◌&&◌, ℕ, Bool, true, false, not, List, [], Option, Some, None, option_map, unwrap_or, refl, sym, ap, subst, ◌∙◌}
+use Rattle.std.proofs.Common.{if◌then◌else◌}
+use Rattle.ix_model.specs.world.{World.{World, Frame, Process, at, lives, living}, Contents.{after_exit, carried, status_of}, Callers.with_caller}
+use Rattle.ix_model.specs.{laws.Clean.IsClean, rows.OnDescriptors.{LengthChecks, pex}, rows.OnProcesses.{fork, exit, wait_child, wait_passed}}
+use Rattle.ix_model.specs.{rows.Outcomes.{Refuse, Pass}, rows.Refusals.keeps_label, rows.Table.{Decision, verdict, row}, rows.Telling.{told, nothing_told}}
+use Rattle.ix_model.specs.{rows.Walks.{OpenFile, behind}, rows.OnLabels.self_label, history.Events.Op}
+use Rattle.ix_model.specs.declared.{call.Keep.Keep, refusal.Refusal.Refusal, reply.Reply.Reply, views.Caller.Caller}
 use Rattle.ix_model.specs.history.Events as op
-use Rattle.ix_model.specs.history.Step.{Given, step, answer, plainly, read_answer, write_answer, cut_answer, seek_answer, stat_answer, exit_answer, wait_answer, pex_answer, is_whole, put_front}
-use Rattle.ix_model.specs.declared.call.Keep.{Keep}
-use Rattle.ix_model.specs.declared.refusal.Refusal.{Refusal}
+use Rattle.ix_model.specs.history.Step.{Given, step, answer, plainly, read_answer, write_answer, cut_answer, seek_answer, stat_answer, exit_answer, wait_answer}
+use Rattle.ix_model.specs.history.Step.{pex_answer, is_whole, put_front}
 use Rattle.ix_model.specs.declared.refusal.Refusal.TheVariants as refusal
-use Rattle.ix_model.specs.declared.reply.Reply.{Reply}
 use Rattle.ix_model.specs.declared.reply.Reply.TheVariants as reply
-use Rattle.ix_model.specs.declared.views.Caller.{Caller}
-use Rattle.ix_model.proofs.clean.Carrying.{carried_decided}
-use Rattle.ix_model.proofs.frames.Floats.{floats_itself}
-use Rattle.ix_model.proofs.sound.Carried.{carried_floats}
-use Rattle.ix_model.proofs.words.Lasts.{lets_nothing_go}
-use Rattle.ix_fcalls.specs.Around.{no_process}
-use Rattle.ix_model.specs.world.Callers.{with_caller}
-use Rattle.ix_fcalls.specs.Filed.{Answers}
-use Rattle.ix_model.specs.rows.OnLabels.{self_label}
+use Rattle.ix_model.proofs.{clean.Carrying.carried_decided, frames.Floats.floats_itself, sound.Carried.carried_floats, words.Lasts.lets_nothing_go}
+use Rattle.ix_fcalls.specs.{Around.no_process, Filed.Answers}
 use Rattle.ix_machine.specs.OwnCalls.{is_still, is_tested}
 
 pub answers : (given : Given) (w : World) (r : Reply) (buf : List ℕ) → given ≡ record { world = w; reply = r; bytes = [] } → Answers given w r buf buf

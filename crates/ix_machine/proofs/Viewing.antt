@@ -1,22 +1,15 @@
 -- What stands behind a descriptor, with its offset and its owners, and how much an object holds, in the files' parts and in the world.
 use Rattle.std.proofs.Common.{◌≡◌, ◌<◌, ℕ, Bool, true, false, not, length, slice_index_or, if◌then◌else◌, Option, Some, None, option_map, refl, sym, ap, ◌∙◌}
 use Rattle.std.specs.Option.{option_map_or}
-use Rattle.ix_model.specs.world.World.{World, Frame, Process, at, living, lives}
-use Rattle.ix_model.specs.history.Views.{size_at, bytes_inside}
+use Rattle.ix_model.specs.{world.World.{World, Frame, Process, at, living, lives}, history.Views.{size_at, bytes_inside}, declared.views.Caller.Caller}
 use Rattle.ix_model.specs.rows.Walks.{OpenFile, behind, behind_of}
-use Rattle.ix_model.specs.declared.views.Caller.{Caller}
-use Rattle.ix_model.proofs.tables.Finds.{in_table}
-use Rattle.ix_model.proofs.words.Standing.{behind_is}
+use Rattle.ix_model.proofs.{tables.Finds.in_table, words.Standing.behind_is}
 use Rattle.ix_audit.specs.Lines.{Lines}
 use Rattle.ix_proc.specs.Table.{ProcTable}
 use Rattle.ix_open.specs.declared.view.OpenView.{OpenView}
 use Rattle.ix_tables.specs.Parts.{Parts}
-use Rattle.ix_fcalls.specs.Claiming.{entry_of}
-use Rattle.ix_fcalls.specs.Counted.{IsCounted}
-use Rattle.ix_fcalls.specs.Spots.{size_in, bytes_in, view_in, view_through, viewed}
-use Rattle.ix_fcalls.proofs.Counting.{owners_at}
-use Rattle.ix_machine.specs.Joined.{joined}
-use Rattle.ix_machine.proofs.Standing.{behind_by}
+use Rattle.ix_fcalls.{specs.{Claiming.entry_of, Counted.IsCounted, Spots.{size_in, bytes_in, view_in, view_through, viewed}}, proofs.Counting.owners_at}
+use Rattle.ix_machine.{specs.Joined.joined, proofs.Standing.behind_by}
 
 -- no descriptor of a process that doesn't live stands for anything
 pub no_view : (w : World) (pid fd : ℕ) → lives w.frame pid ≡ false → None ≡ option_map (view_through w) (behind w.frame pid fd)

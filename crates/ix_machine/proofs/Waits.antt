@@ -1,12 +1,8 @@
 -- The child that a wait collects has ended.
-use Rattle.std.proofs.Common.{◌≡◌, ◌&&◌, ℕ, true, List, Option, Some, None, subst}
+use Rattle.std.proofs.{Common.{◌≡◌, ◌&&◌, ℕ, true, List, Option, Some, None, subst}, lemmas.{Bool.and_parts, List.Quantifiers.position-Some}}
 use Rattle.std.specs.Prelude.{position}
-use Rattle.std.proofs.lemmas.Bool.{and_parts}
-use Rattle.std.proofs.lemmas.List.Quantifiers.{position-Some}
-use Rattle.ix_model.specs.world.World.{World, Process, at, is_ended, lives}
-use Rattle.ix_model.specs.rows.OnProcesses.{is_child}
-use Rattle.ix_machine.specs.Restoring.{Restores}
-use Rattle.ix_machine.proofs.Ends.{ended_still}
+use Rattle.ix_model.specs.{world.World.{World, Process, at, is_ended, lives}, rows.OnProcesses.is_child}
+use Rattle.ix_machine.{specs.Restoring.Restores, proofs.Ends.ended_still}
 
 first_ended : (ps : List (Option Process)) (pid c : ℕ) → position (λ q. is_child pid q && is_ended q) ps ≡ Some c → is_ended (at ps c) ≡ true
 first_ended ps pid c first = let found = position-Some (λ q. is_child pid q && is_ended q) ps c None first in (and_parts (is_child pid (at ps c)) (is_ended (at ps c)) found.1).1

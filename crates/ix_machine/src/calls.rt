@@ -1,18 +1,9 @@
 ghost use Rattle.std.specs.Prelude.{◌≡◌, ◌<◌, ◌-◌, ◌^◌, ℕ, List, IsTrue, OnErr, length, true};
-ghost use Rattle.ix_model.specs.history.Calls.{op_of};
+ghost use Rattle.ix_model.specs.{history.{Calls.{op_of}, Step.{step}}, laws.Sound.{Sound}, world.World.{lives}};
+ghost use Rattle.ix_model.specs.rows.{Outcomes.{RowIs}, Table.{row, verdict}, Telling.{nothing_told}};
 ghost use Rattle.ix_model.specs.history.Events as op;
-ghost use Rattle.ix_model.specs.history.Step.{step};
-ghost use Rattle.ix_model.specs.laws.Sound.{Sound};
-ghost use Rattle.ix_model.specs.rows.Outcomes.{RowIs};
-ghost use Rattle.ix_model.specs.rows.Table.{row, verdict};
-ghost use Rattle.ix_model.specs.rows.Telling.{nothing_told};
-ghost use Rattle.ix_model.specs.world.World.{lives};
-ghost use Rattle.ix_fcalls.specs.Around.{Moment};
-ghost use Rattle.ix_fcalls.specs.Filed.{Answers, is_filed};
-ghost use Rattle.ix_fcalls.specs.Moving.{reply_of};
-ghost use Rattle.ix_fcalls.specs.Tested.{IsKnown};
-ghost use Rattle.ix_machine.specs.OwnCalls.{is_tested};
-ghost use Rattle.ix_machine.specs.Restoring.{Restores};
+ghost use Rattle.ix_fcalls.specs.{Around.{Moment}, Filed.{Answers, is_filed}, Moving.{reply_of}, Tested.{IsKnown}};
+ghost use Rattle.ix_machine.specs.{OwnCalls.{is_tested}, Restoring.{Restores}};
 
 use crate::machine::Machine;
 use ix_fcalls::Moved;

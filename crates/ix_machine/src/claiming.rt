@@ -1,12 +1,7 @@
 ghost use Rattle.std.specs.Prelude.{◌≡◌, IfOk, OnErr, true};
-ghost use Rattle.ix_model.specs.history.Step.{pex_answer};
-ghost use Rattle.ix_model.specs.laws.Sound.{Sound};
-ghost use Rattle.ix_model.specs.rows.OnDescriptors.{pex, unpex};
-ghost use Rattle.ix_model.specs.rows.Outcomes.{RowIs};
-ghost use Rattle.ix_model.specs.rows.Walks.{behind};
+ghost use Rattle.ix_model.specs.{history.Step.{pex_answer}, laws.Sound.{Sound}, rows.{OnDescriptors.{pex, unpex}, Outcomes.{RowIs}, Walks.{behind}}};
 ghost use Rattle.ix_model.specs.world.World.{lives};
-ghost use Rattle.ix_machine.specs.Claimed.{ClaimedIs, UnclaimedIs};
-ghost use Rattle.ix_machine.specs.Restoring.{Restores};
+ghost use Rattle.ix_machine.specs.{Claimed.{ClaimedIs, UnclaimedIs}, Restoring.{Restores}};
 
 use crate::machine::Machine;
 use ix_model::{Fd, Pid, Refusal, Reply};

@@ -1,11 +1,7 @@
-ghost use Rattle.std.specs.Prelude.{◌≡◌, IfOk, OnErr, OnOk, None, Some, slice_set, true, false};
-ghost use Rattle.std.specs.List.{list_any};
+ghost use Rattle.std.specs.{Prelude.{◌≡◌, IfOk, OnErr, OnOk, None, Some, slice_set, true, false}, List.{list_any}};
 ghost use Rattle.ix_model.specs.declared.reply.Reply.TheVariants as reply;
-ghost use Rattle.ix_model.specs.laws.Sound.{Sound};
-ghost use Rattle.ix_model.specs.rows.OnProcesses.{exit, is_child, wait_child};
-ghost use Rattle.ix_model.specs.rows.Outcomes.{Pass, RowIs, RowMeans};
-ghost use Rattle.ix_model.specs.world.Contents.{after_exit, carried, status_of};
-ghost use Rattle.ix_model.specs.world.World.{at, is_ended, lives, put};
+ghost use Rattle.ix_model.specs.{laws.Sound.{Sound}, rows.{OnProcesses.{exit, is_child, wait_child}, Outcomes.{Pass, RowIs, RowMeans}}};
+ghost use Rattle.ix_model.specs.world.{Contents.{after_exit, carried, status_of}, World.{at, is_ended, lives, put}};
 ghost use Rattle.ix_fcalls.specs.Around.{Moment};
 ghost use Rattle.ix_machine.specs.OwnCalls.{child_passed, let_go_and_end};
 

@@ -1,9 +1,6 @@
 ghost use Rattle.std.specs.Prelude.{◌≡◌, ℕ, OnErr, true};
-ghost use Rattle.ix_model.specs.world.World.{at, lives};
-ghost use Rattle.ix_model.specs.rows.Outcomes.{RowIs};
-ghost use Rattle.ix_model.specs.rows.Rows.{observe, affect};
-ghost use Rattle.ix_machine.specs.Views.{is_inode};
-ghost use Rattle.ix_machine.specs.Restoring.{Restores};
+ghost use Rattle.ix_model.specs.{world.World.{at, lives}, rows.{Outcomes.{RowIs}, Rows.{observe, affect}}};
+ghost use Rattle.ix_machine.specs.{Views.{is_inode}, Restoring.{Restores}};
 
 use crate::machine::Machine;
 use ix_label::{Label, Steps};

@@ -1,10 +1,7 @@
 ghost use Rattle.std.specs.Prelude.{◌≡◌, ◌<◌, ◌≤◌, ◌-◌, ◌^◌, ℕ, List, Option, OnErr, OnOk, length, count_by, is_some, Some, true, false};
 ghost use Rattle.std.specs.Option.{option_map_or};
-ghost use Rattle.ix_model.specs.laws.Sound.{Sound};
-ghost use Rattle.ix_model.specs.rows.OnProcesses.{fork, has_kept};
-ghost use Rattle.ix_model.specs.rows.Outcomes.{RowIs};
-ghost use Rattle.ix_model.specs.world.Contents.{carried};
-ghost use Rattle.ix_model.specs.world.World.{Process, at, lives, living};
+ghost use Rattle.ix_model.specs.{laws.Sound.{Sound}, rows.{OnProcesses.{fork, has_kept}, Outcomes.{RowIs}}};
+ghost use Rattle.ix_model.specs.world.{Contents.{carried}, World.{Process, at, lives, living}};
 ghost use Rattle.ix_fcalls.specs.Counted.{IsCounted};
 ghost use Rattle.ix_proc.specs.Table.{Adds, child_of, keeps};
 ghost use Rattle.ix_machine.specs.Born.{BornIs};

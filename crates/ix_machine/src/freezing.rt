@@ -1,10 +1,7 @@
 ghost use Rattle.std.specs.Prelude.{◌≡◌, true, OnErr};
-ghost use Rattle.ix_model.specs.laws.Sound.{Sound};
-ghost use Rattle.ix_model.specs.world.World.{lives};
-ghost use Rattle.ix_model.specs.rows.Outcomes.{RowIs};
-ghost use Rattle.ix_model.specs.rows.OnLabels.{freeze, freeze_self, thaw, thaw_self};
+ghost use Rattle.ix_model.specs.{laws.Sound.{Sound}, world.{World.{lives}, Paths.{path_of}}};
+ghost use Rattle.ix_model.specs.rows.{Outcomes.{RowIs}, OnLabels.{freeze, freeze_self, thaw, thaw_self}};
 ghost use Rattle.ix_machine.specs.Restoring.{Restores};
-ghost use Rattle.ix_model.specs.world.Paths.{path_of};
 
 use crate::exercise::audit_line;
 use crate::machine::Machine;

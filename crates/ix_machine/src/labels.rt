@@ -1,14 +1,9 @@
 ghost use Rattle.std.specs.Prelude.{◌≡◌, true, false, length, nat_lt, OnOk, OnErr};
 ghost use Rattle.ix_label.specs.Category.{leq};
-ghost use Rattle.ix_model.specs.laws.Sound.{Sound};
-ghost use Rattle.ix_model.specs.world.World.{at, ceiling_of, lives};
-ghost use Rattle.ix_model.specs.rows.Outcomes.{Pass, RowIs};
-ghost use Rattle.ix_model.specs.rows.OnLabels.{allowed, label_of, movable, self_label, set_label, set_self};
-ghost use Rattle.ix_model.specs.rows.Walks.{node};
+ghost use Rattle.ix_model.specs.{laws.Sound.{Sound}, world.{World.{at, ceiling_of, lives}, Paths.{path_of}}};
+ghost use Rattle.ix_model.specs.rows.{Outcomes.{Pass, RowIs}, OnLabels.{allowed, label_of, movable, self_label, set_label, set_self}, Walks.{node}};
 ghost use Rattle.ix_tables.specs.Views.{object_by};
-ghost use Rattle.ix_machine.specs.OwnCalls.{self_movable};
-ghost use Rattle.ix_machine.specs.Restoring.{Restores};
-ghost use Rattle.ix_model.specs.world.Paths.{path_of};
+ghost use Rattle.ix_machine.specs.{OwnCalls.{self_movable}, Restoring.{Restores}};
 
 use crate::exercise::audit_line;
 use crate::machine::Machine;

@@ -1,11 +1,7 @@
-ghost use Rattle.std.specs.Prelude.{◌≡◌, ◌<◌, ◌-◌, ◌^◌, IsTrue, IfOk, length, slice_get};
-ghost use Rattle.std.specs.Option.{option_map};
-ghost use Rattle.ix_model.specs.opening.Opening.{opening_world};
-ghost use Rattle.ix_model.specs.opening.Valid.{is_valid};
-ghost use Rattle.ix_model.specs.world.World.{at};
-ghost use Rattle.ix_model.specs.rows.Walks.{nothing};
-ghost use Rattle.ix_tables.specs.Views.{object_by};
+ghost use Rattle.std.specs.{Prelude.{◌≡◌, ◌<◌, ◌-◌, ◌^◌, IsTrue, IfOk, length, slice_get}, Option.{option_map}};
+ghost use Rattle.ix_model.specs.{opening.{Opening.{opening_world}, Valid.{is_valid}}, world.World.{at}, rows.Walks.{nothing}};
 ghost use Rattle.ix_model.specs.history.Views.{view_of, shown_of};
+ghost use Rattle.ix_tables.specs.Views.{object_by};
 
 use crate::boot::opened;
 use ix_audit::Log;

@@ -1,9 +1,7 @@
 ghost use Rattle.std.specs.Prelude.{◌≡◌, ◌++◌, ◌∷◌, [], length, nat_lt, IsTrue, IfSome, Some, true, false, is_some, unwrap_or};
 ghost use Rattle.ix_label.specs.Category.{leq};
-ghost use Rattle.ix_model.specs.world.World.{at, change, lives, living, ceiling_of};
-ghost use Rattle.ix_model.specs.rows.Walks.{node};
+ghost use Rattle.ix_model.specs.{world.{World.{at, change, lives, living, ceiling_of}, Callers.{with_caller}}, rows.Walks.{node}};
 ghost use Rattle.ix_tables.specs.Views.{Shows, object_by};
-ghost use Rattle.ix_model.specs.world.Callers.{with_caller};
 ghost use Rattle.ix_fcalls.specs.Around.{with_who, no_process};
 ghost use Rattle.ix_machine.specs.Views.{is_inode};
 

@@ -1,14 +1,9 @@
-ghost use Rattle.std.specs.Prelude.{◌≡◌, ◌==◌, Some, true, false, unwrap_or, OnErr};
-ghost use Rattle.std.specs.Option.{option_map_or, option_and_then};
+ghost use Rattle.std.specs.{Prelude.{◌≡◌, ◌==◌, Some, true, false, unwrap_or, OnErr}, Option.{option_map_or, option_and_then}};
 ghost use Rattle.ix_model.specs.laws.Sound.{Sound};
-ghost use Rattle.ix_model.specs.world.Privs.{either_of, without};
-ghost use Rattle.ix_model.specs.world.World.{at, change, lives, living};
-ghost use Rattle.ix_model.specs.rows.Outcomes.{RowIs};
-ghost use Rattle.ix_model.specs.rows.OnLabels.{drop_lic, grant_lic, needs_to_set_ceilings, read_log, set_ceiling, set_priv};
+ghost use Rattle.ix_model.specs.world.{Privs.{either_of, without}, World.{at, change, lives, living}, Callers.{with_caller}, Paths.{path_of}};
+ghost use Rattle.ix_model.specs.rows.{Outcomes.{RowIs}, OnLabels.{drop_lic, grant_lic, needs_to_set_ceilings, read_log, set_ceiling, set_priv}};
 ghost use Rattle.ix_fcalls.specs.Around.{no_process};
-ghost use Rattle.ix_model.specs.world.Callers.{with_caller};
 ghost use Rattle.ix_machine.specs.Restoring.{Restores};
-ghost use Rattle.ix_model.specs.world.Paths.{path_of};
 
 use crate::exercise::audit_line;
 use crate::machine::Machine;

@@ -1,10 +1,6 @@
 ghost use Rattle.std.specs.Prelude.{◌≡◌, true, OnErr};
-ghost use Rattle.ix_model.specs.laws.Sound.{Sound};
-ghost use Rattle.ix_model.specs.rows.OnProcesses.{exec};
-ghost use Rattle.ix_model.specs.rows.Outcomes.{RowIs};
-ghost use Rattle.ix_model.specs.world.World.{change, lives};
+ghost use Rattle.ix_model.specs.{laws.Sound.{Sound}, rows.{OnProcesses.{exec}, Outcomes.{RowIs}}, world.{World.{change, lives}, Paths.{path_of}}};
 ghost use Rattle.ix_machine.specs.Restoring.{Restores};
-ghost use Rattle.ix_model.specs.world.Paths.{path_of};
 
 use crate::machine::Machine;
 use ix_label::Steps;

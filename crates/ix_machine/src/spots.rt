@@ -1,14 +1,9 @@
-ghost use Rattle.std.specs.Prelude.{◌≡◌, Some};
-ghost use Rattle.std.proofs.Common.{option_map};
+ghost use Rattle.std.{specs.Prelude.{◌≡◌, Some}, proofs.Common.{option_map}};
 ghost use Rattle.ix_label.specs.Category.{bottom};
-ghost use Rattle.ix_model.specs.history.AuditLog.{label_at, object_of_path, of_process};
-ghost use Rattle.ix_model.specs.history.Calls.{op_of};
-ghost use Rattle.ix_fresh.specs.Laws.{spot_behind};
-ghost use Rattle.ix_fresh.specs.Touched.{entry_behind, entry_target, label_of_entry, object_behind, target};
-ghost use Rattle.ix_fcalls.specs.Spots.{spot_in, view_through};
-ghost use Rattle.ix_model.specs.history.Views.{size_at};
-ghost use Rattle.ix_model.specs.rows.Walks.{behind};
+ghost use Rattle.ix_model.specs.{history.{AuditLog.{label_at, object_of_path, of_process}, Calls.{op_of}, Views.{size_at}}, rows.Walks.{behind}};
 ghost use Rattle.ix_model.specs.world.Paths.{path_of};
+ghost use Rattle.ix_fresh.specs.{Laws.{spot_behind}, Touched.{entry_behind, entry_target, label_of_entry, object_behind, target}};
+ghost use Rattle.ix_fcalls.specs.Spots.{spot_in, view_through};
 
 use crate::machine::Machine;
 use ix_fcalls::Outcome;

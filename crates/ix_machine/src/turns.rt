@@ -1,8 +1,6 @@
 ghost use Rattle.std.specs.Prelude.{◌≡◌, ◌<◌, ◌-◌, ◌^◌, length, true};
 ghost use Rattle.ix_model.specs.history.Events as op;
-ghost use Rattle.ix_model.specs.history.Step.{step};
-ghost use Rattle.ix_model.specs.laws.Sound.{Sound};
-ghost use Rattle.ix_model.specs.world.World.{lives};
+ghost use Rattle.ix_model.specs.{history.Step.{step}, laws.Sound.{Sound}, world.World.{lives}};
 ghost use Rattle.ix_fcalls.specs.Filed.{Answers};
 
 use crate::machine::Machine;

@@ -1,9 +1,5 @@
-ghost use Rattle.std.specs.Prelude.{◌≡◌, ◌++◌, length, take, drop, min, Some, slice_get};
-ghost use Rattle.std.specs.Option.{option_and_then, option_map};
-ghost use Rattle.ix_model.specs.history.Views.{bytes_inside, names_there};
-ghost use Rattle.ix_model.specs.world.Directories.{IsBehind};
-ghost use Rattle.ix_model.specs.world.NameRefs.{name_of};
-ghost use Rattle.ix_model.specs.world.World.{at};
+ghost use Rattle.std.specs.{Prelude.{◌≡◌, ◌++◌, length, take, drop, min, Some, slice_get}, Option.{option_and_then, option_map}};
+ghost use Rattle.ix_model.specs.{history.Views.{bytes_inside, names_there}, world.{Directories.{IsBehind}, NameRefs.{name_of}, World.{at}}};
 
 use crate::machine::Machine;
 use ix_model::{Name, NameRef, Obj, PrivSet};

@@ -1,13 +1,9 @@
 ghost use Rattle.std.specs.Prelude.{◌≡◌, IfOk, Some, true};
-ghost use Rattle.ix_model.specs.laws.Sound.{Sound};
-ghost use Rattle.ix_model.specs.world.World.{at, ceiling_of, lives};
-ghost use Rattle.ix_model.specs.rows.Outcomes.{RowIs, RowMeans};
-ghost use Rattle.ix_model.specs.rows.Walks.{node, object_at, walked_to};
+ghost use Rattle.ix_model.specs.{laws.Sound.{Sound}, world.{World.{at, ceiling_of, lives}, Paths.{path_of}}};
+ghost use Rattle.ix_model.specs.rows.{Outcomes.{RowIs, RowMeans}, Walks.{node, object_at, walked_to}};
 ghost use Rattle.ix_tables.specs.Views.{Shows, object_by};
 ghost use Rattle.ix_fcalls.specs.Views.{sought_of};
-ghost use Rattle.ix_machine.specs.Views.{is_inode};
-ghost use Rattle.ix_machine.specs.Restoring.{Restores};
-ghost use Rattle.ix_model.specs.world.Paths.{path_of};
+ghost use Rattle.ix_machine.specs.{Views.{is_inode}, Restoring.{Restores}};
 
 use crate::machine::Machine;
 use ix_fcalls::Outcome;

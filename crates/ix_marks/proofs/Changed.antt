@@ -1,21 +1,13 @@
 -- Which descriptors are fresh after each call.
-use Rattle.std.proofs.Common.{◌≡◌, ◌==◌, ◌&&◌, ◌<◌, ◌≤◌, ◌+◌, ◌^◌, ◌⊎◌, ℕ, zero, suc, Bool, true, false, List, length, replicate, Option, Some, None}
-use Rattle.std.proofs.Common.{is_some, IsTrue, ◌↔◌, refl, sym, ap, ◌∙◌, subst, arith, inl, inr, get_or, set, if◌then◌else◌}
-use Rattle.std.proofs.lemmas.Bool.{and_parts, eqb-true, eq-eqb, ne_eqb}
-use Rattle.std.proofs.lemmas.Bool.Decides.{eqb_tells}
+use Rattle.std.proofs.Common.{◌≡◌, ◌==◌, ◌&&◌, ◌<◌, ◌≤◌, ◌+◌, ◌^◌, ◌⊎◌, ℕ, zero, suc, Bool, true, false, List, length, replicate, Option, Some, None, is_some}
+use Rattle.std.proofs.Common.{IsTrue, ◌↔◌, refl, sym, ap, ◌∙◌, subst, arith, inl, inr, get_or, set, if◌then◌else◌}
+use Rattle.std.proofs.{lemmas.Bool.{and_parts, eqb-true, eq-eqb, ne_eqb}, lemmas.Bool.Decides.eqb_tells, lemmas.Option.same_Some}
 use Rattle.std.proofs.lemmas.List.{get_or-set_same, get_or-set_other, length-replicate, get_or_read}
-use Rattle.std.proofs.lemmas.Option.{same_Some}
-use Rattle.ix_float.specs.Marks.{last_set}
-use Rattle.ix_float.specs.declared.mark.Way.{Way}
-use Rattle.ix_float.specs.declared.mark.Way.TheVariants.{Reading, Writing}
-use Rattle.ix_marks.specs.declared.row.Spot.{Spot}
-use Rattle.ix_marks.specs.declared.row.Place.{Place}
-use Rattle.ix_marks.specs.declared.row.Row.{Row}
-use Rattle.ix_marks.specs.RowIndex.{RowOwners, row_of}
+use Rattle.ix_float.specs.{Marks.last_set, declared.mark.Way.{Way, TheVariants.{Reading, Writing}}}
+use Rattle.ix_marks.specs.{declared.row.{Spot.Spot, Place.Place, Row.Row}, RowIndex.{RowOwners, row_of}}
 use Rattle.ix_marks.specs.Places.{spot_in, set_place, place_in, row_in, no_place, no_row, empty_row}
 use Rattle.ix_marks.specs.Known.{Known, spot_of, same_way, is_it, unless, on_object, on_entry, generation_at, sum_at, still, fresh_in, known, IsPast, AreKept}
-use Rattle.ix_marks.proofs.Rows.{none_is}
-use Rattle.ix_marks.proofs.Spots.{fresh_at, spot_is, spot_was, row_low, row_read, spots_written, kept_written}
+use Rattle.ix_marks.proofs.{Rows.none_is, Spots.{fresh_at, spot_is, spot_was, row_low, row_read, spots_written, kept_written}}
 
 -- both tests, one after the other
 merged : (a b : Bool) (x y : Option Spot) → (if a then (if b then x else y) else y) ≡ (if a && b then x else y)

@@ -1,9 +1,8 @@
 -- A row is free for a process that has none.
-use Rattle.std.proofs.Common.{◌≡◌, ◌<◌, ◌≤◌, ◌+◌, ℕ, zero, suc, Bool, true, false, List, [], ◌∷◌, length, Option, Some, None, is_some, count_by, cond, refl, sym, ap, ◌∙◌, arith, get_or, set}
-use Rattle.std.proofs.lemmas.List.{get_or-set_other}
-use Rattle.std.proofs.lemmas.List.Sums.{sum_by-set, sum_by-cons}
-use Rattle.ix_marks.specs.RowIndex.{row_of, pid_at, AreDifferent}
-use Rattle.ix_marks.proofs.Rows.{row_is}
+use Rattle.std.proofs.Common.{◌≡◌, ◌<◌, ◌≤◌, ◌+◌, ℕ, zero, suc, Bool, true, false, List, [], ◌∷◌, length, Option, Some, None, is_some, count_by, cond, refl, ap}
+use Rattle.std.proofs.Common.{sym, ◌∙◌, arith, get_or, set}
+use Rattle.std.proofs.lemmas.List.{get_or-set_other, Sums.{sum_by-set, sum_by-cons}}
+use Rattle.ix_marks.{specs.RowIndex.{row_of, pid_at, AreDifferent}, proofs.Rows.row_is}
 
 later : (x : Option ℕ) (xs : List (Option ℕ)) → AreDifferent (x ∷ xs) → AreDifferent xs
 later x xs different i j p h k = let same = different (suc i) (suc j) p h k in omega (arith, same)

@@ -1,9 +1,7 @@
 -- The row of a pid, by what stands at each index.
-use Rattle.std.proofs.Common.{◌≡◌, ◌==◌, ◌<◌, ◌⊎◌, ℕ, zero, suc, Bool, true, false, List, [], ◌∷◌, length, Option, Some, None, option_map, refl, sym, ap, ◌∙◌, arith, inl, inr, get_or, set}
-use Rattle.std.proofs.lemmas.Bool.{eqb-true, eq-eqb}
-use Rattle.std.proofs.lemmas.Bool.Decides.{eqb_tells}
-use Rattle.std.proofs.lemmas.List.{get_or-set_same, get_or-set_other}
-use Rattle.std.proofs.lemmas.Option.{same_Some}
+use Rattle.std.proofs.Common.{◌≡◌, ◌==◌, ◌<◌, ◌⊎◌, ℕ, zero, suc, Bool, true, false, List, [], ◌∷◌, length, Option, Some, None, option_map, refl, sym, ap, ◌∙◌}
+use Rattle.std.proofs.Common.{arith, inl, inr, get_or, set}
+use Rattle.std.proofs.lemmas.{Bool.{eqb-true, eq-eqb, Decides.eqb_tells}, List.{get_or-set_same, get_or-set_other}, Option.same_Some}
 use Rattle.ix_marks.specs.RowIndex.{sits, row_of, pid_at, AreDifferent}
 
 pub sits_is : (pid : ℕ) (x : Option ℕ) → sits pid x ≡ true → x ≡ Some pid

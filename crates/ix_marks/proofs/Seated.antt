@@ -1,23 +1,14 @@
 -- The rows stay seated in the buckets of their pids where one is taken and where one is left.
-use Rattle.std.proofs.Common.{◌≡◌, ◌==◌, ◌<◌, ◌%◌, ◌⊎◌, ◌||◌, ℕ, true, false, List, [], ◌∷◌, ◌++◌, length, find, Option, Some, None, replicate}
-use Rattle.std.proofs.Common.{zero, suc, refl, sym, ap, ◌∙◌, subst, arith, inl, inr, get_or, set, slice_get, if◌then◌else◌, cond, is_some, count_by}
-use Rattle.std.proofs.Common.{◌+◌}
-use Rattle.std.specs.List.{Contains}
-use Rattle.std.specs.Option.{option_map_or}
-use Rattle.std.proofs.lemmas.Bool.{eq-eqb, ne_eqb}
-use Rattle.std.proofs.lemmas.Bool.Decides.{eqb_tells}
-use Rattle.std.proofs.lemmas.List.{get_or-set_same, get_or-set_other, length-set, length-replicate}
-use Rattle.std.proofs.lemmas.List.Folds.{list_any-append}
-use Rattle.std.proofs.lemmas.List.Sums.{sum_by-set}
-use Rattle.std.proofs.lemmas.List.FromFn.{length-range_with_len}
-use Rattle.std.proofs.lemmas.Option.{same_Some}
-use Rattle.std.proofs.Math.Bool.{or-true, or-false}
-use Rattle.ix_links.specs.Chains.{Chains, chain_of, pushed_back, removed, all_free}
-use Rattle.ix_links.specs.Whole.{IsPool}
-use Rattle.ix_links.proofs.Held.{free_below, pool-pushed_back, pool-removed, pool-all_free}
-use Rattle.ix_marks.specs.RowIndex.{row_of, pid_at, is_at, stands_in, AreDifferent, IsRowIndex}
+use Rattle.std.proofs.Common.{◌≡◌, ◌==◌, ◌<◌, ◌%◌, ◌⊎◌, ◌||◌, ℕ, true, false, List, [], ◌∷◌, ◌++◌, length, find, Option, Some, None, replicate, zero, suc, refl}
+use Rattle.std.proofs.Common.{sym, ap, ◌∙◌, subst, arith, inl, inr, get_or, set, slice_get, if◌then◌else◌, cond, is_some, count_by, ◌+◌}
+use Rattle.std.specs.{List.Contains, Option.option_map_or}
+use Rattle.std.proofs.{lemmas.Bool.{eq-eqb, ne_eqb}, lemmas.Bool.Decides.eqb_tells, lemmas.List.Folds.list_any-append, lemmas.List.Sums.sum_by-set}
+use Rattle.std.proofs.{lemmas.List.{get_or-set_same, get_or-set_other, length-set, length-replicate}, lemmas.List.FromFn.length-range_with_len}
+use Rattle.std.proofs.{lemmas.Option.same_Some, Math.Bool.{or-true, or-false}}
+use Rattle.ix_links.specs.{Chains.{Chains, chain_of, pushed_back, removed, all_free}, Whole.IsPool}
+use Rattle.ix_links.proofs.{Held.{free_below, pool-pushed_back, pool-removed, pool-all_free}, Pooled.{once, stands_contained, fresh, pushed}}
 use Rattle.ix_links.proofs.Members.{member, dropped, member-dropped_same, member-dropped_other, without_once, passes, none_found}
-use Rattle.ix_links.proofs.Pooled.{once, stands_contained, fresh, pushed}
+use Rattle.ix_marks.specs.RowIndex.{row_of, pid_at, is_at, stands_in, AreDifferent, IsRowIndex}
 use Rattle.ix_marks.proofs.Rows.{sits_is, is_sits, within, row_at, row_is, none_is, kept_row, different_more, different_fewer}
 
 -- ---- each row in the bucket of its pid

@@ -1,17 +1,11 @@
 -- Which descriptors are fresh where a row or a generation is written.
-use Rattle.std.proofs.Common.{◌≡◌, ◌==◌, ◌<◌, ◌≤◌, ◌^◌, ◌⊎◌, ℕ, true, false, List, length, map, Option, Some, None, refl, sym, ap, ◌∙◌, arith, inl, inr, get_or, set, if◌then◌else◌}
-use Rattle.std.proofs.lemmas.Bool.Decides.{eqb_tells}
-use Rattle.std.proofs.lemmas.List.{get_or-set_same, get_or-set_other, length-set, get_or_read}
-use Rattle.std.proofs.Math.ListN.{get_or-map}
-use Rattle.ix_float.specs.declared.mark.Way.{Way}
-use Rattle.ix_float.specs.declared.mark.Way.TheVariants.{Reading, Writing}
-use Rattle.ix_marks.specs.declared.row.Spot.{Spot}
-use Rattle.ix_marks.specs.declared.row.Place.{Place}
-use Rattle.ix_marks.specs.declared.row.Row.{Row}
-use Rattle.ix_marks.specs.RowIndex.{RowOwners, row_of}
-use Rattle.ix_marks.specs.Places.{place_in, row_in, no_place, no_row}
-use Rattle.ix_marks.specs.Known.{Known, Spots, spot_at, spot_of, for_way, stale, fresh_in, shown_place, shown_row, known, IsPast, AreKept}
+use Rattle.std.proofs.Common.{◌≡◌, ◌==◌, ◌<◌, ◌≤◌, ◌^◌, ◌⊎◌, ℕ, true, false, List, length, map, Option, Some, None, refl, sym, ap, ◌∙◌, arith, inl, inr, get_or}
+use Rattle.std.proofs.Common.{set, if◌then◌else◌}
+use Rattle.std.proofs.{lemmas.{Bool.Decides.eqb_tells, List.{get_or-set_same, get_or-set_other, length-set, get_or_read}}, Math.ListN.get_or-map}
+use Rattle.ix_float.specs.declared.mark.Way.{Way, TheVariants.{Reading, Writing}}
+use Rattle.ix_marks.specs.{declared.row.{Spot.Spot, Place.Place, Row.Row}, RowIndex.{RowOwners, row_of}, Places.{place_in, row_in, no_place, no_row}}
 use Rattle.ix_marks.proofs.Rows.{row_at, within, apart}
+use Rattle.ix_marks.specs.Known.{Known, Spots, spot_at, spot_of, for_way, stale, fresh_in, shown_place, shown_row, known, IsPast, AreKept}
 
 -- ---- the spots that contracts see
 -- the spot of a row's descriptor, by what the code keeps

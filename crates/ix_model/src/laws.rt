@@ -1,8 +1,6 @@
 //! What holds of the machine's worlds. These functions do nothing: each states a law, which is proved.
-ghost use Rattle.ix_model.specs.laws.ClaimedPaths.{OnlyClaimantsGetThrough, ClaimantsReadWhatClaimantsWrote};
-ghost use Rattle.ix_model.specs.laws.CallLaws.{LimitsNeverChange, RowsAskForWhatStands};
-ghost use Rattle.ix_model.specs.laws.Privileged.{TheEntitledExercise, PrivilegesChangeAsSaid};
-ghost use Rattle.ix_model.specs.laws.Replies.{RepliesFitTheirCalls};
+ghost use Rattle.ix_model.specs.{laws.ClaimedPaths.{OnlyClaimantsGetThrough, ClaimantsReadWhatClaimantsWrote}, laws.Replies.{RepliesFitTheirCalls}};
+ghost use Rattle.ix_model.specs.{laws.CallLaws.{LimitsNeverChange, RowsAskForWhatStands}, laws.Privileged.{TheEntitledExercise, PrivilegesChangeAsSaid}};
 ghost use Rattle.ix_model.specs.laws.Laws.{
   OpeningWorldsAreSound,
   OpeningWorldsAreClean,

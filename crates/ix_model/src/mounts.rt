@@ -1,8 +1,5 @@
 ghost use Rattle.std.specs.Prelude.{◌≡◌, ◌<◌, ◌+◌, length, IfSome, ◌∷◌, []};
-ghost use Rattle.ix_model.specs.world.Naming.{same_names};
-ghost use Rattle.ix_model.specs.world.NameRefs.{name_of};
-ghost use Rattle.ix_model.specs.world.Paths.{path_of};
-ghost use Rattle.ix_model.specs.opening.Valid.{mount_of, fs_of, is_mount};
+ghost use Rattle.ix_model.specs.{world.{Naming.{same_names}, NameRefs.{name_of}, Paths.{path_of}}, opening.Valid.{mount_of, fs_of, is_mount}};
 
 use crate::config::FsSpec;
 use crate::name_ref::NameRef;

@@ -1,5 +1,4 @@
-ghost use Rattle.std.specs.Prelude.{◌≡◌, ◌≤◌, length, IsTrue, MatchOption};
-ghost use Rattle.std.specs.List.{list_all};
+ghost use Rattle.std.specs.{Prelude.{◌≡◌, ◌≤◌, length, IsTrue, MatchOption}, List.{list_all}};
 ghost use Rattle.ix_model.specs.world.Naming.{is_name, may_stand_in_name, same_bytes};
 
 use crate::name::Name;

@@ -1,10 +1,8 @@
-ghost use Rattle.std.specs.Prelude.{◌≡◌, ℕ, ◌<◌, ◌≤◌, ◌+◌, ◌-◌, ◌==◌, ◌++◌, [], ◌∷◌, length, take, drop, position, slice_get, IsTrue, IfSome, MatchOption, Some, None, if◌then◌else◌};
-ghost use Rattle.std.specs.Option.{option_map, option_map_or};
-ghost use Rattle.std.specs.Iterator.{YieldsFirstBy, item_count};
+ghost use Rattle.std.specs.Prelude.{◌≡◌, ℕ, ◌<◌, ◌≤◌, ◌+◌, ◌-◌, ◌==◌, ◌++◌, [], ◌∷◌, length, take, drop, position, slice_get, IsTrue, IfSome, MatchOption};
+ghost use Rattle.std.specs.Prelude.{Some, None, if◌then◌else◌};
+ghost use Rattle.std.specs.{Option.{option_map, option_map_or}, Iterator.{YieldsFirstBy, item_count}};
 ghost use Rattle.ix_model.specs.history.Cost.{cost_of_path};
-ghost use Rattle.ix_model.specs.world.Naming.{is_name, same_names};
-ghost use Rattle.ix_model.specs.world.NameRefs.{name_of};
-ghost use Rattle.ix_model.specs.world.Texts.{between_slashes, is_path_text, names_in};
+ghost use Rattle.ix_model.specs.world.{Naming.{is_name, same_names}, NameRefs.{name_of}, Texts.{between_slashes, is_path_text, names_in}};
 
 use crate::name_ref::{NameRef, is_name};
 

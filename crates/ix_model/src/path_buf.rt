@@ -1,8 +1,5 @@
-ghost use Rattle.std.specs.Prelude.{◌≡◌, ◌<◌, ◌≤◌, ◌+◌, ◌++◌, [], length, take, IsTrue, ◌↔◌};
-ghost use Rattle.std.specs.Bool.{OnTrue, OnFalse};
-ghost use Rattle.ix_model.specs.world.Naming.{add_name};
-ghost use Rattle.ix_model.specs.world.NameRefs.{name_of};
-ghost use Rattle.ix_model.specs.world.Texts.{with_name};
+ghost use Rattle.std.specs.{Prelude.{◌≡◌, ◌<◌, ◌≤◌, ◌+◌, ◌++◌, [], length, take, IsTrue, ◌↔◌}, Bool.{OnTrue, OnFalse}};
+ghost use Rattle.ix_model.specs.world.{Naming.{add_name}, NameRefs.{name_of}, Texts.{with_name}};
 
 use crate::name_ref::NameRef;
 use crate::path::{PATH_MAX, Path};
@@ -21,8 +18,7 @@ pub struct PathBuf {
 
 impl Model for PathBuf {
     ghost use Rattle.std.specs.Prelude.{take};
-    ghost use Rattle.ix_model.specs.world.Naming.{PathOf};
-    ghost use Rattle.ix_model.specs.world.Texts.{IsTextInside, names_in};
+    ghost use Rattle.ix_model.specs.world.{Naming.{PathOf}, Texts.{IsTextInside, names_in}};
 
     ghost Value = { PathOf };
 

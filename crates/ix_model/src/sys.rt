@@ -1,7 +1,5 @@
 ghost use Rattle.std.specs.Prelude.{◌≡◌, ℕ, List};
-ghost use Rattle.ix_model.specs.history.Calls.{op_of};
-ghost use Rattle.ix_model.specs.history.Made.{Made, entry};
-ghost use Rattle.ix_model.specs.history.Systems.{made_after, stops_after, last_stop, FullFor, Fits, LeavesRest};
+ghost use Rattle.ix_model.specs.history.{Calls.{op_of}, Made.{Made, entry}, Systems.{made_after, stops_after, last_stop, FullFor, Fits, LeavesRest}};
 
 use crate::call::{Buf, Call};
 use crate::ids::Pid;

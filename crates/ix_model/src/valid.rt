@@ -1,11 +1,9 @@
 ghost use Rattle.std.specs.Prelude.{◌≡◌, ℕ, ◌≤◌, ◌<◌, ◌+◌, ◌&&◌, length, IsTrue, IfSome, ◌∷◌, [], nat_le, map};
 ghost use Rattle.std.specs.List.{list_all, list_any};
 ghost use Rattle.ix_label.specs.Category.{leq};
-ghost use Rattle.ix_model.specs.world.World.{fs_at};
-ghost use Rattle.ix_model.specs.world.Naming.{same_bytes, same_names};
-ghost use Rattle.ix_model.specs.world.Paths.{path_of};
-ghost use Rattle.ix_model.specs.rows.Telling.{blocks_for};
-ghost use Rattle.ix_model.specs.opening.Valid.{fs_fits, fss_fit, all_differ, limits_fit, procs_fit, fs_of, is_mount, is_well_formed, is_taken, has_directory, lying_on, blocks_taken, has_room, object_fits, objects_fit, is_valid};
+ghost use Rattle.ix_model.specs.{world.{World.{fs_at}, Naming.{same_bytes, same_names}, Paths.{path_of}}, rows.Telling.{blocks_for}};
+ghost use Rattle.ix_model.specs.opening.Valid.{fs_fits, fss_fit, all_differ, limits_fit, procs_fit, fs_of, is_mount, is_well_formed, is_taken, has_directory};
+ghost use Rattle.ix_model.specs.opening.Valid.{lying_on, blocks_taken, has_room, object_fits, objects_fit, is_valid};
 
 use crate::blocks::blocks_for;
 use crate::config::{Config, FsSpec, Limits, ObjSpec, ProcSpec};

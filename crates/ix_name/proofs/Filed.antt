@@ -1,18 +1,14 @@
 -- What an edit of the chains and of the entries does to the lists of pairs, and to what the chains hold.
-use Rattle.std.proofs.Common.{◌≡◌, ◌<◌, ◌==◌, ◌⊎◌, ℕ, zero, suc, Bool, true, false, ◌||◌, List, [], ◌∷◌, ◌++◌, length, map, Option, Some, None, refl, sym, ap, ◌∙◌, arith, inl, inr, get_or, set}
+use Rattle.std.proofs.Common.{◌≡◌, ◌<◌, ◌==◌, ◌⊎◌, ℕ, zero, suc, Bool, true, false, ◌||◌, List, [], ◌∷◌, ◌++◌, length, map, Option, Some, None, refl, sym, ap}
+use Rattle.std.proofs.Common.{◌∙◌, arith, inl, inr, get_or, set}
 use Rattle.std.specs.Option.{option_map_or}
-use Rattle.std.proofs.lemmas.Bool.Decides.{eqb_tells}
-use Rattle.std.proofs.lemmas.List.{get_or-set_same, get_or-set_other, map-set, map-append}
-use Rattle.std.proofs.lemmas.List.Folds.{list_any-append}
-use Rattle.std.proofs.Math.ListN.{get_or-map}
+use Rattle.std.proofs.{lemmas.Bool.Decides.eqb_tells, lemmas.List.{get_or-set_same, get_or-set_other, map-set, map-append}, lemmas.List.Folds.list_any-append}
+use Rattle.std.proofs.{lemmas.Cmp.nat_list_eq_equiv, lemmas.Bool.{and_parts, or_parts, eqb-true, eq-eqb, ne_eqb}}
+use Rattle.std.proofs.Math.{ListN.get_or-map, Bool.{or-true, or-false}}
 use Rattle.ix_model.specs.world.Naming.{same_bytes}
-use Rattle.ix_name.specs.Directories.{without}
-use Rattle.ix_name.specs.Entries.{entry_at, is_of, pair_of, pair_at, lists_of, stands_in, AreFiled, AreUnique}
-use Rattle.std.proofs.lemmas.Cmp.{nat_list_eq_equiv}
-use Rattle.std.proofs.lemmas.Bool.{and_parts, or_parts, eqb-true, eq-eqb, ne_eqb}
-use Rattle.std.proofs.Math.Bool.{or-true, or-false}
-use Rattle.ix_links.proofs.Members.{member, dropped, member-dropped_same, member-dropped_other}
+use Rattle.ix_name.specs.{Directories.without, Entries.{entry_at, is_of, pair_of, pair_at, lists_of, stands_in, AreFiled, AreUnique}}
 use Rattle.ix_name.specs.declared.entry.Entry.{Entry}
+use Rattle.ix_links.proofs.Members.{member, dropped, member-dropped_same, member-dropped_other}
 
 abbrev Pairs : Type 0
 Pairs = List (List ℕ × ℕ)

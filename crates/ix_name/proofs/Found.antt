@@ -1,19 +1,11 @@
 -- What the walks over chains say of the names of a directory.
-use Rattle.std.proofs.Common.{◌≡◌, ℕ, ◌+◌, ◌<◌, true, false, List, [], length, find, get_or, Option, Some, None, option_map, refl, sym, ap, ◌∙◌, subst, slice_get}
-use Rattle.std.specs.Option.{option_map_or}
-use Rattle.std.proofs.lemmas.List.{length-map, get_or_read}
-use Rattle.std.proofs.lemmas.Option.{slice_get-map, same_Some}
-use Rattle.ix_links.specs.Chains.{Chains, chain_of}
-use Rattle.ix_links.specs.Whole.{IsPool}
-use Rattle.ix_links.proofs.Held.{held_once}
-use Rattle.ix_name.specs.declared.entry.Entry.{Entry}
-use Rattle.ix_name.specs.Directories.{Directories, names_of, under, AreDifferent}
-use Rattle.ix_name.specs.Buckets.{bucket_of}
-use Rattle.ix_name.specs.Entries.{entry_at, is_of, is_at, pair_of, pair_at, stands_in}
-use Rattle.ix_name.specs.Indexed.{directories, AreIndexed}
-use Rattle.ix_name.proofs.Filed.{names_of-lists, standing, stands, is_of_parts, is_of_from, same_refl, some_within}
-use Rattle.ix_name.proofs.Searched.{none_hashed, none_is, found_is}
-use Rattle.ix_links.proofs.Members.{member_at, place_of, passes}
+use Rattle.std.proofs.Common.{◌≡◌, ℕ, ◌+◌, ◌<◌, true, false, List, [], length, find, get_or, Option, Some, None, option_map, refl, sym, ap, ◌∙◌, subst}
+use Rattle.std.proofs.Common.{slice_get}
+use Rattle.std.{specs.Option.option_map_or, proofs.lemmas.{List.{length-map, get_or_read}, Option.{slice_get-map, same_Some}}}
+use Rattle.ix_links.{specs.{Chains.{Chains, chain_of}, Whole.IsPool}, proofs.{Held.held_once, Members.{member_at, place_of, passes}}}
+use Rattle.ix_name.specs.{declared.entry.Entry.Entry, Directories.{Directories, names_of, under, AreDifferent}, Buckets.bucket_of}
+use Rattle.ix_name.specs.{Entries.{entry_at, is_of, is_at, pair_of, pair_at, stands_in}, Indexed.{directories, AreIndexed}}
+use Rattle.ix_name.proofs.{Filed.{names_of-lists, standing, stands, is_of_parts, is_of_from, same_refl, some_within}, Searched.{none_hashed, none_is, found_is}}
 use Rattle.ix_name.proofs.Indexed.{dir_within, count_of}
 
 -- an entry of a name at an index

@@ -1,25 +1,15 @@
 -- The entries stay indexed where one comes and where one goes.
-use Rattle.std.proofs.Common.{◌≡◌, ℕ, ◌+◌, ◌-◌, ◌<◌, ◌^◌, nat_lt, if◌then◌else◌, false, true, List, [], ◌∷◌, ◌++◌, length, map, drop, get_or, set}
-use Rattle.std.proofs.Common.{Option, Some, None, refl, sym, ap, ◌∙◌, subst, arith, slice_get, length-append}
-use Rattle.std.specs.List.{Contains}
-use Rattle.std.specs.Cmp.Lexicographic.{same_text}
-use Rattle.std.proofs.lemmas.Bool.Decides.{nat_tests}
-use Rattle.std.proofs.lemmas.List.{length-set, length-map, length-drop, map-set, get_or_read}
-use Rattle.std.proofs.lemmas.Option.{slice_get_within}
+use Rattle.std.proofs.Common.{◌≡◌, ℕ, ◌+◌, ◌-◌, ◌<◌, ◌^◌, nat_lt, if◌then◌else◌, false, true, List, [], ◌∷◌, ◌++◌, length, map, drop, get_or, set, Option, Some}
+use Rattle.std.proofs.Common.{None, refl, sym, ap, ◌∙◌, subst, arith, slice_get, length-append}
+use Rattle.std.specs.{List.Contains, Cmp.Lexicographic.same_text}
+use Rattle.std.proofs.lemmas.{Bool.Decides.nat_tests, List.{length-set, length-map, length-drop, map-set, get_or_read}, Option.slice_get_within}
 use Rattle.std.proofs.Math.ListN.{get_or-map}
-use Rattle.ix_links.specs.Chains.{Chains, chain_of, pushed_back, removed, without}
-use Rattle.ix_links.specs.Whole.{IsPool}
-use Rattle.ix_links.proofs.Listing.{part-le-total}
-use Rattle.ix_links.proofs.Held.{free_below, pool-pushed_back, pool-removed, length-without}
-use Rattle.ix_name.specs.declared.entry.Entry.{Entry}
-use Rattle.ix_name.specs.Directories.{Directories, with_more, with_fewer, names_of, under}
-use Rattle.ix_name.specs.Buckets.{bucket_of, bucket_in}
-use Rattle.ix_name.specs.Entries.{entry_at, is_of, pair_at, stands_in, lists_of, AreFiled}
-use Rattle.ix_name.specs.Indexed.{directories, AreIndexed}
-use Rattle.ix_links.proofs.Members.{dropped, without_once}
-use Rattle.ix_name.proofs.Filed.{filed_more, lists_more, unique_more, filed_fewer, lists_fewer, unique_fewer, stands, is_of_parts}
-use Rattle.ix_name.proofs.Searched.{none_of}
+use Rattle.ix_links.specs.{Chains.{Chains, chain_of, pushed_back, removed, without}, Whole.IsPool}
+use Rattle.ix_links.proofs.{Listing.part-le-total, Held.{free_below, pool-pushed_back, pool-removed, length-without}, Members.{dropped, without_once}}
 use Rattle.ix_links.proofs.Pooled.{once, stands_within, stands_contained, fresh, pushed}
+use Rattle.ix_name.specs.{declared.entry.Entry.Entry, Directories.{Directories, with_more, with_fewer, names_of, under}, Buckets.{bucket_of, bucket_in}}
+use Rattle.ix_name.specs.{Entries.{entry_at, is_of, pair_at, stands_in, lists_of, AreFiled}, Indexed.{directories, AreIndexed}}
+use Rattle.ix_name.proofs.{Filed.{filed_more, lists_more, unique_more, filed_fewer, lists_fewer, unique_fewer, stands, is_of_parts}, Searched.none_of}
 
 -- there is a count for each chain
 counts_all : (counts : List ℕ) (dirs : Chains) → counts ≡ map length dirs.chains → length counts ≡ length dirs.chains

@@ -1,12 +1,8 @@
 -- A new pool has no entry and no name.
 use Rattle.std.proofs.Common.{◌≡◌, ℕ, zero, suc, ◌<◌, List, [], ◌∷◌, length, map, get_or, replicate, Option, None, refl, sym, ap, ◌∙◌}
-use Rattle.std.proofs.lemmas.List.{length-replicate}
-use Rattle.std.proofs.lemmas.List.FromFn.{length-range_with_len}
-use Rattle.ix_links.specs.Chains.{all_free}
-use Rattle.ix_links.proofs.Held.{pool-all_free}
-use Rattle.ix_name.specs.declared.entry.Entry.{Entry}
-use Rattle.ix_name.specs.Entries.{lists_of, AreFiled, AreUnique}
-use Rattle.ix_name.specs.Indexed.{directories, AreIndexed}
+use Rattle.std.proofs.lemmas.List.{length-replicate, FromFn.length-range_with_len}
+use Rattle.ix_links.{specs.Chains.all_free, proofs.Held.pool-all_free}
+use Rattle.ix_name.specs.{declared.entry.Entry.Entry, Entries.{lists_of, AreFiled, AreUnique}, Indexed.{directories, AreIndexed}}
 
 -- each place of a list of one thing has it, and so has what is past the list
 always : {A : Type 0} (a : A) (n i : ℕ) → get_or (replicate n a) i a ≡ a

@@ -1,16 +1,11 @@
 -- A search among the indices of a chain, and what a directory has under a name.
 use Rattle.std.proofs.Common.{◌≡◌, ◌==◌, ℕ, Bool, true, false, List, [], ◌∷◌, map, find, Option, Some, None, option_map, refl, sym, ap, ◌∙◌, get_or}
-use Rattle.std.specs.Option.{option_map_or}
-use Rattle.std.specs.Cmp.Lexicographic.{same_text}
-use Rattle.ix_name.specs.Buckets.{bucket_of, bucket_in}
-use Rattle.ix_model.specs.world.Naming.{same_bytes}
-use Rattle.ix_name.specs.Directories.{under}
+use Rattle.std.{specs.{Option.option_map_or, Cmp.Lexicographic.same_text}, proofs.{lemmas.Bool.{eqb-true, eq-eqb}, Math.Bool.or-true}}
+use Rattle.ix_name.specs.{Buckets.{bucket_of, bucket_in}, Directories.under, declared.entry.Entry.Entry}
 use Rattle.ix_name.specs.Entries.{entry_at, is_of, pair_of, pair_at, lists_of, stands_in, AreFiled, AreUnique}
-use Rattle.std.proofs.lemmas.Bool.{eqb-true, eq-eqb}
-use Rattle.std.proofs.Math.Bool.{or-true}
+use Rattle.ix_model.specs.world.Naming.{same_bytes}
 use Rattle.ix_links.proofs.Members.{member, none_found}
 use Rattle.ix_name.proofs.Filed.{names_of-lists, standing, stands, is_of_parts, is_of_from}
-use Rattle.ix_name.specs.declared.entry.Entry.{Entry}
 
 find_one : (p : ℕ → Bool) (i : ℕ) (xs : List ℕ) → member i xs ≡ true → p i ≡ true → ((j : ℕ) → member j xs ≡ true → p j ≡ true → j ≡ i) → find p xs ≡ Some i
 find_one p i [] there yes_ one = absurd (cc there)

@@ -1,8 +1,6 @@
-ghost use Rattle.std.specs.Prelude.{◌≡◌, ◌<◌, length, nat_lt, slice_get, [], None, IfOk, replicate, if◌then◌else◌};
-ghost use Rattle.std.proofs.Common.{option_map};
+ghost use Rattle.std.{specs.Prelude.{◌≡◌, ◌<◌, length, nat_lt, slice_get, [], None, IfOk, replicate, if◌then◌else◌}, proofs.Common.{option_map}};
 ghost use Rattle.ix_name.specs.Directories.{names_of, under, with_more, removed, AreDifferent};
-ghost use Rattle.ix_model.specs.world.Directories.{IsBehind};
-ghost use Rattle.ix_model.specs.world.NameRefs.{name_of};
+ghost use Rattle.ix_model.specs.world.{Directories.{IsBehind}, NameRefs.{name_of}};
 
 use crate::buckets::bucket_of;
 use crate::entry::{Entry, NoEntry};
@@ -36,8 +34,7 @@ pub struct Names {
 }
 
 impl Model for Names {
-    ghost use Rattle.ix_name.specs.Directories.{Directories};
-    ghost use Rattle.ix_name.specs.Indexed.{directories, AreIndexed};
+    ghost use Rattle.ix_name.specs.{Directories.{Directories}, Indexed.{directories, AreIndexed}};
 
     ghost Value = { Directories };
 

@@ -1,20 +1,13 @@
 -- What an edit of the heap of free numbers does to the marks.
-use Rattle.std.proofs.Common.{◌≡◌, ◌<◌, ◌≤◌, ◌+◌, ◌==◌, ◌^◌, ℕ, zero, suc, Bool, true, false, not, nat_lt, List, [], ◌∷◌, ◌++◌, length, cond, Some}
-use Rattle.std.proofs.Common.{None, refl, sym, ap, ◌∙◌, arith, inl, inr, get_or, set}
-use Rattle.std.specs.List.{slice_get, prefix_len}
-use Rattle.std.specs.List.Sorted.{IsPermutation}
-use Rattle.std.specs.BinaryHeap.{IsHeap, IsUpperBound}
-use Rattle.std.specs.declared.cmp.Reverse.{Reverse}
-use Rattle.std.proofs.lemmas.Bool.Decides.{eqb_tells, nat_tests}
-use Rattle.std.proofs.lemmas.Bool.{cases_eq, lt-ltb, le-ltb}
+use Rattle.std.proofs.Common.{◌≡◌, ◌<◌, ◌≤◌, ◌+◌, ◌==◌, ◌^◌, ℕ, zero, suc, Bool, true, false, not, nat_lt, List, [], ◌∷◌, ◌++◌, length, cond, Some, None, refl}
+use Rattle.std.proofs.Common.{sym, ap, ◌∙◌, arith, inl, inr, get_or, set}
+use Rattle.std.specs.{List.{slice_get, prefix_len, Sorted.IsPermutation}, BinaryHeap.{IsHeap, IsUpperBound}, declared.cmp.Reverse.Reverse}
+use Rattle.std.proofs.{lemmas.Bool.Decides.{eqb_tells, nat_tests}, lemmas.Bool.{cases_eq, lt-ltb, le-ltb}, lemmas.List.Sorted.{sum_by_popped, sum_by_pushed}}
 use Rattle.std.proofs.lemmas.List.{length-set, length_push, get_or-set_same, get_or-set_other, get_or_push, get_or_append_left}
-use Rattle.std.proofs.lemmas.List.FromFn.{length-map-range_with_len, get_or-map-range_with_len, fill_by_all}
+use Rattle.std.proofs.{lemmas.List.FromFn.{length-map-range_with_len, get_or-map-range_with_len, fill_by_all}, lemmas.Map.Keys.ge_from_not_lt}
 use Rattle.std.proofs.lemmas.List.Sums.{sum_by-cons, sum_by_push, sum_by-set, position_or_len_is, count_by-le-length}
-use Rattle.std.proofs.lemmas.List.Sorted.{sum_by_popped, sum_by_pushed}
-use Rattle.std.proofs.lemmas.Map.Keys.{ge_from_not_lt}
 use Rattle.std.proofs.lemmas.Option.{slice_get_within, get_or_from_slice_get}
-use Rattle.ix_numbers.specs.Marks.{lowest, count}
-use Rattle.ix_numbers.specs.Heaped.{times, is_in, marks_of, lowest_first, AreHeaped}
+use Rattle.ix_numbers.specs.{Marks.{lowest, count}, Heaped.{times, is_in, marks_of, lowest_first, AreHeaped}}
 
 abbrev pub one : Bool → ℕ
 one b = cond b 1 0

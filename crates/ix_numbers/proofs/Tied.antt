@@ -1,11 +1,8 @@
 -- The marks of a table's vacant numbers, as its entries come, change and go.
-use Rattle.std.proofs.Common.{◌≡◌, ◌<◌, ◌+◌, ℕ, zero, suc, Bool, true, false, not, List, [], ◌∷◌, length, count_by, cond, Option, Some, None, is_none}
-use Rattle.std.proofs.Common.{is_some, refl, sym, ap, ◌∙◌, get_or, set, replicate}
+use Rattle.std.proofs.Common.{◌≡◌, ◌<◌, ◌+◌, ℕ, zero, suc, Bool, true, false, not, List, [], ◌∷◌, length, count_by, cond, Option, Some, None, is_none, is_some}
+use Rattle.std.proofs.Common.{refl, sym, ap, ◌∙◌, get_or, set, replicate}
 use Rattle.std.specs.List.{slice_get, position, prefix_len}
-use Rattle.std.proofs.lemmas.List.{length-map, map-set}
-use Rattle.std.proofs.Math.Seq.{map-set_same}
-use Rattle.std.proofs.lemmas.List.Quantifiers.{position-Some}
-use Rattle.std.proofs.lemmas.List.Sums.{sum_by-cons}
+use Rattle.std.proofs.{lemmas.List.{length-map, map-set, Quantifiers.position-Some, Sums.sum_by-cons}, Math.Seq.map-set_same}
 use Rattle.ix_numbers.specs.Marks.{lowest, count, vacancies}
 
 -- nothing stands anywhere

@@ -18,8 +18,7 @@ pub struct Numbers {
 }
 
 impl Model for Numbers {
-    ghost use Rattle.std.specs.Prelude.{List, Bool};
-    ghost use Rattle.std.specs.BinaryHeap.{heap_items, heap_len, heap_capacity};
+    ghost use Rattle.std.specs.{Prelude.{List, Bool}, BinaryHeap.{heap_items, heap_len, heap_capacity}};
     ghost use Rattle.ix_numbers.specs.Heaped.{marks_of, AreHeaped};
 
     ghost Value = { List Bool };

@@ -1,17 +1,12 @@
 -- The counts of the entries on each end of each object stay true.
-use Rattle.std.proofs.Common.{◌≡◌, ◌<◌, ◌+◌, ◌-◌, ◌*◌, ◌^◌, ◌==◌, ℕ, zero, suc, Bool, true, false, ◌&&◌, ◌||◌, List, [], ◌∷◌, length, map, replicate}
-use Rattle.std.proofs.Common.{count_by, cond, Option, Some, None, refl, sym, ap, ◌∙◌, arith, inl, inr, get_or, set, nat_lt}
+use Rattle.std.proofs.Common.{◌≡◌, ◌<◌, ◌+◌, ◌-◌, ◌*◌, ◌^◌, ◌==◌, ℕ, zero, suc, Bool, true, false, ◌&&◌, ◌||◌, List, [], ◌∷◌, length, map, replicate, count_by}
+use Rattle.std.proofs.Common.{cond, Option, Some, None, refl, sym, ap, ◌∙◌, arith, inl, inr, get_or, set, nat_lt}
 use Rattle.std.specs.List.{list_any}
-use Rattle.std.proofs.lemmas.Bool.Decides.{eqb_tells, nat_tests}
-use Rattle.std.proofs.lemmas.Bool.{cases_lt}
+use Rattle.std.proofs.{lemmas.Bool.Decides.{eqb_tells, nat_tests}, lemmas.Bool.cases_lt, lemmas.List.Sums.{sum_by-set, sum_by-cons, count_by-le-length}}
 use Rattle.std.proofs.lemmas.List.{length-set, length-replicate, get_or-set_same, get_or-set_other, get_or_past}
-use Rattle.std.proofs.lemmas.List.Sums.{sum_by-set, sum_by-cons, count_by-le-length}
 use Rattle.ix_model.specs.world.World.{at, is_on, held}
 use Rattle.ix_numbers.proofs.Heap.{one, here}
-use Rattle.ix_open.specs.Entries.{open_in}
-use Rattle.ix_open.specs.Tally.{place, is_at, AreCounted}
-use Rattle.ix_open.proofs.Indexed.{low_at}
-use Rattle.ix_open.specs.declared.view.OpenView.{OpenView}
+use Rattle.ix_open.{specs.{Entries.open_in, Tally.{place, is_at, AreCounted}, declared.view.OpenView.OpenView}, proofs.Indexed.low_at}
 
 count_set : (k : ℕ) (es : List (Option OpenView)) (n : ℕ) (x : Option OpenView) → n < length es → count_by (is_at k) (set es n x) + one (is_at k (at es n)) ≡ count_by (is_at k) es + one (is_at k x)
 count_set k es n x low = sum_by-set (λ (o : Option OpenView). cond {A = ℕ} (is_at k o) 1 0) es n x None low

@@ -1,16 +1,12 @@
 -- An edit of the slab under one key is an edit of the entries at one number.
-use Rattle.std.proofs.Common.{◌≡◌, ◌≢◌, ◌<◌, ◌≤◌, ◌+◌, ℕ, zero, suc, Bool, true, true≢false, not, replicate, List, [], ◌∷◌, length, count_by, cond}
-use Rattle.std.proofs.Common.{Option, Some, None, is_some, refl, sym, ap, ◌∙◌, arith, inl, inr, get_or, set}
+use Rattle.std.proofs.Common.{◌≡◌, ◌≢◌, ◌<◌, ◌≤◌, ◌+◌, ℕ, zero, suc, Bool, true, true≢false, not, replicate, List, [], ◌∷◌, length, count_by, cond, Option, sym}
+use Rattle.std.proofs.Common.{Some, None, is_some, refl, ap, ◌∙◌, arith, inl, inr, get_or, set}
 use Rattle.std.proofs.lemmas.List.{same_lists, length-replicate, length-map, length-set, get_or-map, get_or-set_same, get_or-set_other, get_or_past}
-use Rattle.std.proofs.lemmas.List.Sums.{sum_by-set, sum_by-cons, count_by-le-length}
-use Rattle.std.proofs.lemmas.Bool.Decides.{eqb_tells}
-use Rattle.std.proofs.lemmas.Bool.{cases_lt}
+use Rattle.std.proofs.lemmas.{List.Sums.{sum_by-set, sum_by-cons, count_by-le-length}, Bool.{Decides.eqb_tells, cases_lt}}
 use Rattle.ix_model.specs.world.World.{at}
 use Rattle.ix_numbers.specs.Marks.{vacancies}
-use Rattle.slab.specs.Slab.{Slab, get, slab_len, HasRoomFor, Updates}
-use Rattle.slab.proofs.SlabLemmas.{Updates-with_value}
-use Rattle.ix_open.specs.Indexed.{entry_in, seen, IsIndex}
-use Rattle.ix_open.specs.declared.view.OpenView.{OpenView}
+use Rattle.slab.{specs.Slab.{Slab, get, slab_len, HasRoomFor, Updates}, proofs.SlabLemmas.Updates-with_value}
+use Rattle.ix_open.specs.{Indexed.{entry_in, seen, IsIndex}, declared.view.OpenView.OpenView}
 
 abbrev no_key_at : Option ℕ
 no_key_at = None

@@ -1,11 +1,10 @@
 -- An edit of an entry, as the tables show it.
-use Rattle.std.proofs.Common.{◌≡◌, ℕ, zero, suc, Bool, true, false, List, [], ◌∷◌, map, replicate, Option, Some, None, is_some, refl, sym, ap, ◌∙◌, get_or, set, option_map}
+use Rattle.std.proofs.Common.{◌≡◌, ℕ, zero, suc, Bool, true, false, List, [], ◌∷◌, map, replicate, Option, Some, None, is_some, refl, sym, ap, ◌∙◌, get_or, set}
+use Rattle.std.proofs.Common.{option_map}
 use Rattle.std.proofs.lemmas.List.{map-set}
 use Rattle.ix_model.specs.world.World.{at}
 use Rattle.ix_numbers.specs.Marks.{vacancies}
-use Rattle.ix_open.specs.Table.{none_open, without}
-use Rattle.ix_open.specs.Entries.{table_of, open_in, offset_in, owners_in, shown, with_entry}
-use Rattle.ix_open.specs.declared.view.OpenView.{OpenView}
+use Rattle.ix_open.specs.{Table.{none_open, without}, Entries.{table_of, open_in, offset_in, owners_in, shown, with_entry}, declared.view.OpenView.OpenView}
 
 module _ (objects : ℕ) where
   -- what the tables have at a number

@@ -1,21 +1,15 @@
 -- What the tables show of the slab and the keys that stand behind them.
-use Rattle.std.proofs.Common.{◌≡◌, ◌<◌, ◌==◌, ◌&&◌, ◌+◌, ◌-◌, ◌^◌, ℕ, Bool, true, false, List, length, count_by, Option, Some, None, is_some, is_none}
-use Rattle.std.proofs.Common.{refl, sym, ap, ◌∙◌, get_or, set, option_map, subst, nat_lt, arith, IfSome}
-use Rattle.std.proofs.lemmas.List.{length-map}
-use Rattle.std.proofs.lemmas.Bool.{and_parts, eqb-true}
+use Rattle.std.proofs.Common.{◌≡◌, ◌<◌, ◌==◌, ◌&&◌, ◌+◌, ◌-◌, ◌^◌, ℕ, Bool, true, false, List, length, count_by, Option, Some, None, is_some, is_none, refl, ap}
+use Rattle.std.proofs.Common.{sym, ◌∙◌, get_or, set, option_map, subst, nat_lt, arith, IfSome}
+use Rattle.std.proofs.lemmas.{List.length-map, Bool.{and_parts, eqb-true}}
 use Rattle.ix_model.specs.world.World.{Open, at, lowest_free, is_on, held}
-use Rattle.slab.specs.Slab.{Slab, get, Updates}
-use Rattle.slab.proofs.SlabLemmas.{Updates-with_value}
-use Rattle.ix_numbers.specs.Marks.{lowest, count, vacancies}
-use Rattle.ix_numbers.proofs.Tied.{lowest_vacant, count_vacant}
-use Rattle.ix_open.specs.Table.{OpenTable, without}
-use Rattle.ix_open.specs.Entries.{table_of, open_of, open_in, offset_in, owners_in, shown, with_entry}
-use Rattle.ix_open.specs.Indexed.{seen, entry_in, IsIndex}
-use Rattle.ix_open.specs.Tally.{place, AreCounted}
+use Rattle.slab.{specs.Slab.{Slab, get, Updates}, proofs.SlabLemmas.Updates-with_value}
+use Rattle.ix_numbers.{specs.Marks.{lowest, count, vacancies}, proofs.Tied.{lowest_vacant, count_vacant}}
+use Rattle.ix_open.specs.{Table.{OpenTable, without}, Entries.{table_of, open_of, open_in, offset_in, owners_in, shown, with_entry}, Tally.{place, AreCounted}}
+use Rattle.ix_open.specs.{Indexed.{seen, entry_in, IsIndex}, declared.view.OpenView.OpenView}
 use Rattle.ix_open.proofs.Tabled.{at_opens, at_offsets, at_owners, taken, shown_is, tables_entry, tables_without, vacant_opens}
 use Rattle.ix_open.proofs.Indexed.{at_seen, at_seen_key, has_key, seen_edited, seen_opened, seen_released, vacant_seen}
 use Rattle.ix_open.proofs.Counted.{counted_same, counted_more, counted_fewer, count_fits, count_there, held_is, not_held}
-use Rattle.ix_open.specs.declared.view.OpenView.{OpenView}
 
 -- an entry is on the end, so there is one
 pub on_some : (o end : ℕ) (e : Option Open) → is_on o end e ≡ true → is_some e ≡ true

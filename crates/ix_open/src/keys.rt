@@ -1,7 +1,6 @@
 ghost use Rattle.std.specs.Prelude.{◌≡◌, ◌+◌, Some, IsTrue, is_some};
 ghost use Rattle.ix_model.specs.world.World.{at};
-ghost use Rattle.ix_open.specs.Indexed.{entry_in};
-ghost use Rattle.ix_open.specs.Tally.{place};
+ghost use Rattle.ix_open.specs.{Indexed.{entry_in}, Tally.{place}};
 
 use crate::view::OpenView;
 use ix_model::Obj;

@@ -31,14 +31,10 @@ pub struct Opens {
 }
 
 impl Model for Opens {
-    ghost use Rattle.std.specs.Coded.{codes};
+    ghost use Rattle.std.specs.{Coded.{codes}, Prelude.{◌≡◌}};
     ghost use Rattle.ix_label.specs.contracts.label.Label as label_type;
-    ghost use Rattle.ix_open.specs.Table.{OpenTable};
-    ghost use Rattle.ix_open.specs.Entries.{table_of};
-    ghost use Rattle.ix_open.specs.Indexed.{seen, IsIndex};
-    ghost use Rattle.std.specs.Prelude.{◌≡◌};
+    ghost use Rattle.ix_open.specs.{Table.{OpenTable}, Entries.{table_of}, Indexed.{seen, IsIndex}, Tally.{AreCounted}};
     ghost use Rattle.ix_numbers.specs.Marks.{vacancies};
-    ghost use Rattle.ix_open.specs.Tally.{AreCounted};
 
     ghost Value = { OpenTable };
 

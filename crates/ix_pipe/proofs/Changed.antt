@@ -1,7 +1,6 @@
 -- A change of a pipe, which stays one, leaves which numbers are free.
 use Rattle.std.proofs.Common.{◌≡◌, ℕ, Bool, true, false, List, Option, Some, None, is_none, option_map, refl, sym, ap, ◌∙◌, if◌then◌else◌, get_or, set}
-use Rattle.ix_numbers.specs.Marks.{vacancies}
-use Rattle.ix_numbers.proofs.Tied.{kept}
+use Rattle.ix_numbers.{specs.Marks.vacancies, proofs.Tied.kept}
 use Rattle.ix_pipe.specs.Pipe.{Pipe}
 
 still : (h : Pipe → Pipe) (p : Option Pipe) → is_none (option_map h p) ≡ is_none p

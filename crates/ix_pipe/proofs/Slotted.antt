@@ -1,12 +1,8 @@
 -- An edit of a slot, as the pipe that it shows.
-use Rattle.std.proofs.Common.{◌≡◌, ℕ, Bool, true, false, List, set, Option, Some, None, option_map, is_some, refl, ap}
-use Rattle.std.proofs.lemmas.List.{map-set}
+use Rattle.std.proofs.{Common.{◌≡◌, ℕ, Bool, true, false, List, set, Option, Some, None, option_map, is_some, refl, ap}, lemmas.List.map-set}
 use Rattle.ix_label.specs.Category.{Categories}
-use Rattle.ix_model.specs.declared.ids.Pid.{Pid}
-use Rattle.ix_model.specs.world.Contents.{holds_nothing}
-use Rattle.ix_pipe.specs.Pipe.{with_claim}
-use Rattle.ix_pipe.specs.Claims.{claimed_with, emptied}
-use Rattle.ix_pipe.specs.Slots.{shown}
+use Rattle.ix_model.specs.{declared.ids.Pid.Pid, world.Contents.holds_nothing}
+use Rattle.ix_pipe.specs.{Pipe.with_claim, Claims.{claimed_with, emptied}, Slots.shown}
 
 abbrev pid_in : Option Pid → Option ℕ
 pid_in q = option_map (λ p. p.0) q

@@ -25,10 +25,9 @@ pub struct Pipes {
 }
 
 impl Model for Pipes {
-    ghost use Rattle.std.specs.Prelude.{◌≡◌, List, Option};
+    ghost use Rattle.std.specs.{Prelude.{◌≡◌, List, Option}, Coded.{codes}};
     ghost use Rattle.ix_numbers.specs.Marks.{vacancies};
     ghost use Rattle.ix_pipe.specs.Pipe.{Pipe};
-    ghost use Rattle.std.specs.Coded.{codes};
     ghost use Rattle.ix_label.specs.contracts.label.Label as label_type;
 
     ghost Value = { List (Option Pipe) };

@@ -1,6 +1,5 @@
 ghost use Rattle.std.specs.Prelude.{◌≡◌, ◌-◌, ◌<◌, ◌≤◌, [], ◌++◌, length, take, drop, min, false, IsTrue, is_some, IfOk, if◌then◌else◌};
-ghost use Rattle.std.specs.Option.{option_map_or};
-ghost use Rattle.std.proofs.Common.{option_map};
+ghost use Rattle.std.{specs.Option.{option_map_or}, proofs.Common.{option_map}};
 ghost use Rattle.ix_pipe.specs.Pipe.{Pipe, most, new_pipe, waiting, fits, with_fewer, with_more, with_label, with_claim, IsBounded};
 ghost use Rattle.ix_pipe.specs.Claims.{claimant_of, claim_answer, claimed, claimed_with, emptied};
 
@@ -24,10 +23,8 @@ pub struct Slot {
 }
 
 impl Model for Slot {
-    ghost use Rattle.std.specs.Prelude.{◌≡◌, length, Option};
-    ghost use Rattle.ix_pipe.specs.Pipe.{Pipe};
-    ghost use Rattle.ix_pipe.specs.Slots.{shown};
-    ghost use Rattle.std.specs.Coded.{codes};
+    ghost use Rattle.std.specs.{Prelude.{◌≡◌, length, Option}, Coded.{codes}};
+    ghost use Rattle.ix_pipe.specs.{Pipe.{Pipe}, Slots.{shown}};
     ghost use Rattle.ix_label.specs.contracts.label.Label as label_type;
 
     ghost Value = { Option Pipe };

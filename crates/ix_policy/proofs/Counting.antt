@@ -1,19 +1,13 @@
 -- How many rules a policy has, and how great the numbers of verdicts are.
-use Rattle.std.proofs.Common.{◌≡◌, ℕ, ◌+◌, ◌≤◌, nat_le, Bool, true, false, cond, List, [], ◌∷◌, ◌++◌, length, Option, Some, None, Result, Ok, Err, refl, ap, sym, ◌∙◌, arith, if◌then◌else◌}
-use Rattle.std.specs.Option.{option_map_or}
-use Rattle.std.proofs.lemmas.Bool.{leb-true}
-use Rattle.std.proofs.lemmas.List.{length-append}
-use Rattle.serde_json.specs.Data.{Data, Items, no_items, item}
-use Rattle.serde_json.specs.Events.{items_len}
+use Rattle.std.proofs.Common.{◌≡◌, ℕ, ◌+◌, ◌≤◌, nat_le, Bool, true, false, cond, List, [], ◌∷◌, ◌++◌, length, Option, Some, None, Result, Ok, Err, refl, ap}
+use Rattle.std.proofs.Common.{sym, ◌∙◌, arith, if◌then◌else◌}
+use Rattle.std.{specs.Option.option_map_or, proofs.lemmas.{Bool.leb-true, List.length-append}}
+use Rattle.serde_json.specs.{Data.{Data, Items, no_items, item}, Events.items_len}
 use Rattle.ix_label.specs.declared.form.Form.{Form}
 use Rattle.ix_policy.specs.Deciding.{decide, decide_from, matches}
 use Rattle.ix_policy.specs.Policies.{rule_of, next_rules, rules_after, rules_of, elements, rules_in, value_of, policy}
-use Rattle.ix_policy.specs.declared.fault.Field.{Field}
-use Rattle.ix_policy.specs.declared.fault.PolicyFault.{PolicyFault}
+use Rattle.ix_policy.specs.declared.{fault.{Field.Field, PolicyFault.PolicyFault}, request.{Request.Request, Verdict.Verdict}, rule.Rule.Rule}
 use Rattle.ix_policy.specs.declared.fault.PolicyFault.TheVariants as fault
-use Rattle.ix_policy.specs.declared.request.Request.{Request}
-use Rattle.ix_policy.specs.declared.request.Verdict.{Verdict}
-use Rattle.ix_policy.specs.declared.rule.Rule.{Rule}
 
 -- ---- a verdict
 decided_step : (n most : ℕ) (allow b : Bool) (later : Verdict) → n + 1 ≤ most → later.rule ≤ most

@@ -1,11 +1,8 @@
 -- The definition on texts, computed.
-use Rattle.std.proofs.Common.{◌≡◌, [], ◌∷◌, codes, Ok, Err, refl}
-use Rattle.std.specs.Char.{encode_utf8}
-use Rattle.std.specs.Str.{chars, is_utf8}
+use Rattle.std.{proofs.Common.{◌≡◌, [], ◌∷◌, codes, Ok, Err, refl}, specs.{Char.encode_utf8, Str.{chars, is_utf8}}}
 use Rattle.serde_json.proofs.OnLiterals.{serde_json_on_literals}
 use Rattle.ix_label.specs.declared.form.Form.TheVariants.{One}
-use Rattle.ix_policy.specs.Fields.{act_at, key_count, user_at}
-use Rattle.ix_policy.specs.Policies.{elements, next_rules, policy, rule_of, rules_after, rules_in, rules_of, value_of}
+use Rattle.ix_policy.specs.{Fields.{act_at, key_count, user_at}, Policies.{elements, next_rules, policy, rule_of, rules_after, rules_in, rules_of, value_of}}
 use Rattle.ix_policy.specs.declared.fault.Field.TheVariants as field
 use Rattle.ix_policy.specs.declared.fault.PolicyFault.TheVariants as fault
 

@@ -1,22 +1,15 @@
 -- The labels of a policy's rules have texts in its form.
-use Rattle.std.proofs.Common.{◌≡◌, ℕ, ◌==◌, nat_le, Bool, true, false, cond, List, [], ◌∷◌, ◌++◌, ◌+◌, length, codes, Option, Some, None, Result, Ok, Err, refl, ap, subst}
-use Rattle.std.specs.Option.{option_map_or, option_and_then}
-use Rattle.std.proofs.lemmas.List.Elements.{All-nil, All-push}
-use Rattle.serde_json.specs.Data.{Data, Items, no_items, item}
-use Rattle.serde_json.specs.Events.{items_len}
-use Rattle.ix_label.specs.declared.form.Form.{Form}
-use Rattle.ix_label.specs.Category.{Categories}
-use Rattle.ix_label.specs.Forms.{Fits}
-use Rattle.ix_label.proofs.Fitting.{within-fits}
-use Rattle.ix_text.specs.Labels.{label_in}
-use Rattle.ix_text.proofs.AllLabels.{label_within}
+use Rattle.std.proofs.Common.{◌≡◌, ℕ, ◌==◌, nat_le, Bool, true, false, cond, List, [], ◌∷◌, ◌++◌, ◌+◌, length, codes, Option, Some, None, Result, Ok, Err, refl}
+use Rattle.std.proofs.Common.{ap, subst}
+use Rattle.std.{specs.Option.{option_map_or, option_and_then}, proofs.lemmas.List.Elements.{All-nil, All-push}}
+use Rattle.serde_json.specs.{Data.{Data, Items, no_items, item}, Events.items_len}
+use Rattle.ix_label.{specs.{declared.form.Form.Form, Category.Categories, Forms.Fits}, proofs.Fitting.within-fits}
+use Rattle.ix_text.{specs.Labels.label_in, proofs.AllLabels.label_within}
 use Rattle.ix_policy.specs.Fields.{text_at, act_at, user_at, clear_at, privs_at, allow_at, key_count}
+use Rattle.ix_policy.specs.declared.{fault.{Field.Field, PolicyFault.PolicyFault}, rule.Rule.Rule}
 use Rattle.ix_policy.specs.Policies.{RulesFit, with_field, rule_of, next_rules, rules_after, rules_of, elements, rules_in, value_of, policy}
-use Rattle.ix_policy.specs.declared.fault.Field.{Field}
 use Rattle.ix_policy.specs.declared.fault.Field.TheVariants as field
-use Rattle.ix_policy.specs.declared.fault.PolicyFault.{PolicyFault}
 use Rattle.ix_policy.specs.declared.fault.PolicyFault.TheVariants as fault
-use Rattle.ix_policy.specs.declared.rule.Rule.{Rule}
 
 -- ---- one rule
 text_fits : (form : Form) (text : Option (List ℕ)) (l : Categories) → option_and_then (label_in form) text ≡ Some l → Fits form l

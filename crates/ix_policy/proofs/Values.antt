@@ -1,9 +1,7 @@
 -- What the value of a text says of the text.
-use Rattle.std.proofs.Common.{◌≡◌, Bool, true, false, List, ℕ, Some, None, Err, refl}
+use Rattle.std.proofs.{Common.{◌≡◌, Bool, true, false, List, ℕ, Some, None, Err, refl}, lemmas.Str.{IsUtf8-from_is_utf8, is_utf8-from_IsUtf8}}
 use Rattle.std.specs.Str.{IsUtf8, is_utf8}
-use Rattle.std.proofs.lemmas.Str.{IsUtf8-from_is_utf8, is_utf8-from_IsUtf8}
-use Rattle.serde_json.specs.Data.{Data}
-use Rattle.serde_json.specs.Read.{read}
+use Rattle.serde_json.specs.{Data.Data, Read.read}
 use Rattle.ix_label.specs.declared.form.Form.{Form}
 use Rattle.ix_policy.specs.Policies.{value_of, policy, rules_in}
 use Rattle.ix_policy.specs.declared.fault.PolicyFault.TheVariants as fault

@@ -1,15 +1,11 @@
 -- The walk over the elements of an array.
-use Rattle.std.proofs.Common.{◌≡◌, ℕ, zero, suc, ◌+◌, ◌<◌, ◌≤◌, nat_le, List, [], ◌∷◌, length, drop, get_or, Result, Ok, Err, refl, sym, ap, ◌∙◌, add-one, drop-cons, true, false, arith}
+use Rattle.std.proofs.Common.{◌≡◌, ℕ, zero, suc, ◌+◌, ◌<◌, ◌≤◌, nat_le, List, [], ◌∷◌, length, drop, get_or, Result, Ok, Err, refl, sym, ap, ◌∙◌, add-one, true}
+use Rattle.std.proofs.Common.{drop-cons, false, arith}
 use Rattle.std.proofs.lemmas.Bool.Decides.{nat_tests}
-use Rattle.serde_json.specs.Data.{item}
-use Rattle.serde_json.specs.View.{view, items_view}
-use Rattle.serde_json.specs.declared.value.Value.{Value}
-use Rattle.serde_json.proofs.Views.{items_len-items_view}
+use Rattle.serde_json.{specs.{Data.item, View.{view, items_view}, declared.value.Value.Value}, proofs.Views.items_len-items_view}
 use Rattle.ix_label.specs.declared.form.Form.{Form}
-use Rattle.ix_policy.specs.Policies.{HasCause, next_rules, rules_after, rules_of}
-use Rattle.ix_policy.specs.declared.fault.PolicyFault.{PolicyFault}
+use Rattle.ix_policy.specs.{Policies.{HasCause, next_rules, rules_after, rules_of}, declared.{fault.PolicyFault.PolicyFault, rule.Rule.Rule}}
 use Rattle.ix_policy.specs.declared.fault.PolicyFault.TheVariants as fault
-use Rattle.ix_policy.specs.declared.rule.Rule.{Rule}
 
 pub too_many : (form : Form) (vs : List Value) → 256 < length vs → rules_of form (items_view vs) ≡ Err fault.TooMany
 unfolding rules_of

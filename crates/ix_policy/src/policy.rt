@@ -1,7 +1,5 @@
-ghost use Rattle.std.specs.Prelude.{◌≡◌, ◌+◌, ◌≤◌, length, find, option_map, IfOk, IfErr, Ok};
-ghost use Rattle.std.specs.Option.{option_copied};
-ghost use Rattle.ix_policy.specs.Policies.{policy, HasCause, RulesFit};
-ghost use Rattle.ix_policy.specs.Deciding.{decide, matches, numbered};
+ghost use Rattle.std.specs.{Prelude.{◌≡◌, ◌+◌, ◌≤◌, length, find, option_map, IfOk, IfErr, Ok}, Option.{option_copied}};
+ghost use Rattle.ix_policy.specs.{Policies.{policy, HasCause, RulesFit}, Deciding.{decide, matches, numbered}};
 
 use crate::fault::PolicyFault;
 use crate::reading::rules_in;
@@ -21,8 +19,7 @@ pub struct Policy {
 }
 
 impl Model for Policy {
-    ghost use Rattle.std.specs.Prelude.{List, ◌≤◌, length};
-    ghost use Rattle.std.specs.Coded.{codes};
+    ghost use Rattle.std.specs.{Prelude.{List, ◌≤◌, length}, Coded.{codes}};
     ghost use Rattle.ix_label.specs.contracts.label.Label as label_type;
     ghost use Rattle.ix_policy.specs.declared.rule.Rule.{Rule};
 

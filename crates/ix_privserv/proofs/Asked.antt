@@ -1,24 +1,15 @@
 -- What holds of every call that the privilege server asks for, and what its calls cost.
 use Rattle.std.proofs.Common.{ℕ, ◌≤◌, false, List, length, Option, Some, None, arith}
 use Rattle.ix_label.specs.Category.{Categories}
-use Rattle.ix_model.specs.history.Cost.{cost_of}
+use Rattle.ix_model.specs.{history.Cost.cost_of, declared.{ids.Pid.Pid, privs.PrivSet.PrivSet}}
 use Rattle.ix_model.specs.history.Events as op
-use Rattle.ix_model.specs.declared.ids.Pid.{Pid}
-use Rattle.ix_model.specs.declared.privs.PrivSet.{PrivSet}
-use Rattle.ix_policy.specs.Deciding.{decide}
+use Rattle.ix_policy.{specs.{Deciding.decide, declared.rule.Rule.Rule}, proofs.Counting.decided-few}
 use Rattle.ix_policy.specs.declared.request.Request.TheVariants as request
-use Rattle.ix_policy.specs.declared.rule.Rule.{Rule}
-use Rattle.ix_policy.proofs.Counting.{decided-few}
-use Rattle.ix_asking.specs.Asking.{Asked}
-use Rattle.ix_asking.specs.declared.serving.outcome.Outcome.{Outcome}
+use Rattle.ix_asking.specs.{Asking.Asked, declared.serving.outcome.Outcome.Outcome, serving.Serving.{Server, tell}}
+use Rattle.ix_asking.proofs.{Every.{AllOf, all-refused}, Fronts.longest-within, Serves.{HoldsOfLine, all-claimed, all-decided, all-told}}
 use Rattle.ix_asking.specs.declared.serving.outcome.Outcome.TheVariants as outcome
-use Rattle.ix_asking.specs.serving.Serving.{Server, tell}
 use Rattle.ix_asking.proofs.Costs.{Costs, bad-few, claim-costs, costs-more, costs-refused, granted-few, refused-few, tell-costs, verdict-costs}
-use Rattle.ix_asking.proofs.Every.{AllOf, all-refused}
-use Rattle.ix_asking.proofs.Fronts.{longest-within}
-use Rattle.ix_asking.proofs.Serves.{HoldsOfLine, all-claimed, all-decided, all-told}
-use Rattle.ix_privserv.specs.Messages.{bad_at, begins_request, wanted}
-use Rattle.ix_privserv.specs.Serving.{grant, on_want, on_message, serves}
+use Rattle.ix_privserv.specs.{Messages.{bad_at, begins_request, wanted}, Serving.{grant, on_want, on_message, serves}}
 
 -- ---- every call
 module _ (P : Asked → Type 0) (s : Server) (each : HoldsOfLine P s) where

@@ -1,17 +1,13 @@
 -- How many calls the privilege server asks for at most.
 use Rattle.std.proofs.Common.{ℕ, false, List, Option, Some, None, arith}
 use Rattle.ix_label.specs.Category.{Categories}
-use Rattle.ix_model.specs.declared.ids.Pid.{Pid}
-use Rattle.ix_model.specs.declared.privs.PrivSet.{PrivSet}
-use Rattle.ix_policy.specs.Deciding.{decide}
+use Rattle.ix_model.specs.declared.{ids.Pid.Pid, privs.PrivSet.PrivSet}
+use Rattle.ix_policy.specs.{Deciding.decide, declared.rule.Rule.Rule}
 use Rattle.ix_policy.specs.declared.request.Request.TheVariants as request
-use Rattle.ix_policy.specs.declared.rule.Rule.{Rule}
-use Rattle.ix_asking.specs.declared.serving.outcome.Outcome.{Outcome}
-use Rattle.ix_asking.specs.declared.serving.outcome.Outcome.TheVariants as outcome
-use Rattle.ix_asking.specs.serving.Serving.{Server}
+use Rattle.ix_asking.specs.{declared.serving.outcome.Outcome.Outcome, serving.Serving.Server}
 use Rattle.ix_asking.proofs.Few.{Few, few-claimed, few-decided, few-refused, few-told}
-use Rattle.ix_privserv.specs.Messages.{bad_at, wanted}
-use Rattle.ix_privserv.specs.Serving.{grant, on_want, on_message, serves}
+use Rattle.ix_asking.specs.declared.serving.outcome.Outcome.TheVariants as outcome
+use Rattle.ix_privserv.specs.{Messages.{bad_at, wanted}, Serving.{grant, on_want, on_message, serves}}
 
 module _ (s : Server) where
   few_granted : (client : Pid) (want : PrivSet) (rule : ℕ) → Few 3 (grant s client want rule)

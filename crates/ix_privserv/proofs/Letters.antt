@@ -1,11 +1,9 @@
 -- Fronts of words for sets of privileges.
-use Rattle.std.proofs.Common.{◌≡◌, ℕ, ◌+◌, ◌==◌, Bool, true, false, cond, List, [], ◌∷◌, ◌++◌, Option, Some, None, option_map, refl, codes, subst, ◌⊎◌, inl, inr}
+use Rattle.std.proofs.Common.{◌≡◌, ℕ, ◌+◌, ◌==◌, Bool, true, false, cond, List, [], ◌∷◌, ◌++◌, Option, Some, None, option_map, refl, codes, subst, ◌⊎◌, inl}
+use Rattle.std.proofs.Common.{inr}
 use Rattle.std.specs.Cmp.Lexicographic.{bytes_decides}
-use Rattle.ix_model.specs.world.Naming.{same_bytes}
-use Rattle.ix_model.specs.declared.privs.PrivSet.{PrivSet}
-use Rattle.ix_text.specs.Bytes.{is_empty}
-use Rattle.ix_text.specs.Privs.{bits_from, privs_of}
-use Rattle.ix_text.specs.Spellings.{letters}
+use Rattle.ix_model.specs.{world.Naming.same_bytes, declared.privs.PrivSet.PrivSet}
+use Rattle.ix_text.specs.{Bytes.is_empty, Privs.{bits_from, privs_of}, Spellings.letters}
 use Rattle.ix_asking.proofs.Words.{same_first}
 use Rattle.ix_privserv.specs.Messages.{set_of}
 

@@ -1,16 +1,12 @@
 -- Nothing private comes of half a claim alone.
 use Rattle.std.proofs.Common.{ℕ, List, Option, Some, None}
 use Rattle.ix_label.specs.Category.{Categories}
-use Rattle.ix_model.specs.declared.ids.Pid.{Pid}
-use Rattle.ix_model.specs.declared.privs.PrivSet.{PrivSet}
-use Rattle.ix_policy.specs.Deciding.{decide}
+use Rattle.ix_model.specs.declared.{ids.Pid.Pid, privs.PrivSet.PrivSet}
+use Rattle.ix_policy.specs.{Deciding.decide, declared.rule.Rule.Rule}
 use Rattle.ix_policy.specs.declared.request.Request.TheVariants as request
-use Rattle.ix_policy.specs.declared.rule.Rule.{Rule}
-use Rattle.ix_asking.specs.serving.Privately.{NotPrivateAtHalf}
-use Rattle.ix_asking.specs.serving.Serving.{Server}
+use Rattle.ix_asking.specs.serving.{Privately.NotPrivateAtHalf, Serving.Server}
 use Rattle.ix_asking.proofs.Privacy.{OnlyComes, Other, bad-other, either, granted-other, private-at-claim, refused-other, verdict-other}
-use Rattle.ix_privserv.specs.Messages.{bad_at, wanted}
-use Rattle.ix_privserv.specs.Serving.{grant, on_message, on_want, serves}
+use Rattle.ix_privserv.specs.{Messages.{bad_at, wanted}, Serving.{grant, on_message, on_want, serves}}
 
 want_other : (rules : List Rule) (s : Server) (client : Pid) (label : Categories) (message : List ℕ) (want : Option PrivSet)
     → OnlyComes Other (on_want rules s client label message want)

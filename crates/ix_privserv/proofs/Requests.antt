@@ -1,19 +1,12 @@
 -- Messages are read as they stand.
-use Rattle.std.proofs.Common.{◌≡◌, ℕ, Bool, true, false, List, [], ◌++◌, codes, Option, Some, None, option_and_then, refl, ap, sym, ◌∙◌, subst, if◌then◌else◌, inl, inr, append-nil, append_assoc}
-use Rattle.std.specs.Option.{is_some}
-use Rattle.std.specs.Cmp.Lexicographic.{bytes_decides}
-use Rattle.std.proofs.Math.Bool.{or-true}
-use Rattle.std.proofs.lemmas.Bool.{or_cases}
-use Rattle.ix_model.specs.world.Naming.{same_bytes}
-use Rattle.ix_model.specs.declared.privs.PrivSet.{PrivSet}
+use Rattle.std.proofs.Common.{◌≡◌, ℕ, Bool, true, false, List, [], ◌++◌, codes, Option, Some, None, option_and_then, refl, ap, sym, ◌∙◌, subst, if◌then◌else◌}
+use Rattle.std.proofs.Common.{inl, inr, append-nil, append_assoc}
+use Rattle.std.{specs.{Option.is_some, Cmp.Lexicographic.bytes_decides}, proofs.{Math.Bool.or-true, lemmas.Bool.or_cases}}
+use Rattle.ix_model.specs.{world.Naming.same_bytes, declared.privs.PrivSet.PrivSet}
 use Rattle.ix_text.specs.Privs.{privs_of}
-use Rattle.ix_asking.specs.serving.Messages.{after_word, is_front_of}
-use Rattle.ix_asking.specs.serving.Requests.{Begins}
-use Rattle.ix_asking.proofs.Fronts.{longest-is}
-use Rattle.ix_asking.proofs.Words.{after-is, after-word, front-ends, front-self, front-splits}
-use Rattle.ix_privserv.specs.Messages.{begins_request, set_of, wanted}
-use Rattle.ix_privserv.specs.Requests.{IsRead, IsRequest, Wants}
-use Rattle.ix_privserv.proofs.Letters.{set-front}
+use Rattle.ix_asking.specs.serving.{Messages.{after_word, is_front_of}, Requests.Begins}
+use Rattle.ix_asking.proofs.{Fronts.longest-is, Words.{after-is, after-word, front-ends, front-self, front-splits}}
+use Rattle.ix_privserv.{specs.{Messages.{begins_request, set_of, wanted}, Requests.{IsRead, IsRequest, Wants}}, proofs.Letters.set-front}
 
 abbrev want : List ℕ
 want = codes "want "

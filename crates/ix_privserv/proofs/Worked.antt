@@ -1,15 +1,11 @@
 -- The worked request.
 use Rattle.std.proofs.Common.{◌≡◌, true, codes, Some, refl}
-use Rattle.ix_label.specs.Category.{bottom}
-use Rattle.ix_label.specs.Lattice.{bottom-leq}
-use Rattle.ix_model.specs.world.Privs.{has_all}
-use Rattle.ix_model.specs.declared.privs.PrivSet.{PrivSet}
+use Rattle.ix_label.specs.{Category.bottom, Lattice.bottom-leq}
+use Rattle.ix_model.specs.{world.Privs.has_all, declared.privs.PrivSet.PrivSet}
 use Rattle.ix_text.specs.Privs.{privs_of}
-use Rattle.ix_policy.specs.Deciding.{decide, decide_from, matches}
+use Rattle.ix_policy.specs.{Deciding.{decide, decide_from, matches}, declared.request.Verdict.Verdict}
 use Rattle.ix_policy.specs.declared.request.Request.TheVariants as request
-use Rattle.ix_policy.specs.declared.request.Verdict.{Verdict}
-use Rattle.ix_privserv.specs.Messages.{wanted}
-use Rattle.ix_privserv.specs.Worked.{rules, WantsDown}
+use Rattle.ix_privserv.specs.{Messages.wanted, Worked.{rules, WantsDown}}
 
 abbrev down : PrivSet
 down = record { 0 = 1 }

@@ -2,12 +2,8 @@
 
 ghost use Rattle.std.specs.Prelude.{ℕ, List};
 ghost use Rattle.ix_policy.specs.declared.rule.Rule.{Rule};
-ghost use Rattle.ix_asking.specs.serving.Privately.{NotPrivateAtHalf};
-ghost use Rattle.ix_asking.specs.serving.Serving.{Server};
-ghost use Rattle.ix_privserv.specs.Messages.{wanted};
-ghost use Rattle.ix_privserv.specs.Requests.{IsRead};
-ghost use Rattle.ix_privserv.specs.Serving.{serves};
-ghost use Rattle.ix_privserv.specs.Worked.{WantsDown};
+ghost use Rattle.ix_asking.specs.serving.{Privately.{NotPrivateAtHalf}, Serving.{Server}};
+ghost use Rattle.ix_privserv.specs.{Messages.{wanted}, Requests.{IsRead}, Serving.{serves}, Worked.{WantsDown}};
 
 /// A set is read from a message exactly where the message is a request for it. Of any other message the place that is told is the
 /// length of its longest front that some request begins with.

@@ -1,10 +1,7 @@
 ghost use Rattle.std.specs.Prelude.{◌≡◌, ◌<◌, ◌≤◌, false, length, List};
 ghost use Rattle.ix_policy.specs.declared.rule.Rule.{Rule};
-ghost use Rattle.ix_asking.specs.Asking.{first, heard, IsDue};
-ghost use Rattle.ix_asking.specs.serving.Serving.{Server, if_refused, on_claim, tell};
-ghost use Rattle.ix_asking.specs.serving.Telling.{telling_asks, telling_most};
-ghost use Rattle.ix_privserv.specs.Places.{asks_at, most_at};
-ghost use Rattle.ix_privserv.specs.Serving.{on_message};
+ghost use Rattle.ix_asking.specs.{Asking.{first, heard, IsDue}, serving.{Serving.{Server, if_refused, on_claim, tell}, Telling.{telling_asks, telling_most}}};
+ghost use Rattle.ix_privserv.specs.{Places.{asks_at, most_at}, Serving.{on_message}};
 
 use crate::message::{bad_at, wanted};
 use ix_asking::{Asks, Outcome, Step, Telling, decided, tell, untold};

@@ -1,25 +1,13 @@
 -- What the tables show of a new process, and what adding, changing and removing one rests on.
-use Rattle.std.proofs.Common.{◌≡◌, ◌<◌, ◌+◌, ℕ, true, false, List, [], ◌∷◌, ◌++◌, length, nat_lt, count_by, slice_get, Option, Some, None, is_some}
-use Rattle.std.proofs.Common.{option_map, refl, sym, ap, ◌∙◌, subst, arith, get_or, set}
-use Rattle.std.specs.Option.{option_map_or, option_and_then}
-use Rattle.std.specs.List.{list_any, remove, Contains}
-use Rattle.std.proofs.lemmas.Bool.{lt-ltb}
-use Rattle.ix_model.specs.world.Callers.{number_of}
-use Rattle.ix_model.specs.world.World.{Process, at, living}
+use Rattle.std.proofs.Common.{◌≡◌, ◌<◌, ◌+◌, ℕ, true, false, List, [], ◌∷◌, ◌++◌, length, nat_lt, count_by, slice_get, Option, Some, None, is_some, option_map}
+use Rattle.std.proofs.Common.{refl, sym, ap, ◌∙◌, subst, arith, get_or, set}
+use Rattle.std.{specs.{Option.{option_map_or, option_and_then}, List.{list_any, remove, Contains}}, proofs.lemmas.Bool.lt-ltb}
+use Rattle.ix_model.specs.{world.{Callers.number_of, World.{Process, at, living}}, rows.OnProcesses.is_child, declared.ids.Pid.Pid}
 use Rattle.ix_links.specs.Chains.{Chains, chain_of, pushed_back, removed}
-use Rattle.ix_proc.specs.Table.{ProcTable, with_process}
+use Rattle.ix_proc.specs.{Table.{ProcTable, with_process}, Kin.{AreKin, Hangs, Parented}, declared.slot.{Slot.Slot, Record.Record}}
 use Rattle.ix_proc.specs.Slots.{pid_in, record_at, lookup, found, laid, table_of, process_of, process_in, status_in, AreSlots, Finds}
-use Rattle.ix_proc.specs.Kin.{AreKin, Hangs, Parented}
-use Rattle.ix_proc.proofs.Laying.{laid_pushed, are_pushed, tables_pushed, count_processes}
-use Rattle.ix_proc.proofs.Found.{next_is, process_is}
-use Rattle.ix_proc.proofs.Hanging.{lives_there}
-use Rattle.ix_proc.proofs.Pushed.{low, new_link, kin_pushed}
-use Rattle.ix_model.specs.rows.OnProcesses.{is_child}
-use Rattle.ix_proc.proofs.Staying.{kin_set, kin_removed, held}
-use Rattle.ix_proc.proofs.Children.{lives_in, childless_from}
-use Rattle.ix_model.specs.declared.ids.Pid.{Pid}
-use Rattle.ix_proc.specs.declared.slot.Slot.{Slot}
-use Rattle.ix_proc.specs.declared.slot.Record.{Record}
+use Rattle.ix_proc.proofs.{Laying.{laid_pushed, are_pushed, tables_pushed, count_processes}, Found.{next_is, process_is}, Hanging.lives_there}
+use Rattle.ix_proc.proofs.{Pushed.{low, new_link, kin_pushed}, Staying.{kin_set, kin_removed, held}, Children.{lives_in, childless_from}}
 
 pid_same : (a b : Option Pid) → option_map number_of a ≡ option_map number_of b → a ≡ b
 pid_same None None e = refl

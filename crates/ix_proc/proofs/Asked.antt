@@ -1,22 +1,13 @@
 -- What the chains answer of the children of a process.
-use Rattle.std.proofs.Common.{◌≡◌, IsTrue, ◌<◌, ◌==◌, ℕ, Bool, true, false, true≢false, ◌&&◌, List, [], length, slice_get, get_or, Option, Some, None}
-use Rattle.std.proofs.Common.{is_some, unwrap_or, option_map, refl, sym, ap, ◌∙◌, arith, inl, inr}
-use Rattle.std.specs.Option.{option_map_or}
-use Rattle.std.specs.List.{find, list_any}
-use Rattle.std.proofs.lemmas.Bool.Decides.{eqb_tells}
-use Rattle.ix_model.specs.world.World.{Process, at, living}
-use Rattle.ix_model.specs.rows.OnProcesses.{is_child}
+use Rattle.std.proofs.Common.{◌≡◌, IsTrue, ◌<◌, ◌==◌, ℕ, Bool, true, false, true≢false, ◌&&◌, List, [], length, slice_get, get_or, Option, Some, None, is_some}
+use Rattle.std.proofs.Common.{unwrap_or, option_map, refl, sym, ap, ◌∙◌, arith, inl, inr}
+use Rattle.std.{specs.{Option.option_map_or, List.{find, list_any}}, proofs.lemmas.Bool.Decides.eqb_tells}
+use Rattle.ix_model.specs.{world.World.{Process, at, living}, rows.OnProcesses.is_child, declared.ids.Pid.Pid}
 use Rattle.ix_links.specs.Chains.{Chains, chain_of}
-use Rattle.ix_proc.specs.Table.{ProcTable, EndedChild}
-use Rattle.ix_proc.specs.Slots.{pid_in, record_at, lookup, led, found, process_in, laid, table_of, AreSlots, is_child_record}
-use Rattle.ix_proc.specs.Kin.{linked, AreKin}
-use Rattle.ix_proc.proofs.Looking.{lookup_at}
-use Rattle.ix_proc.proofs.Linked.{linked_none}
-use Rattle.ix_proc.proofs.Found.{process_is, status_is}
+use Rattle.ix_proc.specs.{Table.{ProcTable, EndedChild}, Slots.{pid_in, record_at, lookup, led, found, process_in, laid, table_of, AreSlots, is_child_record}}
+use Rattle.ix_proc.specs.{Kin.{linked, AreKin}, declared.slot.{Slot.Slot, Record.Record}}
+use Rattle.ix_proc.proofs.{Looking.lookup_at, Linked.linked_none, Found.{process_is, status_is}}
 use Rattle.ix_proc.proofs.Children.{lives_in, has_child_is, ended_is, ended_slot, ended_test, none_ended, first_found}
-use Rattle.ix_model.specs.declared.ids.Pid.{Pid}
-use Rattle.ix_proc.specs.declared.slot.Slot.{Slot}
-use Rattle.ix_proc.specs.declared.slot.Record.{Record}
 
 module _ (t : List Slot) (rs : List Record) (n limit : ℕ) (k : Chains) (are : AreSlots t rs n) (kin : AreKin t rs k limit) (table : ProcTable)
     (view : table_of (laid t rs n) limit ≡ table) (p : ℕ) where

@@ -1,24 +1,12 @@
 -- The first slot that passes a test is that of the lowest pid whose process passes it.
-use Rattle.std.proofs.Common.{◌≡◌, ◌<◌, ◌+◌, ◌==◌, ℕ, Bool, true, false, true≢false, ◌&&◌, List, [], ◌∷◌, length, position, cond, nat_lt}
-use Rattle.std.proofs.Common.{if◌then◌else◌, Option, Some, None, is_some, option_map, slice_get, refl, sym, ap, subst, ◌∙◌, arith, inl, inr}
-use Rattle.std.specs.Option.{option_map_or}
-use Rattle.std.specs.List.{find, list_any, position_or_len}
-use Rattle.std.proofs.lemmas.List.{length-map}
-use Rattle.std.proofs.lemmas.List.Sums.{position_or_len_is}
-use Rattle.std.proofs.lemmas.Bool.Decides.{eqb_tells, nat_tests}
-use Rattle.std.proofs.lemmas.Bool.{lt-ltb, le-ltb, cases_lt}
-use Rattle.ix_model.specs.world.Callers.{number_of}
-use Rattle.ix_model.specs.world.World.{Process, at, living, is_ended}
-use Rattle.ix_model.specs.rows.OnProcesses.{is_child}
-use Rattle.ix_proc.specs.Table.{ProcTable}
+use Rattle.std.proofs.Common.{◌≡◌, ◌<◌, ◌+◌, ◌==◌, ℕ, Bool, true, false, true≢false, ◌&&◌, List, [], ◌∷◌, length, position, cond, nat_lt, if◌then◌else◌, Option}
+use Rattle.std.proofs.Common.{Some, None, is_some, option_map, slice_get, refl, sym, ap, subst, ◌∙◌, arith, inl, inr}
+use Rattle.std.specs.{Option.option_map_or, List.{find, list_any, position_or_len}}
+use Rattle.std.proofs.lemmas.{List.{length-map, Sums.position_or_len_is}, Bool.{Decides.{eqb_tells, nat_tests}, lt-ltb, le-ltb, cases_lt}}
+use Rattle.ix_model.specs.{world.{Callers.number_of, World.{Process, at, living, is_ended}}, rows.OnProcesses.is_child, declared.ids.Pid.Pid}
+use Rattle.ix_proc.specs.{Table.ProcTable, Kin.linked, declared.slot.{Slot.Slot, Record.Record}}
+use Rattle.ix_proc.proofs.{Looking.{lookup_above, lookup_below}, Laying.{at_processes, at_laid, length_laid}, Staying.Childless}
 use Rattle.ix_proc.specs.Slots.{pid_in, record_at, process_of, process_in, lookup, led, found, laid, table_of, Above, Rises, AreSlots, is_child_record}
-use Rattle.ix_proc.specs.Kin.{linked}
-use Rattle.ix_proc.proofs.Looking.{lookup_above, lookup_below}
-use Rattle.ix_proc.proofs.Laying.{at_processes, at_laid, length_laid}
-use Rattle.ix_proc.proofs.Staying.{Childless}
-use Rattle.ix_model.specs.declared.ids.Pid.{Pid}
-use Rattle.ix_proc.specs.declared.slot.Slot.{Slot}
-use Rattle.ix_proc.specs.declared.slot.Record.{Record}
 
 some_if : (b : Bool) (n : ℕ) → is_some (cond b (Some n) None) ≡ b
 some_if true n = refl

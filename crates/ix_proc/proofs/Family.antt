@@ -1,20 +1,12 @@
 -- A process more, another record in its place, and one that goes keep the chains of children true.
-use Rattle.std.proofs.Common.{◌≡◌, ◌<◌, ◌≤◌, ◌+◌, ◌==◌, ℕ, true, false, true≢false, List, [], ◌∷◌, ◌++◌, length, length-append, nat_lt, Option, Some}
-use Rattle.std.proofs.Common.{None, is_some, option_map, if◌then◌else◌, refl, sym, ap, ◌∙◌, arith, inl, inr, get_or}
-use Rattle.std.specs.Option.{option_map_or}
-use Rattle.std.proofs.lemmas.List.{map-append}
-use Rattle.std.proofs.lemmas.Bool.Decides.{eqb_tells}
-use Rattle.std.proofs.lemmas.Bool.{cases_lt, lt-ltb, le-ltb}
-use Rattle.ix_model.specs.world.World.{living}
-use Rattle.ix_links.specs.Chains.{Chains, times}
-use Rattle.ix_links.proofs.Running.{times-append, times_other}
-use Rattle.ix_proc.specs.Slots.{pid_in, record_at, lookup, found, process_in, is_child_record, AreSlots}
-use Rattle.ix_proc.specs.Kin.{linked, AreKin}
-use Rattle.ix_proc.proofs.Looking.{lookup_at, lookup_below}
-use Rattle.ix_proc.proofs.Linked.{links, times_same, linked_none}
-use Rattle.ix_model.specs.declared.ids.Pid.{Pid}
-use Rattle.ix_proc.specs.declared.slot.Slot.{Slot}
-use Rattle.ix_proc.specs.declared.slot.Record.{Record}
+use Rattle.std.proofs.Common.{◌≡◌, ◌<◌, ◌≤◌, ◌+◌, ◌==◌, ℕ, true, false, true≢false, List, [], ◌∷◌, ◌++◌, length, length-append, nat_lt, Option, Some, None, sym}
+use Rattle.std.proofs.Common.{is_some, option_map, if◌then◌else◌, refl, ap, ◌∙◌, arith, inl, inr, get_or}
+use Rattle.std.{specs.Option.option_map_or, proofs.lemmas.{List.map-append, Bool.{Decides.eqb_tells, cases_lt, lt-ltb, le-ltb}}}
+use Rattle.ix_model.specs.{world.World.living, declared.ids.Pid.Pid}
+use Rattle.ix_links.{specs.Chains.{Chains, times}, proofs.Running.{times-append, times_other}}
+use Rattle.ix_proc.specs.{Slots.{pid_in, record_at, lookup, found, process_in, is_child_record, AreSlots}, Kin.{linked, AreKin}}
+use Rattle.ix_proc.specs.declared.slot.{Slot.Slot, Record.Record}
+use Rattle.ix_proc.proofs.{Looking.{lookup_at, lookup_below}, Linked.{links, times_same, linked_none}}
 
 -- a slot that a look-up finds stands in the list
 pub found_times : (t : List Slot) (p : ℕ) (s : Slot) → lookup t p ≡ Some s → 1 ≤ times s.link (links t)

@@ -1,13 +1,10 @@
 -- What the tables show of the slots and records that stand behind them.
 use Rattle.std.proofs.Common.{◌≡◌, ℕ, true, true≢false, List, length, Option, Some, None, is_some, option_map, sym, ap, ◌∙◌, subst, get_or, set}
-use Rattle.std.specs.List.{remove}
-use Rattle.std.proofs.lemmas.List.{length-map}
+use Rattle.std.{specs.List.remove, proofs.lemmas.List.length-map}
 use Rattle.ix_model.specs.world.World.{at}
-use Rattle.ix_proc.specs.Table.{ProcTable, collected}
+use Rattle.ix_proc.specs.{Table.{ProcTable, collected}, declared.slot.{Slot.Slot, Record.Record}}
 use Rattle.ix_proc.specs.Slots.{record_at, process_of, process_in, status_in, table_of, with_record, lookup, laid, AreSlots, Finds}
 use Rattle.ix_proc.proofs.Laying.{at_laid, length_laid, at_processes, at_statuses, tables_set, record_of, laid_set, laid_remove, found_slot}
-use Rattle.ix_proc.specs.declared.slot.Slot.{Slot}
-use Rattle.ix_proc.specs.declared.slot.Record.{Record}
 
 -- a slot that was found and read leads to the record of its pid
 pub slot_of : (t : List Slot) (rs : List Record) (n : ℕ) → AreSlots t rs n → (k p : ℕ) (s : Slot) → Finds (Some k) t p → s ≡ get_or t k s → lookup t p ≡ Some s

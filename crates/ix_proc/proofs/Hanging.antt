@@ -1,19 +1,12 @@
 -- What hangs on a chain, and the chains after one of them was edited.
-use Rattle.std.proofs.Common.{◌≡◌, ◌≢◌, ◌<◌, ◌≤◌, ◌+◌, ◌==◌, ℕ, Bool, true, false, List, [], length, Option, Some, None, is_some, is_none, refl, sym, ap, ◌∙◌, subst, arith, inl, inr, get_or, set}
-use Rattle.std.specs.Option.{option_map_or}
-use Rattle.std.proofs.lemmas.List.{get_or-set_same, get_or-set_other}
-use Rattle.std.proofs.lemmas.Bool.Decides.{eqb_tells}
-use Rattle.std.proofs.lemmas.Bool.{cases_lt, lt-ltb, le-ltb}
+use Rattle.std.proofs.Common.{◌≡◌, ◌≢◌, ◌<◌, ◌≤◌, ◌+◌, ◌==◌, ℕ, Bool, true, false, List, [], length, Option, Some, None, is_some, is_none, refl, sym, ap, ◌∙◌}
+use Rattle.std.proofs.Common.{subst, arith, inl, inr, get_or, set}
+use Rattle.std.{specs.Option.option_map_or, proofs.lemmas.{List.{get_or-set_same, get_or-set_other}, Bool.{Decides.eqb_tells, cases_lt, lt-ltb, le-ltb}}}
 use Rattle.ix_links.specs.Chains.{Chains, times, chain_of}
-use Rattle.ix_proc.specs.Slots.{lookup, led, process_in, is_child_record, AreSlots, Rises, Finds}
-use Rattle.ix_proc.specs.Kin.{linked, is_root, AreKin, Hangs}
-use Rattle.ix_model.specs.world.World.{living}
-use Rattle.ix_proc.proofs.Looking.{lookup_at}
-use Rattle.ix_proc.proofs.Linked.{links}
-use Rattle.ix_proc.proofs.Family.{found_times}
-use Rattle.ix_model.specs.declared.ids.Pid.{Pid}
-use Rattle.ix_proc.specs.declared.slot.Slot.{Slot}
-use Rattle.ix_proc.specs.declared.slot.Record.{Record}
+use Rattle.ix_proc.specs.{Slots.{lookup, led, process_in, is_child_record, AreSlots, Rises, Finds}, Kin.{linked, is_root, AreKin, Hangs}}
+use Rattle.ix_proc.specs.declared.slot.{Slot.Slot, Record.Record}
+use Rattle.ix_model.specs.{world.World.living, declared.ids.Pid.Pid}
+use Rattle.ix_proc.proofs.{Looking.lookup_at, Linked.links, Family.found_times}
 
 -- a process that lives has a slot
 pub lives_there : (t : List Slot) (rs : List Record) (q : ℕ) → is_some (living (process_in (led rs (lookup t q)))) ≡ true → is_some (lookup t q) ≡ true

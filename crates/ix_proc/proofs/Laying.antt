@@ -1,20 +1,14 @@
 -- A change of the slots or the records is a change of what is laid out by pid, and that of the tables.
-use Rattle.std.proofs.Common.{◌≡◌, ◌≢◌, ◌<◌, ◌+◌, ◌==◌, ℕ, Bool, true, false, List, [], ◌∷◌, ◌++◌, map, length, length-append, count_by, cond, Option}
-use Rattle.std.proofs.Common.{Some, None, is_some, refl, sym, ap, ◌∙◌, subst, arith, inl, inr, get_or, set}
+use Rattle.std.proofs.Common.{◌≡◌, ◌≢◌, ◌<◌, ◌+◌, ◌==◌, ℕ, Bool, true, false, List, [], ◌∷◌, ◌++◌, map, length, length-append, count_by, cond, Option, Some, ap}
+use Rattle.std.proofs.Common.{None, is_some, refl, sym, ◌∙◌, subst, arith, inl, inr, get_or, set}
 use Rattle.std.specs.List.{remove, range_with_len}
-use Rattle.std.proofs.lemmas.List.{map-set, map-append, length-set, get_or_past, same_lists, get_or-set_same, get_or-set_other}
-use Rattle.std.proofs.Math.ListN.{get_or-map}
-use Rattle.std.proofs.lemmas.List.Edits.{length-remove}
-use Rattle.std.proofs.lemmas.List.Sums.{sum_by-set, sum_by_push, sum_by-cons}
-use Rattle.std.proofs.lemmas.List.FromFn.{get_or-map-range_with_len, length-map-range_with_len, map-range_with_len_more}
-use Rattle.std.proofs.lemmas.Bool.Decides.{eqb_tells, nat_tests}
-use Rattle.std.proofs.lemmas.Bool.{cases_lt}
+use Rattle.std.proofs.{lemmas.List.{map-set, map-append, length-set, get_or_past, same_lists, get_or-set_same, get_or-set_other}, lemmas.Bool.cases_lt}
+use Rattle.std.proofs.{lemmas.List.Edits.length-remove, lemmas.List.Sums.{sum_by-set, sum_by_push, sum_by-cons}, lemmas.Bool.Decides.{eqb_tells, nat_tests}}
+use Rattle.std.proofs.{lemmas.List.FromFn.{get_or-map-range_with_len, length-map-range_with_len, map-range_with_len_more}, Math.ListN.get_or-map}
 use Rattle.ix_model.specs.world.World.{Process, at}
-use Rattle.ix_proc.specs.Table.{with_process, no_processes}
+use Rattle.ix_proc.specs.{Table.{with_process, no_processes}, declared.slot.{Slot.Slot, Record.Record}}
 use Rattle.ix_proc.specs.Slots.{pid_in, record_at, process_of, process_in, status_in, table_of, lookup, led, found, laid, Below, AreSlots, Finds}
 use Rattle.ix_proc.proofs.Looking.{lookup_below, lookup_at, lookup_remove, lookup_push, rises_remove, below_remove, rises_push, below_push}
-use Rattle.ix_proc.specs.declared.slot.Slot.{Slot}
-use Rattle.ix_proc.specs.declared.slot.Record.{Record}
 
 -- ---- what is laid out
 pub length_laid : (t : List Slot) (rs : List Record) (n : ℕ) → length (laid t rs n) ≡ n

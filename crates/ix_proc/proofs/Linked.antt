@@ -1,14 +1,9 @@
 -- The links of the records that pass a test, after a change.
-use Rattle.std.proofs.Common.{◌≡◌, ◌≢◌, ◌<◌, ◌≤◌, ◌+◌, ℕ, zero, suc, Bool, true, false, List, [], ◌∷◌, ◌++◌, map, length, if◌then◌else◌, refl, sym, ap, ◌∙◌, arith, inl, inr, get_or, set}
-use Rattle.std.specs.List.{remove}
-use Rattle.std.proofs.lemmas.List.{get_or-set_same, get_or-set_other}
-use Rattle.std.proofs.lemmas.Bool.Decides.{eqb_tells}
-use Rattle.ix_links.specs.Chains.{times, without}
-use Rattle.ix_links.proofs.Running.{times_other, times_skip}
-use Rattle.ix_proc.specs.Slots.{record_at}
-use Rattle.ix_proc.specs.Kin.{linked}
-use Rattle.ix_proc.specs.declared.slot.Slot.{Slot}
-use Rattle.ix_proc.specs.declared.slot.Record.{Record}
+use Rattle.std.proofs.Common.{◌≡◌, ◌≢◌, ◌<◌, ◌≤◌, ◌+◌, ℕ, zero, suc, Bool, true, false, List, [], ◌∷◌, ◌++◌, map, length, if◌then◌else◌, refl, sym, ap, ◌∙◌}
+use Rattle.std.proofs.Common.{arith, inl, inr, get_or, set}
+use Rattle.std.{specs.List.remove, proofs.lemmas.{List.{get_or-set_same, get_or-set_other}, Bool.Decides.eqb_tells}}
+use Rattle.ix_links.{specs.Chains.{times, without}, proofs.Running.{times_other, times_skip}}
+use Rattle.ix_proc.specs.{Slots.record_at, Kin.linked, declared.slot.{Slot.Slot, Record.Record}}
 
 abbrev pub links : List Slot → List ℕ
 links t = map (λ (s : Slot). s.link) t

@@ -1,23 +1,14 @@
 -- A new process behind those of its chain keeps the chains of children true.
-use Rattle.std.proofs.Common.{◌≡◌, ◌≢◌, ◌<◌, ◌==◌, ℕ, Bool, true, false, true≢false, List, [], ◌∷◌, ◌++◌, length, cond, Option, Some, None, is_some}
-use Rattle.std.proofs.Common.{if◌then◌else◌, refl, sym, ap, ◌∙◌, subst, arith, inl, inr, get_or, set}
+use Rattle.std.proofs.Common.{◌≡◌, ◌≢◌, ◌<◌, ◌==◌, ℕ, Bool, true, false, true≢false, List, [], ◌∷◌, ◌++◌, length, cond, Option, Some, None, is_some, refl, sym}
+use Rattle.std.proofs.Common.{if◌then◌else◌, ap, ◌∙◌, subst, arith, inl, inr, get_or, set}
 use Rattle.std.specs.Option.{option_map_or}
-use Rattle.std.proofs.lemmas.List.{get_or-set_same, get_or-set_other, length-set, length-append, map-append}
-use Rattle.std.proofs.lemmas.Bool.Decides.{eqb_tells}
-use Rattle.ix_model.specs.world.World.{living}
-use Rattle.ix_links.specs.Chains.{Chains, times, chain_of, back_moved, pushed_back}
-use Rattle.ix_links.proofs.Running.{times-append}
-use Rattle.ix_links.proofs.Listing.{total-set}
-use Rattle.ix_proc.specs.Slots.{pid_in, record_at, lookup, led, found, process_of, process_in, is_child_record, AreSlots, Below}
-use Rattle.ix_proc.specs.Kin.{linked, AreKin, Hangs}
-use Rattle.ix_proc.proofs.Looking.{lookup_push}
-use Rattle.ix_proc.proofs.Linked.{links, linked_push}
-use Rattle.ix_proc.proofs.Laying.{below_next}
+use Rattle.std.proofs.lemmas.{List.{get_or-set_same, get_or-set_other, length-set, length-append, map-append}, Bool.Decides.eqb_tells}
+use Rattle.ix_model.specs.{world.World.living, declared.ids.Pid.Pid}
+use Rattle.ix_links.{specs.Chains.{Chains, times, chain_of, back_moved, pushed_back}, proofs.{Running.times-append, Listing.total-set}}
+use Rattle.ix_proc.specs.{Slots.{pid_in, record_at, lookup, led, found, process_of, process_in, is_child_record, AreSlots, Below}, Kin.{linked, AreKin, Hangs}}
+use Rattle.ix_proc.specs.declared.slot.{Slot.Slot, Record.Record}
+use Rattle.ix_proc.proofs.{Looking.lookup_push, Linked.{links, linked_push}, Laying.below_next, Hanging.{in_chains, apart, children_edited, roots_edited}}
 use Rattle.ix_proc.proofs.Family.{childless, found_times, free_link, whole_pushed, spare_pushed}
-use Rattle.ix_proc.proofs.Hanging.{in_chains, apart, children_edited, roots_edited}
-use Rattle.ix_model.specs.declared.ids.Pid.{Pid}
-use Rattle.ix_proc.specs.declared.slot.Slot.{Slot}
-use Rattle.ix_proc.specs.declared.slot.Record.{Record}
 
 ends : (l : List ℕ) → l ++ [] ≡ l
 ends [] = refl

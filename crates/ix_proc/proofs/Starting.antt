@@ -1,12 +1,8 @@
 -- Before there is any process.
 use Rattle.std.proofs.Common.{◌≡◌, ◌+◌, ℕ, zero, suc, List, [], length, replicate, refl, sym, subst, arith, get_or}
-use Rattle.std.proofs.lemmas.List.{length-replicate}
-use Rattle.std.proofs.lemmas.List.FromFn.{length-range_with_len}
-use Rattle.ix_links.specs.Chains.{Chains, all_free}
-use Rattle.ix_links.proofs.Making.{times-range, total-empty}
-use Rattle.ix_proc.specs.Kin.{AreKin}
-use Rattle.ix_proc.specs.declared.slot.Slot.{Slot}
-use Rattle.ix_proc.specs.declared.slot.Record.{Record}
+use Rattle.std.proofs.lemmas.List.{length-replicate, FromFn.length-range_with_len}
+use Rattle.ix_links.{specs.Chains.{Chains, all_free}, proofs.Making.{times-range, total-empty}}
+use Rattle.ix_proc.specs.{Kin.AreKin, declared.slot.{Slot.Slot, Record.Record}}
 
 no_chain : (m i : ℕ) → get_or (replicate {A = List ℕ} m []) i [] ≡ []
 no_chain zero i = refl

@@ -1,24 +1,14 @@
 -- Another record in its place, and one that goes, keep the chains of children true.
-use Rattle.std.proofs.Common.{◌≡◌, ◌≢◌, ◌<◌, ◌+◌, ◌==◌, ℕ, zero, suc, Bool, true, false, true≢false, List, [], ◌∷◌, length, Option, Some, None}
-use Rattle.std.proofs.Common.{is_some, is_none, if◌then◌else◌, refl, sym, ap, ◌∙◌, subst, arith, inl, inr, get_or, set}
-use Rattle.std.specs.Option.{option_map_or}
-use Rattle.std.specs.List.{remove, Contains}
-use Rattle.std.proofs.lemmas.List.{get_or-set_same, get_or-set_other, length-set, length-append}
-use Rattle.std.proofs.lemmas.List.Edits.{length-remove}
-use Rattle.std.proofs.lemmas.Bool.Decides.{eqb_tells}
-use Rattle.ix_model.specs.world.World.{living}
-use Rattle.ix_links.specs.Chains.{Chains, times, chain_of, without, removed}
-use Rattle.ix_links.proofs.Running.{times_other}
-use Rattle.ix_links.proofs.Listing.{total-set, split, times_contained}
+use Rattle.std.proofs.Common.{◌≡◌, ◌≢◌, ◌<◌, ◌+◌, ◌==◌, ℕ, zero, suc, Bool, true, false, true≢false, List, [], ◌∷◌, length, Option, Some, None, is_some, refl}
+use Rattle.std.proofs.Common.{is_none, if◌then◌else◌, sym, ap, ◌∙◌, subst, arith, inl, inr, get_or, set}
+use Rattle.std.specs.{Option.option_map_or, List.{remove, Contains}}
+use Rattle.std.proofs.lemmas.{List.{get_or-set_same, get_or-set_other, length-set, length-append, Edits.length-remove}, Bool.Decides.eqb_tells}
+use Rattle.ix_model.specs.{world.World.living, declared.ids.Pid.Pid}
+use Rattle.ix_links.{specs.Chains.{Chains, times, chain_of, without, removed}, proofs.{Running.times_other, Listing.{total-set, split, times_contained}}}
 use Rattle.ix_proc.specs.Slots.{pid_in, record_at, lookup, led, found, process_of, process_in, is_child_record, AreSlots, Finds}
-use Rattle.ix_proc.specs.Kin.{linked, is_root, AreKin, Hangs}
-use Rattle.ix_proc.proofs.Looking.{lookup_at}
-use Rattle.ix_proc.proofs.Linked.{links, linked_set, linked_remove, linked_none, without_none}
-use Rattle.ix_proc.proofs.Laying.{seen_set, found_slot, gone, still}
+use Rattle.ix_proc.specs.{Kin.{linked, is_root, AreKin, Hangs}, declared.slot.{Slot.Slot, Record.Record}}
+use Rattle.ix_proc.proofs.{Looking.lookup_at, Linked.{links, linked_set, linked_remove, linked_none, without_none}, Laying.{seen_set, found_slot, gone, still}}
 use Rattle.ix_proc.proofs.Hanging.{link_once, child_is, in_chains, apart, children_edited, roots_edited}
-use Rattle.ix_model.specs.declared.ids.Pid.{Pid}
-use Rattle.ix_proc.specs.declared.slot.Slot.{Slot}
-use Rattle.ix_proc.specs.declared.slot.Record.{Record}
 
 -- no record has that parent
 abbrev pub Childless : List Slot → List Record → ℕ → Type 0

@@ -1,17 +1,10 @@
 -- What is left of a chain from one of its links on.
-use Rattle.std.proofs.Common.{◌≡◌, ◌≢◌, ◌<◌, ◌≤◌, ◌+◌, ◌==◌, ℕ, zero, suc, Bool, true, false, List, [], ◌∷◌, length, Option, Some, None}
-use Rattle.std.proofs.Common.{if◌then◌else◌, slice_get, refl, sym, ap, subst, ◌∙◌, arith, inl, inr}
-use Rattle.std.specs.List.{find}
-use Rattle.std.proofs.lemmas.Bool.Decides.{eqb_tells}
-use Rattle.std.proofs.lemmas.Bool.{cases_lt, le-ltb}
-use Rattle.ix_links.specs.Chains.{Chains, times, chain_of}
-use Rattle.ix_links.proofs.Running.{times_skip}
-use Rattle.ix_proc.specs.Slots.{lookup, is_child_record, AreSlots}
-use Rattle.ix_proc.specs.Kin.{linked, AreKin, IsWalk}
-use Rattle.ix_proc.proofs.Linked.{links, times_same, linked_few}
-use Rattle.ix_proc.proofs.Hanging.{link_once}
-use Rattle.ix_proc.specs.declared.slot.Slot.{Slot}
-use Rattle.ix_proc.specs.declared.slot.Record.{Record}
+use Rattle.std.proofs.Common.{◌≡◌, ◌≢◌, ◌<◌, ◌≤◌, ◌+◌, ◌==◌, ℕ, zero, suc, Bool, true, false, List, [], ◌∷◌, length, Option, Some, None, if◌then◌else◌, refl}
+use Rattle.std.proofs.Common.{slice_get, sym, ap, subst, ◌∙◌, arith, inl, inr}
+use Rattle.std.{specs.List.find, proofs.lemmas.Bool.{Decides.eqb_tells, cases_lt, le-ltb}}
+use Rattle.ix_links.{specs.Chains.{Chains, times, chain_of}, proofs.Running.times_skip}
+use Rattle.ix_proc.specs.{Slots.{lookup, is_child_record, AreSlots}, Kin.{linked, AreKin, IsWalk}, declared.slot.{Slot.Slot, Record.Record}}
+use Rattle.ix_proc.proofs.{Linked.{links, times_same, linked_few}, Hanging.link_once}
 
 abbrev pub rest_from : Option ℕ → List ℕ → List ℕ
 rest_from None xs = []

@@ -1,11 +1,8 @@
-ghost use Rattle.std.specs.Prelude.{◌≡◌, ℕ, ◌+◌, ◌-◌, ◌<◌, ◌^◌, Bool, true, false, not, IsTrue, IfOk, IfSome, slice_index_or, length, count_by, is_some, Some, position, ◌&&◌};
-ghost use Rattle.std.specs.Option.{option_copied, option_map_or, option_and_then};
-ghost use Rattle.std.specs.List.{list_any};
-ghost use Rattle.std.proofs.Common.{option_map};
-ghost use Rattle.ix_model.specs.world.World.{Process, at, put, change, living, is_ended};
-ghost use Rattle.ix_model.specs.world.Callers.{number_of, caller_of, with_caller};
-ghost use Rattle.ix_model.specs.rows.OnProcesses.{has_kept, is_child};
-ghost use Rattle.ix_model.specs.history.Views.{shown_of};
+ghost use Rattle.std.specs.Prelude.{◌≡◌, ℕ, ◌+◌, ◌-◌, ◌<◌, ◌^◌, Bool, true, false, not, IsTrue, IfOk, IfSome, slice_index_or, length, count_by, is_some, Some};
+ghost use Rattle.std.specs.Prelude.{position, ◌&&◌};
+ghost use Rattle.std.{specs.{Option.{option_copied, option_map_or, option_and_then}, List.{list_any}}, proofs.Common.{option_map}};
+ghost use Rattle.ix_model.specs.world.{World.{Process, at, put, change, living, is_ended}, Callers.{number_of, caller_of, with_caller}};
+ghost use Rattle.ix_model.specs.{rows.OnProcesses.{has_kept, is_child}, history.Views.{shown_of}};
 ghost use Rattle.ix_proc.specs.Table.{no_processes, Adds, starting, child_of, ended, collected, EndedChild};
 ghost use Rattle.ix_proc.specs.Slots.{process_of, process_in, status_in, with_record, new_record};
 
@@ -36,12 +33,9 @@ pub struct Procs {
 }
 
 impl Model for Procs {
-    ghost use Rattle.std.specs.Prelude.{vec_capacity, ◌≡◌, ◌<◌, ◌^◌, length};
-    ghost use Rattle.std.specs.Coded.{codes};
+    ghost use Rattle.std.specs.{Prelude.{vec_capacity, ◌≡◌, ◌<◌, ◌^◌, length}, Coded.{codes}};
     ghost use Rattle.ix_label.specs.contracts.label.Label as label_type;
-    ghost use Rattle.ix_proc.specs.Table.{ProcTable};
-    ghost use Rattle.ix_proc.specs.Slots.{table_of, laid, AreSlots};
-    ghost use Rattle.ix_proc.specs.Kin.{AreKin};
+    ghost use Rattle.ix_proc.specs.{Table.{ProcTable}, Slots.{table_of, laid, AreSlots}, Kin.{AreKin}};
 
     ghost Value = { ProcTable };
 

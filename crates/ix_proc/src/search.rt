@@ -1,8 +1,6 @@
-ghost use Rattle.std.specs.Prelude.{◌≡◌, ℕ, ◌<◌, length, is_some, true, Some};
-ghost use Rattle.std.specs.List.{find};
+ghost use Rattle.std.specs.{Prelude.{◌≡◌, ℕ, ◌<◌, length, is_some, true, Some}, List.{find}};
 ghost use Rattle.ix_links.specs.Chains.{chain_of, pool};
-ghost use Rattle.ix_proc.specs.Slots.{Rises, Finds, record_at};
-ghost use Rattle.ix_proc.specs.Kin.{Hangs, Parented, IsWalk};
+ghost use Rattle.ix_proc.specs.{Slots.{Rises, Finds, record_at}, Kin.{Hangs, Parented, IsWalk}};
 
 use crate::slot::{Record, Slot};
 use ix_links::Links;

@@ -1,8 +1,7 @@
 -- The names of a path are written byte by byte.
 use Rattle.std.proofs.Common.{◌≡◌, ℕ, ◌<◌, ◌==◌, List, [], ◌∷◌, ◌++◌, length, map, inl, inr, refl, sym, ap, ◌∙◌, append_assoc, arith}
 use Rattle.std.proofs.lemmas.Bool.{cases_Bool, eqb-true}
-use Rattle.ix_model.specs.world.Texts.{with_front, between_slashes, names_in}
-use Rattle.ix_model.proofs.texts.Joining.{some_piece}
+use Rattle.ix_model.{specs.world.Texts.{with_front, between_slashes, names_in}, proofs.texts.Joining.some_piece}
 use Rattle.ix_text.specs.Spellings.{further}
 use Rattle.ix_report.specs.Names.{name_byte, name_text, names_text, relative_text}
 

@@ -1,11 +1,8 @@
 -- Bytes and numbers as pairs of digits.
 use Rattle.std.proofs.Common.{◌≡◌, ℕ, suc, ◌+◌, ◌/◌, ◌%◌, ◌<◌, ◌≤◌, ◌^◌, List, [], ◌∷◌, ◌++◌, length, take, drop, refl, sym, ap, ◌∙◌, arith, append_assoc}
-use Rattle.std.proofs.Math.ListN.{set, length-set}
-use Rattle.std.proofs.Math.Seq.{take-suc-set}
-use Rattle.std.proofs.lemmas.List.{take-append-drop}
-use Rattle.std.proofs.lemmas.Fmt.{decimal_digit, decimal_step, length-decimal-le}
+use Rattle.std.proofs.Math.{ListN.{set, length-set}, Seq.take-suc-set}
+use Rattle.std.proofs.lemmas.{List.take-append-drop, Fmt.{decimal_digit, decimal_step, length-decimal-le}, Grind.flat_map-append}
 use Rattle.std.specs.Fmt.{decimal}
-use Rattle.std.proofs.lemmas.Grind.{flat_map-append}
 use Rattle.ix_text.specs.Spellings.{hex_pair}
 use Rattle.ix_report.specs.Hex.{hex}
 

@@ -1,13 +1,8 @@
-ghost use Rattle.std.specs.Prelude.{◌≡◌, ◌++◌, OnOk, codes};
-ghost use Rattle.std.specs.Fmt.{decimal};
-ghost use Rattle.ix_model.specs.history.Calls.{op_of};
-ghost use Rattle.ix_model.specs.world.Paths.{path_of};
+ghost use Rattle.std.specs.{Prelude.{◌≡◌, ◌++◌, OnOk, codes}, Fmt.{decimal}};
+ghost use Rattle.ix_model.specs.{history.Calls.{op_of}, world.Paths.{path_of}};
 ghost use Rattle.ix_label.specs.Spelling.{spelling};
-ghost use Rattle.ix_report.specs.Hex.{hex};
-ghost use Rattle.ix_report.specs.Names.{path_text};
+ghost use Rattle.ix_report.specs.{Hex.{hex}, Names.{path_text}, Words.{keep_text}, CallText.{call_text}};
 ghost use Rattle.ix_text.specs.Spellings.{mode_text, privs_text};
-ghost use Rattle.ix_report.specs.Words.{keep_text};
-ghost use Rattle.ix_report.specs.CallText.{call_text};
 
 use crate::line::Line;
 use crate::pieces::{push_hex, push_number, push_path, push_privs};

@@ -1,9 +1,7 @@
-ghost use Rattle.std.specs.Prelude.{◌≡◌, ◌*◌, ◌≤◌, ◌++◌, length, take, OnOk, codes};
-ghost use Rattle.std.specs.Fmt.{decimal};
+ghost use Rattle.std.specs.{Prelude.{◌≡◌, ◌*◌, ◌≤◌, ◌++◌, length, take, OnOk, codes}, Fmt.{decimal}};
 ghost use Rattle.ix_model.specs.world.Paths.{path_of};
 ghost use Rattle.ix_text.specs.Spellings.{hex_pair, privs_text};
-ghost use Rattle.ix_report.specs.Hex.{hex};
-ghost use Rattle.ix_report.specs.Names.{name_byte, name_text, names_text, path_text};
+ghost use Rattle.ix_report.specs.{Hex.{hex}, Names.{name_byte, name_text, names_text, path_text}};
 
 use crate::line::Line;
 use itoa::{Buffer, write_digits};

@@ -1,13 +1,8 @@
-ghost use Rattle.std.specs.Prelude.{◌≡◌, ◌++◌, OnOk, codes};
-ghost use Rattle.std.specs.Fmt.{decimal};
+ghost use Rattle.std.specs.{Prelude.{◌≡◌, ◌++◌, OnOk, codes}, Fmt.{decimal}};
 ghost use Rattle.ix_model.specs.rows.Refusals.{number_of};
 ghost use Rattle.ix_label.specs.Spelling.{spelling};
-ghost use Rattle.ix_report.specs.Hex.{hex};
-ghost use Rattle.ix_report.specs.Names.{name_text};
-ghost use Rattle.ix_report.specs.RefusalText.{refusal_text};
+ghost use Rattle.ix_report.specs.{Hex.{hex}, Names.{name_text}, RefusalText.{refusal_text}, Words.{act_text, kind_text}, ReplyText.{audit_text, reply_text}};
 ghost use Rattle.ix_text.specs.Spellings.{privs_text, state_text};
-ghost use Rattle.ix_report.specs.Words.{act_text, kind_text};
-ghost use Rattle.ix_report.specs.ReplyText.{audit_text, reply_text};
 
 use crate::line::Line;
 use crate::pieces::{push_escaped, push_hex, push_number, push_privs};

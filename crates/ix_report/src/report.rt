@@ -1,9 +1,6 @@
-ghost use Rattle.std.specs.Prelude.{◌≡◌, ℕ, ◌++◌, OnOk, OnErr};
-ghost use Rattle.std.specs.Option.{option_copied};
-ghost use Rattle.ix_model.specs.history.Calls.{op_of};
-ghost use Rattle.ix_model.specs.history.Made.{entry};
-ghost use Rattle.ix_report.specs.ReplyText.{AreBytesOf};
-ghost use Rattle.ix_report.specs.LineText.{audit_line, entry_line, head_line, object_line, process_line, seen_text, tail_line};
+ghost use Rattle.std.specs.{Prelude.{◌≡◌, ℕ, ◌++◌, OnOk, OnErr}, Option.{option_copied}};
+ghost use Rattle.ix_model.specs.history.{Calls.{op_of}, Made.{entry}};
+ghost use Rattle.ix_report.specs.{ReplyText.{AreBytesOf}, LineText.{audit_line, entry_line, head_line, object_line, process_line, seen_text, tail_line}};
 
 use crate::calls::push_call;
 use crate::line::Line;

@@ -15,7 +15,7 @@ use crate::rules::{check_text, is_policy_line, is_skipped};
 use crate::values::begins_with_text;
 use crate::words::Words;
 use ix_label::Steps;
-use ix_model::NoMemory;
+use ix_model::{List, Name, NoMemory};
 use ix_text::is_script_name;
 use std::alloc::Global;
 use std::sync::ledger::Ledger;
@@ -41,6 +41,15 @@ impl<'a> Draft<'a> {
         })
     }
 
+    /// The lines, and the names of their lanes. What else was kept goes.
+    pub fn parts(self) -> (Lines, List<Name>)
+        ensures lines { result.0 ≡ self.entry.lines }
+        ensures lanes { result.1 ≡ self.entry.body.lanes }
+    {
+        let body = self.body;
+        (self.lines, body.lanes)
+    }
+
     /// One line more, which the text says. After an error the draft isn't used.
     fn add(&mut self, alloc: Global, text: &[u8], line: &Line<'a>) -> Result<(), NoMemory>
         requires told { DraftTold self.old }
@@ -55,8 +64,7 @@ impl<'a> Draft<'a> {
         self.header.add(alloc, first, line)?;
         self.body.add(alloc, line)?;
         self.lines
-            .push(form, text, role_of(line), cost_of_line(line))?;
-        Ok(())
+            .push(form, text, role_of(line), cost_of_line(line))
     }
 
     /// The fault of the next line, by the rule that it breaks.
@@ -116,7 +124,7 @@ impl<'a> Draft<'a> {
         self.lines.push(self.lines.form(), text, Role::Lane, 0)
     }
 
-    /// The line of a form that is no entry beyond doubt; else its fault by the rules on what it says.
+    /// Adds the line of a form whose words break no rule by themselves, or tells its fault. No other line clears room for it.
     #[inline(never)]
     fn add_formed<L: Ledger>(
         &mut self,

@@ -74,7 +74,7 @@ pub(crate) fn has_one_spelling(text: &[u8]) -> bool
     !is_skipped(text) && !begins_with_text(b"write", text) && !begins_with_text(b"file", text)
 }
 
-/// How many line feeds there are. The sum can't wrap, and as one that may many bytes are looked at at once.
+/// How many line feeds there are, up to 2^32 bytes. As a sum that may wrap it looks at many bytes at once.
 fn feeds_in(bytes: &[u8]) -> usize {
     let mut feeds = 0u32;
     for b in bytes {

@@ -80,7 +80,8 @@ fn read_with<L: Ledger>(alloc: Global, bytes: &[u8], blank: Blank) -> Result<Scr
     }
     let mut steps = Steps::<L>::new(blank);
     let draft = draft_of(alloc, bytes, &mut steps)?;
-    let script = Script::of(alloc, draft)?;
+    let (lines, lanes) = draft.parts();
+    let script = Script::of(alloc, lines, lanes)?;
     Ok(script)
 }
 

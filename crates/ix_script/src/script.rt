@@ -1,8 +1,7 @@
 ghost use Rattle.std.{specs.Prelude.{◌≡◌, ◌≤◌, ◌-◌, ◌==◌, length, slice_get, true, None, if◌then◌else◌, IfOk, IsTrue}, proofs.Common.{option_map}};
-ghost use Rattle.ix_script.specs.{lines.Before.{form_told, lanes_of, commands}, lines.Roles.{role_of}, reader.Told.{DraftTold}, scripts.Need.{need}};
+ghost use Rattle.ix_script.specs.{lines.Before.{form_told, lanes_of, commands}, lines.Roles.{role_of}, scripts.Need.{need}};
 ghost use Rattle.{ix_script.specs.{scripts.Schedule.{LanesOnce, phases, stretches_of}, scripts.Scripts.{config_of, policy_of}}, ix_model.specs.opening.Valid.{is_valid}};
 
-use crate::draft::Draft;
 use crate::line::Line;
 use crate::packed::Lines;
 use crate::plan::config;
@@ -37,21 +36,19 @@ impl Model for Script {
 }
 
 impl Script {
-    /// The script of a draft.
-    pub(crate) fn of(alloc: Global, draft: Draft<'_>) -> Result<Script, NoMemory>
-        requires told { DraftTold draft }
-        requires valid { is_valid (config_of draft.lines) ≡ true }
-        requires few { length draft.lines ≤ 16777216 }
-        requires few_commands { commands draft.lines ≤ 200000 }
-        requires few_lanes { length (lanes_of draft.lines) ≤ 64 }
-        requires once { LanesOnce draft.lines }
-        ensures { IfOk result (λ s. s ≡ draft.entry.lines) }
+    /// The script of these lines, whose lanes have these names.
+    pub(crate) fn of(alloc: Global, lines: Lines, lanes: List<Name>) -> Result<Script, NoMemory>
+        requires named { lanes ≡ lanes_of lines }
+        requires valid { is_valid (config_of lines) ≡ true }
+        requires few { length lines ≤ 16777216 }
+        requires few_commands { commands lines ≤ 200000 }
+        requires few_lanes { length (lanes_of lines) ≤ 64 }
+        requires once { LanesOnce lines }
+        ensures { IfOk result (λ s. s ≡ lines) }
     {
-        let body = draft.body;
-        let lanes = body.lanes;
-        let schedule = Schedule::of(alloc, &draft.lines, lanes.as_slice())?;
+        let schedule = Schedule::of(alloc, &lines, lanes.as_slice())?;
         Ok(Script {
-            lines: draft.lines,
+            lines,
             lanes,
             schedule,
         })

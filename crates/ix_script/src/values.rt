@@ -37,8 +37,7 @@ pub(crate) fn begins_with_digit(word: &[u8]) -> bool
     }
 }
 
-/// The name of a file system, a process, a lane or a descriptor, as a word of a script. It borrows the word, and contracts see
-/// its bytes.
+/// The name of a file system, process, lane or descriptor, as a word of a script. It borrows the word; contracts see its bytes.
 #[derive(Drop)]
 pub struct NameWord<'a> {
     word: &'a [u8],

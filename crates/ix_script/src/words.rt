@@ -1,6 +1,6 @@
 ghost use Rattle.std.specs.{Prelude.{◌≡◌, ℕ, ◌≤◌, ◌<◌, ◌+◌, ◌^◌, ◌∷◌, [], length, take, drop, IfSome, Some, None, map, nat_lt, set, replicate, if◌then◌else◌}, Option.{option_map_or}};
 ghost use Rattle.{ix_script.specs.{lines.Rules.{has_empty_word, has_open_quote}, reader.Cut.{AreWords, end_from}}, ix_text.specs.Bytes.{is_empty}};
-ghost use Rattle.ix_script.specs.texts.Cutting.{after_byte, parts_words, closes, pieces, words_of, word_at, is_closed, is_open};
+ghost use Rattle.ix_script.specs.texts.Cutting.{after_byte, parts_words, closes, pieces, words_of, word_at, is_closed};
 ghost use Rattle.ix_script.specs.declared.words.Spot.TheVariants as spot;
 
 use ix_text::begins;
@@ -72,19 +72,21 @@ impl<'a> Model for Words<'a> {
     ghost invariant = { λ w. AreWords (words_of w.text.now) (map (λ s. s.now) w.first) w.seen.count w.seen.has_empty w.seen.has_open };
 }
 
-/// Where the first word ends that no quotes begin. A search for many bytes at a time costs more than most words do.
+/// Where the first word ends that no quotes begin. Most end within a few bytes, before a search for many at a time pays.
 fn end_of_plain(text: &[u8]) -> usize
     ensures { result ≡ end_from spot.Plain text.now }
 {
-    if text.len() > 128 {
-        return memchr(b' ', text).unwrap_or(text.len());
-    }
-    'bytes: for (i, b) in text.iter().enumerate() {
-        if *b == b' ' {
+    let near = text.len().min(16);
+    'bytes: for i in 0..near {
+        if text[i] == b' ' {
             return i;
         }
     }
-    text.len()
+    let far = &text[near..];
+    if far.is_empty() {
+        return near;
+    }
+    near + memchr(b' ', far).unwrap_or(far.len())
 }
 
 /// Where the first word ends that quotes may begin.
@@ -140,12 +142,6 @@ fn is_closed(word: &[u8]) -> bool
     false
 }
 
-fn is_open(word: &[u8]) -> bool
-    ensures { result ≡ is_open word.now }
-{
-    begins(b'"', word) && !is_closed(word)
-}
-
 /// Keeps the first eight words of a line, in places that have no bytes yet, and tells of all.
 fn cut_into<'a>(text: &'a [u8], first: &mut [&'a [u8]; 8]) -> Seen
     requires { map (λ s. s.now) first.old ≡ replicate 8 [] }
@@ -162,7 +158,7 @@ fn cut_into<'a>(text: &'a [u8], first: &mut [&'a [u8]; 8]) -> Seen
         }
         count += 1;
         has_empty |= word.is_empty();
-        has_open |= is_open(word);
+        has_open |= begins(b'"', word) && !is_closed(word);
         rest = more;
     }
     Seen {

@@ -194,8 +194,7 @@ pub(crate) fn payload<const MOST: u32>(
     shortest_text(out, buffer.as_slice())
 }
 
-/// The canonical text of a line of that text, without a line feed, whose labels are spelled in the form: the text itself,
-/// but for a payload and a skipped line.
+/// The canonical text of a line of that text, without a line feed: the text itself, but for a payload and a skipped line.
 fn write_line(
     out: &mut Vec<u8>,
     buffer: &mut Vec<u8>,

@@ -1,23 +1,12 @@
 -- A serial run that makes its next entry: the journal's room for it, and what is left behind it.
 use Rattle.std.proofs.Common.{◌≡◌, ◌≤◌, ◌+◌, ℕ, List, [], ◌∷◌, ◌++◌, length, Some, refl, sym, ap, ◌∙◌, arith, append_assoc, append-nil, length-append}
-use Rattle.ix_model.specs.history.Cost.{cost_of, cost_of_history}
-use Rattle.ix_model.specs.history.Events.{Event}
-use Rattle.ix_model.specs.history.History.{History, next, with_entry, world_of}
-use Rattle.ix_model.specs.opening.Opening.{opening_world}
-use Rattle.ix_model.specs.world.World.{World}
-use Rattle.ix_model.specs.declared.reply.Answer.{Answer}
+use Rattle.ix_model.specs.{history.{Cost.{cost_of, cost_of_history}, Events.Event, History.{History, next, with_entry, world_of}}, world.World.World}
+use Rattle.ix_model.specs.{opening.Opening.opening_world, declared.reply.{Answer.Answer, Reply.Reply}}
 use Rattle.ix_model.specs.declared.reply.Answer.TheVariants as answer
-use Rattle.ix_model.specs.declared.reply.Reply.{Reply}
 use Rattle.ix_model.proofs.words.Runs.{world_of-none, world_of-push}
-use Rattle.ix_script.specs.declared.line.Line.{Line}
-use Rattle.ix_script.specs.scripts.Need.{need}
-use Rattle.ix_script.specs.scripts.Scripts.{config_of}
-use Rattle.ix_lanes.specs.histories.Serial.{first_names, serial, serial_from}
-use Rattle.ix_lanes.specs.running.Serially.{SerialLeft, entries_left, next_entry}
-use Rattle.ix_lanes.proofs.phased.InOrder.{entries_next}
-use Rattle.ix_lanes.proofs.serially.Costs.{cost-append, cost-cons}
-use Rattle.ix_lanes.proofs.serially.Needs.{whole_fits}
-use Rattle.ix_lanes.proofs.serially.SerialHistories.{serial_serial}
+use Rattle.ix_script.specs.{declared.line.Line.Line, scripts.{Need.need, Scripts.config_of}}
+use Rattle.ix_lanes.specs.{histories.Serial.{first_names, serial, serial_from}, running.Serially.{SerialLeft, entries_left, next_entry}}
+use Rattle.ix_lanes.proofs.{phased.InOrder.entries_next, serially.{Costs.{cost-append, cost-cons}, Needs.whole_fits, SerialHistories.serial_serial}}
 use Rattle.ix_core.specs.Stepping.{StepsTo}
 use Rattle.ix_serial.specs.Running.{Stands}
 use Rattle.std.specs.Prelude.{None}

@@ -1,9 +1,6 @@
-ghost use Rattle.std.specs.Prelude.{◌≡◌, ◌<◌, [], false, true, IfOk, OnErr, OnOk};
-ghost use Rattle.std.proofs.Common.{option_map};
+ghost use Rattle.std.{specs.Prelude.{◌≡◌, ◌<◌, [], false, true, IfOk, OnErr, OnOk}, proofs.Common.{option_map}};
 ghost use Rattle.ix_script.specs.scripts.Scripts.{config_of};
-ghost use Rattle.ix_lanes.specs.asking.Ruled.{rules_told};
-ghost use Rattle.ix_lanes.specs.histories.Serial.{serial};
-ghost use Rattle.ix_lanes.specs.running.Serially.{most_entries};
+ghost use Rattle.ix_lanes.specs.{asking.Ruled.{rules_told}, histories.Serial.{serial}, running.Serially.{most_entries}};
 ghost use Rattle.ix_core.specs.Seen.{KnowsOn};
 ghost use Rattle.ix_serial.specs.Running.{Stands};
 

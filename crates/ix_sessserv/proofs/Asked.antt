@@ -1,27 +1,18 @@
 -- What holds of every call that the session server asks for, and what its calls cost.
 use Rattle.std.proofs.Common.{ℕ, ◌≤◌, false, List, length, Option, Some, None, arith}
 use Rattle.ix_label.specs.Category.{Categories}
-use Rattle.ix_model.specs.history.Cost.{cost_of}
+use Rattle.ix_model.specs.{history.Cost.cost_of, world.Privs.is_empty, declared.{ids.{Fd.Fd, Pid.Pid}, refusal.Refusal.Refusal}}
 use Rattle.ix_model.specs.history.Events as op
-use Rattle.ix_model.specs.world.Privs.{is_empty}
 use Rattle.ix_model.specs.declared.call.Keep.TheVariants as keep
-use Rattle.ix_model.specs.declared.ids.Fd.{Fd}
-use Rattle.ix_model.specs.declared.ids.Pid.{Pid}
-use Rattle.ix_model.specs.declared.refusal.Refusal.{Refusal}
-use Rattle.ix_policy.specs.Deciding.{decide}
+use Rattle.ix_policy.{specs.{Deciding.decide, declared.rule.Rule.Rule}, proofs.Counting.decided-few}
 use Rattle.ix_policy.specs.declared.request.Request.TheVariants as request
-use Rattle.ix_policy.specs.declared.rule.Rule.{Rule}
-use Rattle.ix_policy.proofs.Counting.{decided-few}
-use Rattle.ix_asking.specs.Asking.{Asked}
-use Rattle.ix_asking.specs.declared.serving.outcome.Outcome.{Outcome}
+use Rattle.ix_asking.specs.{Asking.Asked, declared.serving.outcome.Outcome.Outcome, serving.Serving.{Server, tell}}
+use Rattle.ix_asking.proofs.{Every.{AllOf, all-either, all-refused}, Fronts.longest-within, Serves.{HoldsOfLine, all-claimed, all-decided, all-told}}
 use Rattle.ix_asking.specs.declared.serving.outcome.Outcome.TheVariants as outcome
-use Rattle.ix_asking.specs.serving.Serving.{Server, tell}
 use Rattle.ix_asking.proofs.Costs.{Costs, bad-few, claim-costs, costs-either, costs-more, costs-refused, granted-few, refused-few, tell-costs, verdict-costs}
-use Rattle.ix_asking.proofs.Every.{AllOf, all-either, all-refused}
-use Rattle.ix_asking.proofs.Fronts.{longest-within}
-use Rattle.ix_asking.proofs.Serves.{HoldsOfLine, all-claimed, all-decided, all-told}
 use Rattle.ix_sessserv.specs.Messages.{bad_at, begins_request, user_in}
-use Rattle.ix_sessserv.specs.Serving.{all_five, child_in, clear_of, drop_all, fork, give_up, grant_if_any, grant_rest, on_message, on_user, privs_of, serves, set_ceiling, succeed}
+use Rattle.ix_sessserv.specs.Serving.{all_five, child_in, clear_of, drop_all, fork, give_up, grant_if_any, grant_rest, on_message, on_user, privs_of, serves}
+use Rattle.ix_sessserv.specs.Serving.{set_ceiling, succeed}
 
 -- it holds of the calls that set a ceiling to the label of a rule
 abbrev pub HoldsOfCeilings : (Asked → Type 0) → Server → List Rule → Type 0

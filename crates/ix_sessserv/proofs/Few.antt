@@ -1,17 +1,12 @@
 -- How many calls the session server asks for at most.
 use Rattle.std.proofs.Common.{ℕ, ◌≤◌, false, List, Option, Some, None, arith}
 use Rattle.ix_label.specs.Category.{Categories}
-use Rattle.ix_model.specs.world.Privs.{is_empty}
-use Rattle.ix_model.specs.declared.ids.Fd.{Fd}
-use Rattle.ix_model.specs.declared.ids.Pid.{Pid}
-use Rattle.ix_model.specs.declared.refusal.Refusal.{Refusal}
-use Rattle.ix_policy.specs.Deciding.{decide}
+use Rattle.ix_model.specs.{world.Privs.is_empty, declared.{ids.{Fd.Fd, Pid.Pid}, refusal.Refusal.Refusal}}
+use Rattle.ix_policy.specs.{Deciding.decide, declared.rule.Rule.Rule}
 use Rattle.ix_policy.specs.declared.request.Request.TheVariants as request
-use Rattle.ix_policy.specs.declared.rule.Rule.{Rule}
-use Rattle.ix_asking.specs.declared.serving.outcome.Outcome.{Outcome}
-use Rattle.ix_asking.specs.declared.serving.outcome.Outcome.TheVariants as outcome
-use Rattle.ix_asking.specs.serving.Serving.{Server}
+use Rattle.ix_asking.specs.{declared.serving.outcome.Outcome.Outcome, serving.Serving.Server}
 use Rattle.ix_asking.proofs.Few.{Few, few-claimed, few-decided, few-either, few-more, few-refused, few-told}
+use Rattle.ix_asking.specs.declared.serving.outcome.Outcome.TheVariants as outcome
 use Rattle.ix_sessserv.specs.Messages.{bad_at, user_in}
 use Rattle.ix_sessserv.specs.Serving.{child_in, drop_all, fork, give_up, grant_if_any, grant_rest, on_message, on_user, privs_of, serves, set_ceiling}
 

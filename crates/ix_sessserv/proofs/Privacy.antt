@@ -1,18 +1,12 @@
 -- Nothing private comes of half a claim alone.
 use Rattle.std.proofs.Common.{ℕ, Bool, true, false, List, Option, Some, None, if◌then◌else◌}
 use Rattle.ix_label.specs.Category.{Categories}
-use Rattle.ix_model.specs.world.Privs.{is_empty}
-use Rattle.ix_model.specs.declared.ids.Fd.{Fd}
-use Rattle.ix_model.specs.declared.ids.Pid.{Pid}
-use Rattle.ix_model.specs.declared.refusal.Refusal.{Refusal}
-use Rattle.ix_policy.specs.Deciding.{decide}
+use Rattle.ix_model.specs.{world.Privs.is_empty, declared.{ids.{Fd.Fd, Pid.Pid}, refusal.Refusal.Refusal}}
+use Rattle.ix_policy.specs.{Deciding.decide, declared.rule.Rule.Rule}
 use Rattle.ix_policy.specs.declared.request.Request.TheVariants as request
-use Rattle.ix_policy.specs.declared.rule.Rule.{Rule}
-use Rattle.ix_asking.specs.serving.Privately.{NotPrivateAtHalf}
-use Rattle.ix_asking.specs.serving.Serving.{Server}
+use Rattle.ix_asking.specs.serving.{Privately.NotPrivateAtHalf, Serving.Server}
 use Rattle.ix_asking.proofs.Privacy.{OnlyComes, Other, bad-other, either, granted-other, private-at-claim, refused-other, verdict-other}
-use Rattle.ix_sessserv.specs.Messages.{bad_at, user_in}
-use Rattle.ix_sessserv.specs.Serving.{child_in, fork, give_up, grant_rest, on_message, on_user, privs_of, serves, succeed}
+use Rattle.ix_sessserv.specs.{Messages.{bad_at, user_in}, Serving.{child_in, fork, give_up, grant_rest, on_message, on_user, privs_of, serves, succeed}}
 
 give_up_other : (s : Server) (child : Pid) (why : Refusal) (step : ℕ) → OnlyComes Other (give_up s child why step)
 give_up_other s child why step = λ a. refused-other s why step

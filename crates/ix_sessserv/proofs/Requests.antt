@@ -1,15 +1,11 @@
 -- Messages are read as they stand.
-use Rattle.std.proofs.Common.{◌≡◌, ℕ, Bool, true, false, ◌||◌, List, [], ◌++◌, codes, Option, Some, None, option_and_then, refl, ap, sym, ◌∙◌, subst, if◌then◌else◌, inl, inr, append-nil, append_assoc}
-use Rattle.std.specs.Option.{is_some, option_map_or}
-use Rattle.std.proofs.Math.Bool.{or-true}
-use Rattle.std.proofs.lemmas.Bool.{or_cases}
+use Rattle.std.proofs.Common.{◌≡◌, ℕ, Bool, true, false, ◌||◌, List, [], ◌++◌, codes, Option, Some, None, option_and_then, refl, ap, sym, ◌∙◌, subst, inl, inr}
+use Rattle.std.proofs.Common.{if◌then◌else◌, append-nil, append_assoc}
+use Rattle.std.{specs.Option.{is_some, option_map_or}, proofs.{Math.Bool.or-true, lemmas.Bool.or_cases}}
 use Rattle.ix_text.specs.Names.{is_reserved, is_script_name, name_of}
-use Rattle.ix_asking.specs.serving.Messages.{after_word, is_front_of}
-use Rattle.ix_asking.specs.serving.Requests.{Begins}
-use Rattle.ix_asking.proofs.Fronts.{longest-is}
-use Rattle.ix_asking.proofs.Words.{after-is, after-word, front-ends, front-self, front-splits}
-use Rattle.ix_sessserv.specs.Messages.{begins_request, is_reserved_login, user_in}
-use Rattle.ix_sessserv.specs.Requests.{IsRead, IsRequest, LogsIn}
+use Rattle.ix_asking.specs.serving.{Messages.{after_word, is_front_of}, Requests.Begins}
+use Rattle.ix_asking.proofs.{Fronts.longest-is, Words.{after-is, after-word, front-ends, front-self, front-splits}}
+use Rattle.ix_sessserv.specs.{Messages.{begins_request, is_reserved_login, user_in}, Requests.{IsRead, IsRequest, LogsIn}}
 use Rattle.ix_sessserv.proofs.Users.{a-name, name-front, reserved-begins}
 
 abbrev login : List ℕ

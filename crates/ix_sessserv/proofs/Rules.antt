@@ -1,9 +1,6 @@
 -- The rule that allows.
 use Rattle.std.proofs.Common.{◌≡◌, ℕ, suc, ◌+◌, Bool, true, false, List, [], ◌∷◌, Some, refl, ap, ◌∙◌, arith, slice_get, if◌then◌else◌}
-use Rattle.ix_policy.specs.Deciding.{decide, decide_from, matches, numbered}
-use Rattle.ix_policy.specs.declared.request.Request.{Request}
-use Rattle.ix_policy.specs.declared.request.Verdict.{Verdict}
-use Rattle.ix_policy.specs.declared.rule.Rule.{Rule}
+use Rattle.ix_policy.specs.{Deciding.{decide, decide_from, matches, numbered}, declared.{request.{Request.Request, Verdict.Verdict}, rule.Rule.Rule}}
 
 -- a rule that allows, with so many rules before these
 abbrev Found : ℕ → List Rule → Verdict → Type 0

@@ -1,13 +1,10 @@
 -- Fronts of users' names.
-use Rattle.std.proofs.Common.{◌≡◌, ℕ, ◌+◌, nat_le, Bool, true, false, not, ◌&&◌, ◌||◌, List, [], ◌∷◌, ◌++◌, length, codes, refl, ap, sym, ◌∙◌, arith, subst, ◌⊎◌, inl, inr, length-append}
-use Rattle.std.specs.List.{list_all}
-use Rattle.std.specs.Cmp.Lexicographic.{bytes_decides}
-use Rattle.std.proofs.lemmas.Bool.{and_parts, and_from, or_cases}
-use Rattle.std.proofs.lemmas.Bool.Decides.{nat_tests}
-use Rattle.std.proofs.lemmas.List.Folds.{list_all-append}
+use Rattle.std.proofs.Common.{◌≡◌, ℕ, ◌+◌, nat_le, Bool, true, false, not, ◌&&◌, ◌||◌, List, [], ◌∷◌, ◌++◌, length, codes, refl, ap, sym, ◌∙◌, arith, subst}
+use Rattle.std.proofs.Common.{◌⊎◌, inl, inr, length-append}
+use Rattle.std.specs.{List.list_all, Cmp.Lexicographic.bytes_decides}
+use Rattle.std.proofs.lemmas.{Bool.{and_parts, and_from, or_cases, Decides.nat_tests}, List.Folds.list_all-append}
 use Rattle.ix_model.specs.world.Naming.{same_bytes}
-use Rattle.ix_text.specs.Bytes.{is_letter}
-use Rattle.ix_text.specs.Names.{is_reserved, is_script_name, may_stand_in_script_name}
+use Rattle.ix_text.specs.{Bytes.is_letter, Names.{is_reserved, is_script_name, may_stand_in_script_name}}
 
 -- what a name that has a byte passes
 pub record Tests (b : ℕ) (word : List ℕ) : Type 0 where

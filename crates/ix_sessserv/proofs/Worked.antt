@@ -1,13 +1,10 @@
 -- The worked request.
 use Rattle.std.proofs.Common.{◌≡◌, true, codes, Some, refl}
-use Rattle.ix_label.specs.Category.{bottom}
-use Rattle.ix_label.specs.Lattice.{bottom-leq}
+use Rattle.ix_label.specs.{Category.bottom, Lattice.bottom-leq}
 use Rattle.ix_text.specs.Names.{is_script_name, name_of}
-use Rattle.ix_policy.specs.Deciding.{decide, decide_from, matches}
+use Rattle.ix_policy.specs.{Deciding.{decide, decide_from, matches}, declared.request.Verdict.Verdict}
 use Rattle.ix_policy.specs.declared.request.Request.TheVariants as request
-use Rattle.ix_policy.specs.declared.request.Verdict.{Verdict}
-use Rattle.ix_sessserv.specs.Messages.{user_in}
-use Rattle.ix_sessserv.specs.Worked.{rules, GrantIsRefused}
+use Rattle.ix_sessserv.specs.{Messages.user_in, Worked.{rules, GrantIsRefused}}
 
 abbrev allowed : Verdict
 allowed = record { rule = 1; allow = true }

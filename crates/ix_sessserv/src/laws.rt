@@ -2,15 +2,9 @@
 
 ghost use Rattle.std.specs.Prelude.{◌≡◌, ℕ, true, List, Some};
 ghost use Rattle.ix_model.specs.declared.ids.Fd.{Fd};
-ghost use Rattle.ix_policy.specs.Deciding.{decide, numbered};
-ghost use Rattle.ix_policy.specs.declared.request.Request.{Request};
-ghost use Rattle.ix_policy.specs.declared.rule.Rule.{Rule};
-ghost use Rattle.ix_asking.specs.serving.Privately.{NotPrivateAtHalf};
-ghost use Rattle.ix_asking.specs.serving.Serving.{Server};
-ghost use Rattle.ix_sessserv.specs.Messages.{user_in};
-ghost use Rattle.ix_sessserv.specs.Requests.{IsRead};
-ghost use Rattle.ix_sessserv.specs.Serving.{serves};
-ghost use Rattle.ix_sessserv.specs.Worked.{GrantIsRefused};
+ghost use Rattle.ix_policy.specs.{Deciding.{decide, numbered}, declared.{request.Request.{Request}, rule.Rule.{Rule}}};
+ghost use Rattle.ix_asking.specs.serving.{Privately.{NotPrivateAtHalf}, Serving.{Server}};
+ghost use Rattle.ix_sessserv.specs.{Messages.{user_in}, Requests.{IsRead}, Serving.{serves}, Worked.{GrantIsRefused}};
 
 /// A user is read from a message exactly where the message asks for a session of that user. Of any other message the place that is
 /// told is the length of its longest front that some request begins with.

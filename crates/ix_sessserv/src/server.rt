@@ -1,8 +1,7 @@
 ghost use Rattle.std.specs.Prelude.{◌≡◌, ◌<◌, ◌≤◌, false, length, List};
 ghost use Rattle.ix_policy.specs.declared.rule.Rule.{Rule};
 ghost use Rattle.ix_model.specs.declared.ids.Fd.{Fd};
-ghost use Rattle.ix_asking.specs.Asking.{first, heard, IsDue};
-ghost use Rattle.ix_asking.specs.serving.Serving.{Server, if_refused, on_claim, tell};
+ghost use Rattle.ix_asking.specs.{Asking.{first, heard, IsDue}, serving.Serving.{Server, if_refused, on_claim, tell}};
 ghost use Rattle.ix_sessserv.specs.Places.{asks_at, most_at};
 ghost use Rattle.ix_sessserv.specs.Serving.{all_five, child_in, clear_of, drop_all, give_up, grant_if_any, on_message, privs_of, set_ceiling, succeed};
 

@@ -1,8 +1,6 @@
 ghost use Rattle.std.specs.Prelude.{◌≡◌, ◌≤◌, List, length};
 ghost use Rattle.ix_model.specs.history.Made.{Made};
-ghost use Rattle.ix_asking.specs.Asking.{next};
-ghost use Rattle.ix_asking.specs.Runs.{answers_of, Ends, Makes};
-ghost use Rattle.ix_asking.specs.serving.Serveds.{end_of};
+ghost use Rattle.ix_asking.specs.{Asking.{next}, Runs.{answers_of, Ends, Makes}, serving.Serveds.{end_of}};
 ghost use Rattle.ix_sessserv.specs.Serving.{serves};
 
 use crate::server::SessServer;

@@ -1,24 +1,16 @@
 -- A claim on an end of a pipe.
-use Rattle.std.proofs.Common.{◌≡◌, ◌-◌, ◌<◌, ◌==◌, ℕ, zero, suc, Bool, true, false, not, ◌&&◌, List, [], ◌∷◌, length, Option, Some, None, is_some}
-use Rattle.std.proofs.Common.{option_map, unwrap_or, slice_index_or, slice_set, refl, sym, ap, ◌∙◌, arith, if◌then◌else◌}
-use Rattle.std.specs.Option.{option_map_or}
-use Rattle.std.proofs.lemmas.Bool.{eqb-true}
-use Rattle.std.proofs.lemmas.List.{set-get_or}
-use Rattle.ix_model.specs.world.World.{Object, at, put, change, is_pipe, claimed_by_another}
-use Rattle.ix_model.specs.world.Contents.{holds_nothing}
-use Rattle.ix_model.specs.rows.Walks.{node, nothing}
-use Rattle.ix_model.specs.declared.config.Limits.{Limits}
-use Rattle.ix_model.proofs.tables.Tables.{at_changed}
+use Rattle.std.proofs.Common.{◌≡◌, ◌-◌, ◌<◌, ◌==◌, ℕ, zero, suc, Bool, true, false, not, ◌&&◌, List, [], ◌∷◌, length, Option, Some, None, is_some, option_map}
+use Rattle.std.proofs.Common.{unwrap_or, slice_index_or, slice_set, refl, sym, ap, ◌∙◌, arith, if◌then◌else◌}
+use Rattle.std.{specs.Option.option_map_or, proofs.lemmas.{Bool.eqb-true, List.set-get_or}}
+use Rattle.ix_model.{specs.world.World.{Object, at, put, change, is_pipe, claimed_by_another}, specs.world.Contents.holds_nothing}
+use Rattle.ix_model.{specs.rows.Walks.{node, nothing}, specs.declared.config.Limits.Limits, proofs.tables.Tables.at_changed}
 use Rattle.ix_inode.specs.Nodes.{Nodes}
 use Rattle.ix_name.specs.Directories.{Directories}
 use Rattle.ix_open.specs.Table.{OpenTable}
-use Rattle.ix_pipe.specs.Pipe.{Pipe, IsBounded}
+use Rattle.ix_pipe.specs.{Pipe.{Pipe, IsBounded}, Claims.claimant_of}
 use Rattle.ix_pipe.specs.Pipe as pipe
 use Rattle.ix_pipe.specs.Claims as pipe_claim
-use Rattle.ix_pipe.specs.Claims.{claimant_of}
-use Rattle.ix_tables.specs.Parts.{Parts}
-use Rattle.ix_tables.specs.Views.{with_claim, claimed, emptied}
-use Rattle.ix_tables.specs.Joined.{object_of_pipe, holding_of_pipe, joined, AreJoined}
+use Rattle.ix_tables.specs.{Parts.Parts, Views.{with_claim, claimed, emptied}, Joined.{object_of_pipe, holding_of_pipe, joined, AreJoined}}
 use Rattle.ix_tables.proofs.Piping.{is_living, object_there, holding_there, put_there}
 
 -- whether both ends of what stands there are claimed

@@ -1,12 +1,10 @@
 -- What one name more or fewer does to the counts of names.
-use Rattle.std.proofs.Common.{◌≡◌, ◌+◌, ◌<◌, ◌==◌, Bool, true, false, cond, ℕ, suc, List, [], ◌∷◌, ◌++◌, map, sum, length, set, count_by, Some, length-append, slice_get, refl, sym, ap, ◌∙◌, arith}
-use Rattle.std.specs.List.{sum_by}
-use Rattle.std.proofs.lemmas.Cmp.{nat_list_eq_equiv}
-use Rattle.std.proofs.lemmas.List.Sums.{sum-map, sum_by-cons, sum_by-append, sum_by-set}
+use Rattle.std.proofs.Common.{◌≡◌, ◌+◌, ◌<◌, ◌==◌, Bool, true, false, cond, ℕ, suc, List, [], ◌∷◌, ◌++◌, map, sum, length, set, count_by, Some, length-append}
+use Rattle.std.proofs.Common.{slice_get, refl, sym, ap, ◌∙◌, arith}
+use Rattle.std.{specs.List.sum_by, proofs.lemmas.{Cmp.nat_list_eq_equiv, List.Sums.{sum-map, sum_by-cons, sum_by-append, sum_by-set}}}
 use Rattle.ix_model.specs.world.Naming.{same_bytes}
 use Rattle.ix_name.specs.Directories.{under, without, AreDifferent}
-use Rattle.ix_tables.specs.Joined.{names_in, names_for}
-use Rattle.ix_tables.proofs.Joining.{Lists, names_at}
+use Rattle.ix_tables.{specs.Joined.{names_in, names_for}, proofs.Joining.{Lists, names_at}}
 
 abbrev pub Names : Type 0
 Names = List (List ℕ × ℕ)

@@ -1,22 +1,16 @@
 -- Free pipes, and how many objects there can be.
-use Rattle.std.proofs.Common.{◌≡◌, ◌+◌, ◌-◌, ◌<◌, ◌≤◌, ℕ, nat_lt, cond, List, [], ◌∷◌, length, map, drop, Option, Some, None, is_none, option_map, slice_set, refl, sym, ap, ◌∙◌, arith}
-use Rattle.std.specs.List.{position_or_len}
-use Rattle.std.proofs.lemmas.List.{length-map, drop_at}
-use Rattle.ix_model.specs.world.World.{Object, put, lowest_free}
-use Rattle.ix_model.specs.world.Numbers.{first_pipe}
-use Rattle.ix_model.specs.world.Contents.{holds_nothing}
-use Rattle.ix_model.specs.declared.config.Limits.{Limits}
-use Rattle.ix_model.specs.declared.reply.Kind.TheVariants as kind
+use Rattle.std.proofs.Common.{◌≡◌, ◌+◌, ◌-◌, ◌<◌, ◌≤◌, ℕ, nat_lt, cond, List, [], ◌∷◌, length, map, drop, Option, Some, None, is_none, option_map, slice_set}
+use Rattle.std.proofs.Common.{refl, sym, ap, ◌∙◌, arith}
+use Rattle.std.{specs.List.position_or_len, proofs.lemmas.List.{length-map, drop_at}}
+use Rattle.ix_model.specs.{world.{World.{Object, put, lowest_free}, Numbers.first_pipe, Contents.holds_nothing}, declared.config.Limits.Limits}
 use Rattle.ix_model.specs.rows.OnPaths.{new_object}
+use Rattle.ix_model.specs.declared.reply.Kind.TheVariants as kind
 use Rattle.ix_inode.specs.Nodes.{Nodes}
 use Rattle.ix_name.specs.Directories.{Directories}
 use Rattle.ix_open.specs.Table.{OpenTable}
 use Rattle.ix_pipe.specs.Pipe.{Pipe, made, new_pipe}
-use Rattle.ix_tables.specs.Parts.{Parts}
-use Rattle.ix_tables.specs.Views.{vacant_pipe}
-use Rattle.ix_tables.specs.Joined.{objects_of, object_of_pipe, all_objects, joined, AreJoined}
-use Rattle.ix_tables.proofs.Joining.{length-objects, length-all}
-use Rattle.ix_tables.proofs.Piping.{piped}
+use Rattle.ix_tables.specs.{Parts.Parts, Views.vacant_pipe, Joined.{objects_of, object_of_pipe, all_objects, joined, AreJoined}}
+use Rattle.ix_tables.proofs.{Joining.{length-objects, length-all}, Piping.piped}
 
 -- the first free place depends on what stands alone
 first_map : {A B : Type 0} (f : A → B) (t : List (Option A)) → position_or_len is_none (map (option_map f) t) ≡ position_or_len is_none t

@@ -1,21 +1,14 @@
 -- What files hold, before what pipes hold.
-use Rattle.std.proofs.Common.{◌≡◌, ◌-◌, ◌<◌, ℕ, Bool, true, false, not, List, [], ◌++◌, length, map, Option, Some, None, option_map, slice_index_or, slice_set, refl, sym, ap, ◌∙◌, arith, inl, inr}
+use Rattle.std.proofs.Common.{◌≡◌, ◌-◌, ◌<◌, ℕ, Bool, true, false, not, List, [], ◌++◌, length, map, Option, Some, None, option_map, slice_index_or, slice_set}
+use Rattle.std.proofs.Common.{refl, sym, ap, ◌∙◌, arith, inl, inr}
 use Rattle.std.specs.Option.{option_map_or}
-use Rattle.std.proofs.lemmas.Bool.{cases_lt}
-use Rattle.std.proofs.lemmas.List.{get_or_append_left, set-append_left, map-set, length-map}
-use Rattle.std.proofs.Math.ListN.{get_or-map}
-use Rattle.ix_model.specs.world.World.{Object, Holding, at, is_file}
-use Rattle.ix_model.specs.world.Contents.{holds_nothing, with_side}
-use Rattle.ix_model.specs.declared.config.Limits.{Limits}
-use Rattle.ix_inode.specs.declared.node.Node.{Node}
-use Rattle.ix_inode.specs.declared.node.Inode.{Inode}
-use Rattle.ix_inode.specs.Nodes.{Nodes, is_file_at, bytes_at, told_at, holding}
-use Rattle.ix_inode.specs.Shown.{kind_of}
+use Rattle.std.proofs.{lemmas.{Bool.cases_lt, List.{get_or_append_left, set-append_left, map-set, length-map}}, Math.ListN.get_or-map}
+use Rattle.ix_model.specs.{world.{World.{Object, Holding, at, is_file}, Contents.{holds_nothing, with_side}}, declared.config.Limits.Limits}
+use Rattle.ix_inode.specs.{declared.node.{Node.Node, Inode.Inode}, Nodes.{Nodes, is_file_at, bytes_at, told_at, holding}, Shown.kind_of}
 use Rattle.ix_name.specs.Directories.{Directories, names_of}
 use Rattle.ix_open.specs.Table.{OpenTable}
 use Rattle.ix_pipe.specs.Pipe.{Pipe}
-use Rattle.ix_tables.specs.Parts.{Parts}
-use Rattle.ix_tables.specs.Joined.{object_of, object_of_pipe, holding_of_bytes, holding_of_pipe, all_holdings, joined, AreJoined}
+use Rattle.ix_tables.specs.{Parts.Parts, Joined.{object_of, object_of_pipe, holding_of_bytes, holding_of_pipe, all_holdings, joined, AreJoined}}
 use Rattle.ix_tables.proofs.Joining.{at_inode, at_pipe}
 
 pipe_no_file : (p : Option Pipe) → option_map_or is_file (option_map object_of_pipe p) false ≡ false

@@ -1,22 +1,15 @@
 -- The objects that inodes, names and pipes make, by number.
-use Rattle.std.proofs.Common.{◌≡◌, ◌+◌, ◌-◌, ◌<◌, ◌≤◌, Bool, true, false, ℕ, zero, suc, List, [], ◌∷◌, ◌++◌, map, length, Option, Some, None, is_some}
-use Rattle.std.proofs.Common.{option_map, unwrap_or, slice_index_or, length-append, refl, sym, ap, ◌∙◌, arith, inl, inr}
-use Rattle.std.specs.Option.{option_map_or}
-use Rattle.std.proofs.lemmas.Bool.{cases_lt}
+use Rattle.std.proofs.Common.{◌≡◌, ◌+◌, ◌-◌, ◌<◌, ◌≤◌, Bool, true, false, ℕ, zero, suc, List, [], ◌∷◌, ◌++◌, map, length, Option, Some, None, is_some, refl, ap}
+use Rattle.std.proofs.Common.{option_map, unwrap_or, slice_index_or, length-append, sym, ◌∙◌, arith, inl, inr}
+use Rattle.std.{specs.Option.option_map_or, proofs.lemmas.Bool.cases_lt, proofs.Math.ListN.get_or-map}
 use Rattle.std.proofs.lemmas.List.{get_or_append_left, get_or-append_right, set-append_left, set-append_right, map-set, length-map}
-use Rattle.std.proofs.Math.ListN.{get_or-map}
-use Rattle.ix_model.specs.world.World.{Object, at, put, change, is_dir, is_pipe, ceiling_of, fs_at}
-use Rattle.ix_model.specs.rows.Walks.{node, nothing}
-use Rattle.ix_model.specs.declared.config.Limits.{Limits}
-use Rattle.ix_inode.specs.Nodes.{Nodes, changed, ceiling_at}
-use Rattle.ix_inode.specs.Shown.{kind_of, is_dir_kind}
-use Rattle.ix_inode.specs.declared.node.Node.{Node}
+use Rattle.ix_model.specs.{world.World.{Object, at, put, change, is_dir, is_pipe, ceiling_of, fs_at}, rows.Walks.{node, nothing}, declared.config.Limits.Limits}
+use Rattle.ix_inode.specs.{Nodes.{Nodes, changed, ceiling_at}, Shown.{kind_of, is_dir_kind}, declared.node.Node.Node}
 use Rattle.ix_name.specs.Directories.{Directories, names_of}
 use Rattle.ix_open.specs.Table.{OpenTable}
 use Rattle.ix_pipe.specs.Pipe.{Pipe}
 use Rattle.ix_label.specs.Category.{top}
-use Rattle.ix_tables.specs.Parts.{Parts}
-use Rattle.ix_tables.specs.Joined.{object_of, objects_of, object_of_pipe, all_objects, joined}
+use Rattle.ix_tables.specs.{Parts.Parts, Joined.{object_of, objects_of, object_of_pipe, all_objects, joined}}
 
 abbrev pub Lists : Type 0
 Lists = List (List (List ℕ × ℕ))

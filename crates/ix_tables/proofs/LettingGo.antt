@@ -1,20 +1,14 @@
 -- A pipe that goes, unless an open entry is on an end of it.
-use Rattle.std.proofs.Common.{◌≡◌, ◌-◌, ◌<◌, ◌≤◌, ℕ, Bool, true, false, not, ◌&&◌, ◌||◌, List, length, Option, Some, None, is_some, option_map, refl, sym, ap, ◌∙◌, arith, if◌then◌else◌}
+use Rattle.std.proofs.Common.{◌≡◌, ◌-◌, ◌<◌, ◌≤◌, ℕ, Bool, true, false, not, ◌&&◌, ◌||◌, List, length, Option, Some, None, is_some, option_map, refl, sym, ap}
+use Rattle.std.proofs.Common.{◌∙◌, arith, if◌then◌else◌}
 use Rattle.std.specs.Option.{option_map_or}
-use Rattle.ix_model.specs.world.World.{Object, at, put, is_pipe, held}
-use Rattle.ix_model.specs.rows.Lifetimes.{stays}
-use Rattle.ix_model.specs.declared.config.Limits.{Limits}
-use Rattle.ix_inode.specs.declared.node.Node.{Node}
-use Rattle.ix_inode.specs.Nodes.{Nodes}
-use Rattle.ix_inode.specs.Shown.{kind_of}
+use Rattle.ix_model.specs.{world.World.{Object, at, put, is_pipe, held}, rows.Lifetimes.stays, declared.config.Limits.Limits}
+use Rattle.ix_inode.specs.{declared.node.Node.Node, Nodes.Nodes, Shown.kind_of}
 use Rattle.ix_name.specs.Directories.{Directories, names_of}
 use Rattle.ix_open.specs.Table.{OpenTable}
 use Rattle.ix_pipe.specs.Pipe.{Pipe}
-use Rattle.ix_tables.specs.Parts.{Parts}
-use Rattle.ix_tables.specs.Views.{frame_alone, without_object, object_let_go}
-use Rattle.ix_tables.specs.Joined.{object_of, object_of_pipe, joined, AreJoined}
-use Rattle.ix_tables.proofs.Joining.{at_inode, at_pipe}
-use Rattle.ix_tables.proofs.Piping.{piped}
+use Rattle.ix_tables.specs.{Parts.Parts, Views.{frame_alone, without_object, object_let_go}, Joined.{object_of, object_of_pipe, joined, AreJoined}}
+use Rattle.ix_tables.proofs.{Joining.{at_inode, at_pipe}, Piping.piped}
 
 abbrev gone_or_not : ℕ → Parts → Bool → Parts
 gone_or_not n v gone = if gone then without_object n v else v

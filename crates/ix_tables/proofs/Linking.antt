@@ -1,19 +1,12 @@
 -- How many names an object is told to have.
 use Rattle.std.proofs.Common.{◌≡◌, ◌≤◌, ◌∙◌, ℕ, Bool, true, false, List, length, Option, Some, None, option_map, if◌then◌else◌, refl, sym, ap, subst}
 use Rattle.std.proofs.lemmas.List.{get_or_past}
-use Rattle.ix_model.specs.world.World.{at}
-use Rattle.ix_model.specs.world.Owners.{times_named}
-use Rattle.ix_model.specs.declared.config.Limits.{Limits}
-use Rattle.ix_inode.specs.Nodes.{Nodes, told_at}
-use Rattle.ix_inode.specs.Shown.{kind_of, is_dir_kind}
-use Rattle.ix_inode.specs.declared.node.Inode.{Inode}
-use Rattle.ix_inode.specs.declared.node.Node.{Node}
+use Rattle.ix_model.specs.{world.{World.at, Owners.times_named}, declared.config.Limits.Limits}
+use Rattle.ix_inode.specs.{Nodes.{Nodes, told_at}, Shown.{kind_of, is_dir_kind}, declared.node.{Inode.Inode, Node.Node}}
 use Rattle.ix_name.specs.Directories.{Directories}
 use Rattle.ix_open.specs.Table.{OpenTable}
 use Rattle.ix_pipe.specs.Pipe.{Pipe}
-use Rattle.ix_tables.specs.Parts.{Parts}
-use Rattle.ix_tables.specs.Joined.{joined, names_for, HasLinks, HasNames, AreJoined}
-use Rattle.ix_tables.proofs.Naming.{all_times}
+use Rattle.ix_tables.{specs.{Parts.Parts, Joined.{joined, names_for, HasLinks, HasNames, AreJoined}}, proofs.Naming.all_times}
 
 -- by whether it is a directory
 by_kind : (b : Bool) (links k : ℕ) → HasLinks b links k → (if is_dir_kind (kind_of b) then 1 else links) ≡ (if is_dir_kind (kind_of b) then 1 else k)

@@ -1,32 +1,17 @@
 -- Names that come.
-use Rattle.std.proofs.Common.{◌≡◌, ◌+◌, ◌^◌, ◌<◌, ◌==◌, Bool, true, false, not, cond, ℕ, List, [], ◌∷◌, ◌++◌, length, Option, Some, None, is_some}
-use Rattle.std.proofs.Common.{option_map, slice_set, refl, sym, ap, subst, ◌∙◌, arith, inl, inr, length-set, get_or-set_other, nat_lt}
-use Rattle.std.specs.Option.{option_map_or}
-use Rattle.std.proofs.lemmas.Bool.Decides.{eqb_tells, nat_tests}
-use Rattle.ix_model.specs.world.World.{Object, at, put, change, is_dir, is_file}
-use Rattle.ix_model.specs.world.Directories.{with_name}
+use Rattle.std.proofs.Common.{◌≡◌, ◌+◌, ◌^◌, ◌<◌, ◌==◌, Bool, true, false, not, cond, ℕ, List, [], ◌∷◌, ◌++◌, length, Option, Some, None, is_some, option_map}
+use Rattle.std.proofs.Common.{slice_set, refl, sym, ap, subst, ◌∙◌, arith, inl, inr, length-set, get_or-set_other, nat_lt}
+use Rattle.std.{specs.Option.option_map_or, proofs.lemmas.Bool.Decides.{eqb_tells, nat_tests}}
+use Rattle.ix_model.specs.world.{World.{Object, at, put, change, is_dir, is_file}, Directories.with_name, Contents.holds_nothing, Owners.names_in_all}
+use Rattle.ix_model.specs.{rows.{Walks.{node, child}, OnPaths.new_object}, declared.{reply.Kind.Kind, config.Limits.Limits}}
 use Rattle.ix_model.proofs.tables.Tables.{seen_changed, at_changed, change_same}
-use Rattle.ix_model.specs.rows.Walks.{node, child}
-use Rattle.ix_model.specs.declared.reply.Kind.{Kind}
-use Rattle.ix_model.specs.rows.OnPaths.{new_object}
-use Rattle.ix_model.specs.world.Contents.{holds_nothing}
-use Rattle.ix_model.specs.declared.config.Limits.{Limits}
-use Rattle.ix_model.specs.world.Owners.{names_in_all}
-use Rattle.ix_inode.specs.Nodes.{told_at, changed, made, vacant_in, Nodes}
-use Rattle.ix_inode.specs.Shown.{kind_of, is_dir_kind, new_node}
-use Rattle.ix_inode.specs.declared.node.Inode.{Inode}
-use Rattle.ix_inode.specs.declared.node.Node.{Node}
+use Rattle.ix_inode.specs.{Nodes.{told_at, changed, made, vacant_in, Nodes}, Shown.{kind_of, is_dir_kind, new_node}, declared.node.{Inode.Inode, Node.Node}}
 use Rattle.ix_name.specs.Directories.{Directories, names_of, under, with_more}
 use Rattle.ix_open.specs.Table.{OpenTable}
 use Rattle.ix_pipe.specs.Pipe.{Pipe}
-use Rattle.ix_tables.specs.Views.{vacant_inode}
-use Rattle.ix_tables.specs.Parts.{Parts}
-use Rattle.ix_tables.specs.Joined.{joined, names_for, HasLinks, HasNames, AreJoined}
-use Rattle.ix_tables.proofs.Placing.{placed, low, unnamed, at_placed, length_placed, placed_joined, placed_view, room_left, stays}
-use Rattle.ix_tables.proofs.Joining.{inode_edited, directory_there, names_there}
-use Rattle.ix_tables.proofs.Naming.{room_is, few_times}
-use Rattle.ix_tables.proofs.Counting.{names_more, times_more}
-use Rattle.ix_tables.proofs.Renaming.{directory_edited}
+use Rattle.ix_tables.specs.{Views.vacant_inode, Parts.Parts, Joined.{joined, names_for, HasLinks, HasNames, AreJoined}}
+use Rattle.ix_tables.proofs.{Placing.{placed, low, unnamed, at_placed, length_placed, placed_joined, placed_view, room_left, stays}, Renaming.directory_edited}
+use Rattle.ix_tables.proofs.{Joining.{inode_edited, directory_there, names_there}, Naming.{room_is, few_times}, Counting.{names_more, times_more}}
 use Rattle.ix_tables.proofs.Holding.{is_inode, is_file_there}
 
 module _ (limits : Limits) (nodes nodes2 : Nodes) (names names2 : Directories) (pipes : List (Option Pipe)) (es : OpenTable) (hs : List ℕ) (now : Parts)

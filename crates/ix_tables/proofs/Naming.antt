@@ -1,18 +1,13 @@
 -- How many names there are, and for each object.
-use Rattle.std.proofs.Common.{◌≡◌, ◌≤◌, ◌+◌, ◌==◌, false, ℕ, suc, List, [], ◌∷◌, ◌++◌, map, sum, length, count_by, Option, Some, None, option_map, nat_lt, refl, sym, ap, ◌∙◌, arith}
-use Rattle.std.specs.Option.{option_map_or}
-use Rattle.std.proofs.lemmas.Bool.Decides.{nat_tests}
-use Rattle.std.proofs.lemmas.List.Sums.{count_by-le-length, sum-map, sum_by-cons, sum_by-append}
-use Rattle.ix_model.specs.world.World.{Object, at}
-use Rattle.ix_model.specs.world.Owners.{names_in_all, times_in, times_named}
-use Rattle.ix_model.specs.declared.config.Limits.{Limits}
-use Rattle.ix_inode.specs.Nodes.{Nodes}
-use Rattle.ix_inode.specs.declared.node.Node.{Node}
+use Rattle.std.proofs.Common.{◌≡◌, ◌≤◌, ◌+◌, ◌==◌, false, ℕ, suc, List, [], ◌∷◌, ◌++◌, map, sum, length, count_by, Option, Some, None, option_map, nat_lt, refl}
+use Rattle.std.proofs.Common.{sym, ap, ◌∙◌, arith}
+use Rattle.std.{specs.Option.option_map_or, proofs.lemmas.{Bool.Decides.nat_tests, List.Sums.{count_by-le-length, sum-map, sum_by-cons, sum_by-append}}}
+use Rattle.ix_model.specs.{world.{World.{Object, at}, Owners.{names_in_all, times_in, times_named}}, declared.config.Limits.Limits}
+use Rattle.ix_inode.specs.{Nodes.Nodes, declared.node.Node.Node}
 use Rattle.ix_name.specs.Directories.{Directories}
 use Rattle.ix_open.specs.Table.{OpenTable}
 use Rattle.ix_pipe.specs.Pipe.{Pipe}
-use Rattle.ix_tables.specs.Parts.{Parts}
-use Rattle.ix_tables.specs.Joined.{object_of, objects_of, object_of_pipe, all_objects, joined, names_in, names_for, AreJoined}
+use Rattle.ix_tables.specs.{Parts.Parts, Joined.{object_of, objects_of, object_of_pipe, all_objects, joined, names_in, names_for, AreJoined}}
 use Rattle.ix_tables.proofs.Joining.{Lists, names_at}
 
 pub sum_more : {X : Type 0} (f : X → ℕ) (x : X) (xs : List X) → sum (map f (x ∷ xs)) ≡ f x + sum (map f xs)

@@ -1,34 +1,20 @@
 -- The tables before any object line show the world before any.
-use Rattle.std.proofs.Common.{◌≡◌, ◌+◌, ◌-◌, ◌<◌, ◌≤◌, ◌==◌, ℕ, zero, suc, true, false, cond, List, [], ◌∷◌, ◌++◌, length, map, sum, drop, replicate}
-use Rattle.std.proofs.Common.{count_by, Option, Some, None, option_map, refl, sym, ap, ◌∙◌, arith, length-append, length-set}
-use Rattle.std.specs.List.{list_all, range_with_len}
-use Rattle.std.proofs.lemmas.Bool.Decides.{nat_tests}
-use Rattle.std.proofs.lemmas.List.{length-replicate, length-map, map-append, replicate-append-replicate}
-use Rattle.std.proofs.lemmas.List.FromFn.{length-range_with_len}
-use Rattle.std.proofs.lemmas.List.Sums.{sum_by-cons}
-use Rattle.ix_model.specs.world.World.{Object, Open, Process, change}
-use Rattle.ix_model.specs.world.Contents.{holds_nothing}
-use Rattle.ix_model.specs.world.Numbers.{first_inode, first_pipe}
-use Rattle.ix_model.specs.world.Owners.{is_at}
-use Rattle.ix_model.specs.rows.OnPaths.{is_home}
-use Rattle.ix_model.specs.opening.Opening.{root_of, mounts, process_of, bare_objects, bare_world}
+use Rattle.std.proofs.Common.{◌≡◌, ◌+◌, ◌-◌, ◌<◌, ◌≤◌, ◌==◌, ℕ, zero, suc, true, false, cond, List, [], ◌∷◌, ◌++◌, length, map, sum, drop, replicate, count_by}
+use Rattle.std.proofs.Common.{Option, Some, None, option_map, refl, sym, ap, ◌∙◌, arith, length-append, length-set}
+use Rattle.std.{specs.List.{list_all, range_with_len}, proofs.lemmas.Bool.Decides.nat_tests, proofs.lemmas.List.FromFn.length-range_with_len}
+use Rattle.std.{proofs.lemmas.List.{length-replicate, length-map, map-append, replicate-append-replicate}, proofs.lemmas.List.Sums.sum_by-cons}
+use Rattle.ix_model.specs.world.{World.{Object, Open, Process, change}, Contents.holds_nothing, Numbers.{first_inode, first_pipe}, Owners.is_at}
+use Rattle.ix_model.specs.{rows.OnPaths.is_home, opening.{Opening.{root_of, mounts, process_of, bare_objects, bare_world}, Valid.fs_fits}}
+use Rattle.ix_model.specs.declared.config.{Config.Config, FsSpec.FsSpec, ProcSpec.ProcSpec}
 use Rattle.ix_model.specs.opening.Opening as opening
-use Rattle.ix_model.specs.opening.Valid.{fs_fits}
-use Rattle.ix_model.specs.declared.config.Config.{Config}
-use Rattle.ix_model.specs.declared.config.FsSpec.{FsSpec}
-use Rattle.ix_model.specs.declared.config.ProcSpec.{ProcSpec}
 use Rattle.ix_model.proofs.opening.Bare.{roots, length-roots}
-use Rattle.ix_inode.specs.Nodes.{bare, opened}
-use Rattle.ix_inode.specs.Shown.{new_node}
-use Rattle.ix_inode.specs.declared.node.Node.{Node}
+use Rattle.ix_inode.specs.{Nodes.{bare, opened}, Shown.new_node, declared.node.Node.Node}
 use Rattle.ix_name.specs.Directories.{Directories}
 use Rattle.ix_open.specs.Table.{OpenTable, none_open}
 use Rattle.ix_pipe.specs.Pipe.{Pipe}
-use Rattle.ix_tables.specs.Parts.{named_by, owners_of, homes_of, parts_of}
+use Rattle.ix_tables.specs.{Parts.{named_by, owners_of, homes_of, parts_of}, Opening.{roots_named, homes_at_first}}
+use Rattle.ix_tables.proofs.{Naming.sum_more, Renaming.objects_named}
 use Rattle.ix_tables.specs.Joined.{object_of, objects_of, object_of_pipe, holding_of_bytes, holding_of_pipe, all_objects, all_holdings, joined}
-use Rattle.ix_tables.specs.Opening.{roots_named, homes_at_first}
-use Rattle.ix_tables.proofs.Naming.{sum_more}
-use Rattle.ix_tables.proofs.Renaming.{objects_named}
 
 map_repeated : {A B : Type 0} (f : A → B) (n : ℕ) (x : A) → map f (replicate n x) ≡ replicate n (f x)
 map_repeated f zero x = refl

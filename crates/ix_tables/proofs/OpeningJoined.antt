@@ -1,38 +1,20 @@
 -- The tables before any object line are joined as they have to be.
-use Rattle.std.proofs.Common.{◌≡◌, ◌+◌, ◌<◌, ◌≤◌, ◌==◌, ◌&&◌, ℕ, zero, suc, Bool, true, false, nat_le, List, [], ◌∷◌, length, map, sum, drop}
-use Rattle.std.proofs.Common.{replicate, count_by, set, Option, Some, None, option_map, refl, sym, ap, ◌∙◌, subst, arith, length-set, append-nil}
-use Rattle.std.proofs.Common.{get_or-set_other, inl, inr}
-use Rattle.std.specs.Option.{option_map_or}
-use Rattle.std.specs.List.{list_all}
-use Rattle.std.proofs.Math.ListN.{get_or-map}
-use Rattle.std.proofs.lemmas.Bool.{and_parts, leb-true, cases_lt}
-use Rattle.std.proofs.lemmas.Bool.Decides.{nat_tests, eqb_tells}
-use Rattle.std.proofs.lemmas.List.{length-replicate, length-drop}
-use Rattle.std.proofs.lemmas.List.Sums.{sum-map, sum_by-cons}
-use Rattle.ix_model.specs.world.World.{Object, at, is_dir}
-use Rattle.ix_model.specs.world.Numbers.{first_inode, first_pipe}
-use Rattle.ix_model.specs.opening.Opening.{mounts}
+use Rattle.std.proofs.Common.{◌≡◌, ◌+◌, ◌<◌, ◌≤◌, ◌==◌, ◌&&◌, ℕ, zero, suc, Bool, true, false, nat_le, List, [], ◌∷◌, length, map, sum, drop, replicate, set}
+use Rattle.std.proofs.Common.{count_by, Option, Some, None, option_map, refl, sym, ap, ◌∙◌, subst, arith, length-set, append-nil, get_or-set_other, inl, inr}
+use Rattle.std.specs.{Option.option_map_or, List.list_all}
+use Rattle.std.proofs.{Math.ListN.get_or-map, lemmas.Bool.{and_parts, leb-true, cases_lt}, lemmas.Bool.Decides.{nat_tests, eqb_tells}}
+use Rattle.std.proofs.{lemmas.List.{length-replicate, length-drop}, lemmas.List.Sums.{sum-map, sum_by-cons}}
+use Rattle.ix_model.specs.{world.{World.{Object, at, is_dir}, Numbers.{first_inode, first_pipe}}, declared.config.{Config.Config, FsSpec.FsSpec, Limits.Limits}}
+use Rattle.ix_model.specs.opening.{Opening.mounts, Valid.{fs_fits, fss_fit, limits_fit, procs_fit, objects_fit, is_within, is_valid}}
 use Rattle.ix_model.specs.opening.Opening as opening
-use Rattle.ix_model.specs.opening.Valid.{fs_fits, fss_fit, limits_fit, procs_fit, objects_fit, is_within, is_valid}
-use Rattle.ix_model.specs.declared.config.Config.{Config}
-use Rattle.ix_model.specs.declared.config.FsSpec.{FsSpec}
-use Rattle.ix_model.specs.declared.config.Limits.{Limits}
-use Rattle.ix_model.proofs.tables.Inodes.{first_within}
-use Rattle.ix_model.proofs.opening.Bare.{some_inodes, roots, root_at, is_root}
-use Rattle.ix_model.proofs.opening.BareBuilt.{first_split, further_fit}
-use Rattle.ix_model.proofs.opening.Mounts.{length-mounts, mounts_once, mount_at}
-use Rattle.ix_model.proofs.opening.Openings.{all_one}
-use Rattle.ix_model.proofs.opening.Validity.{FssFit, valid_parts}
-use Rattle.ix_inode.specs.Nodes.{Nodes, bare, opened, are_within}
-use Rattle.ix_inode.specs.Shown.{kind_of}
-use Rattle.ix_inode.specs.declared.node.Node.{Node}
+use Rattle.ix_model.proofs.{tables.Inodes.first_within, opening.Bare.{some_inodes, roots, root_at, is_root}, opening.BareBuilt.{first_split, further_fit}}
+use Rattle.ix_model.proofs.{opening.Mounts.{length-mounts, mounts_once, mount_at}, opening.Openings.all_one, opening.Validity.{FssFit, valid_parts}}
+use Rattle.ix_inode.specs.{Nodes.{Nodes, bare, opened, are_within}, Shown.kind_of, declared.node.Node.Node}
 use Rattle.ix_name.specs.Directories.{Directories}
 use Rattle.ix_open.specs.Table.{OpenTable}
 use Rattle.ix_pipe.specs.Pipe.{Pipe}
-use Rattle.ix_tables.specs.Joined.{object_of, names_in, names_for, HasLinks, HasNames, AreJoined}
-use Rattle.ix_tables.proofs.Joining.{Lists, names_at}
-use Rattle.ix_tables.proofs.Counting.{Names, total_set}
-use Rattle.ix_tables.proofs.OpeningBare.{bare_as, length-bare, bare_names, bare_pipes, bare_opens, bare_homes}
+use Rattle.ix_tables.{specs.Joined.{object_of, names_in, names_for, HasLinks, HasNames, AreJoined}, proofs.Joining.{Lists, names_at}}
+use Rattle.ix_tables.{proofs.Counting.{Names, total_set}, proofs.OpeningBare.{bare_as, length-bare, bare_names, bare_pipes, bare_opens, bare_homes}}
 
 -- ---- what a valid config says
 pub fss_within : (fss : List FsSpec) → FssFit fss → are_within fss ≡ true

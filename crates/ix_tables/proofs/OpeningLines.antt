@@ -1,26 +1,14 @@
 -- One object line more.
-use Rattle.std.proofs.Common.{◌≡◌, ◌≢◌, ◌+◌, ◌-◌, ◌<◌, ◌≤◌, ◌==◌, ℕ, zero, suc, Bool, true, false, not, nat_lt, nat_le, ◌&&◌, List, [], ◌∷◌, ◌++◌}
-use Rattle.std.proofs.Common.{length, take, drop, replicate, Option, Some, None, unwrap_or, slice_get, slice_set, slice_index_or, if◌then◌else◌, refl}
-use Rattle.std.proofs.Common.{sym, ap, ◌∙◌, subst, arith, inl, inr, append-nil}
-use Rattle.std.specs.Option.{option_map_or, option_and_then}
-use Rattle.std.proofs.lemmas.List.{set-set}
-use Rattle.std.proofs.lemmas.Bool.Decides.{nat_tests, eqb_tells}
-use Rattle.ix_model.specs.world.World.{Object, Holding, at, put, change, fs_at, is_dir}
-use Rattle.ix_model.specs.world.Contents.{holds_nothing, with_side, spliced}
-use Rattle.ix_model.specs.world.Directories.{with_name}
-use Rattle.ix_model.specs.world.Naming.{last_name}
-use Rattle.ix_model.specs.rows.Walks.{node, nothing, child}
-use Rattle.ix_model.specs.rows.OnPaths.{new_object}
-use Rattle.ix_model.specs.rows.Telling.{blocks_for, blocks_where, blocks_on, lies_on, fs_of_object}
-use Rattle.ix_model.specs.opening.Opening.{directory_of}
-use Rattle.ix_model.specs.declared.config.ObjSpec.{ObjSpec}
-use Rattle.ix_model.proofs.tables.Tables.{change_twice}
-use Rattle.ix_model.proofs.tables.Blocks.{blocks_edit}
-use Rattle.ix_model.proofs.opening.Placing.{Place, with_one, not_new, at_new, seen}
-use Rattle.ix_model.specs.declared.reply.Kind.{Kind}
-use Rattle.ix_tables.specs.Views.{frame_alone, has_room}
-use Rattle.ix_tables.specs.Parts.{Parts}
-use Rattle.ix_tables.specs.Opening.{Leads, kind_said, as_said, with_line, HasPlace}
+use Rattle.std.proofs.Common.{◌≡◌, ◌≢◌, ◌+◌, ◌-◌, ◌<◌, ◌≤◌, ◌==◌, ℕ, zero, suc, Bool, true, false, not, nat_lt, nat_le, ◌&&◌, List, [], ◌∷◌, ◌++◌, length, take}
+use Rattle.std.proofs.Common.{drop, replicate, Option, Some, None, unwrap_or, slice_get, slice_set, slice_index_or, if◌then◌else◌, refl, sym, ap, ◌∙◌, subst}
+use Rattle.std.proofs.Common.{arith, inl, inr, append-nil}
+use Rattle.std.{specs.Option.{option_map_or, option_and_then}, proofs.lemmas.{List.set-set, Bool.Decides.{nat_tests, eqb_tells}}}
+use Rattle.ix_model.specs.{world.World.{Object, Holding, at, put, change, fs_at, is_dir}, world.Contents.{holds_nothing, with_side, spliced}}
+use Rattle.ix_model.specs.{world.Directories.with_name, world.Naming.last_name, opening.Opening.directory_of}
+use Rattle.ix_model.specs.rows.{Walks.{node, nothing, child}, OnPaths.new_object, Telling.{blocks_for, blocks_where, blocks_on, lies_on, fs_of_object}}
+use Rattle.ix_model.specs.declared.{config.ObjSpec.ObjSpec, reply.Kind.Kind}
+use Rattle.ix_model.proofs.{tables.{Tables.change_twice, Blocks.blocks_edit}, opening.Placing.{Place, with_one, not_new, at_new, seen}}
+use Rattle.ix_tables.specs.{Views.{frame_alone, has_room}, Parts.Parts, Opening.{Leads, kind_said, as_said, with_line, HasPlace}}
 
 -- ---- on the way to a directory
 pub record IsOnWay (objects : List (Option Object)) (names : List (List ℕ)) (i dir : ℕ) : Type 0 where

@@ -1,18 +1,12 @@
 -- How many inodes there are, and the names of the further file systems.
-use Rattle.std.proofs.Common.{◌≡◌, ◌+◌, ◌-◌, ◌*◌, ◌<◌, ◌≤◌, ℕ, zero, suc, Bool, true, false, not, List, [], ◌∷◌, ◌++◌, length, map, take, drop}
-use Rattle.std.proofs.Common.{replicate, find, set, get_or, Some, None, option_map, refl, sym, ap, ◌∙◌, arith}
-use Rattle.std.specs.List.{list_any}
-use Rattle.std.proofs.lemmas.Bool.{and_parts, or_parts, not-true, cond-false}
+use Rattle.std.proofs.Common.{◌≡◌, ◌+◌, ◌-◌, ◌*◌, ◌<◌, ◌≤◌, ℕ, zero, suc, Bool, true, false, not, List, [], ◌∷◌, ◌++◌, length, map, take, drop, replicate, find}
+use Rattle.std.proofs.Common.{set, get_or, Some, None, option_map, refl, sym, ap, ◌∙◌, arith}
+use Rattle.std.{specs.List.list_any, proofs.lemmas.Bool.{and_parts, or_parts, not-true, cond-false}}
 use Rattle.std.proofs.lemmas.List.{get_or-set_same, get_or_read, set-set, length-replicate, take_all, length-drop}
-use Rattle.ix_model.specs.world.World.{fs_at}
-use Rattle.ix_model.specs.world.Naming.{same_bytes}
-use Rattle.ix_model.specs.world.Numbers.{first_inode}
-use Rattle.ix_model.specs.opening.Opening.{mounts}
-use Rattle.ix_model.specs.opening.Valid.{all_differ}
+use Rattle.ix_model.specs.{world.{World.fs_at, Naming.same_bytes, Numbers.first_inode}, opening.{Opening.mounts, Valid.all_differ}}
 use Rattle.ix_model.specs.declared.config.FsSpec.{FsSpec}
 use Rattle.ix_model.proofs.tables.Inodes.{first-cons, first_next}
-use Rattle.ix_inode.specs.Nodes.{are_within}
-use Rattle.ix_inode.proofs.Opening.{within_fits, within_few}
+use Rattle.ix_inode.{specs.Nodes.are_within, proofs.Opening.{within_fits, within_few}}
 use Rattle.ix_name.specs.Directories.{Directories, names_of, under, with_more}
 use Rattle.ix_tables.specs.Opening.{roots_named}
 

@@ -1,35 +1,17 @@
 -- Each object line of a valid config finds its place in the tables that those before it have made.
-use Rattle.std.proofs.Common.{◌≡◌, ◌+◌, ◌<◌, ◌≤◌, ◌&&◌, ℕ, zero, suc, Bool, true, false, List, [], ◌∷◌, ◌++◌, length, take, find, Option, Some, None}
-use Rattle.std.proofs.Common.{option_map, unwrap_or, slice_get, refl, sym, ap, ◌∙◌, subst, arith, append_assoc, append-nil, length-append}
-use Rattle.std.specs.Option.{option_map_or, option_and_then}
-use Rattle.std.specs.List.{list_any}
-use Rattle.std.proofs.lemmas.Bool.{and_parts, or_parts, cond-false}
-use Rattle.std.proofs.lemmas.Bool.Decides.{nat_tests}
-use Rattle.std.proofs.lemmas.List.{take_all}
-use Rattle.ix_model.specs.world.World.{World, Object, Holding, at, fs_at, is_dir}
-use Rattle.ix_model.specs.world.Naming.{same_bytes, same_names, last_name}
-use Rattle.ix_model.specs.world.Numbers.{first_inode, free_inode}
-use Rattle.ix_model.specs.world.Owners.{names_in_all}
-use Rattle.ix_model.specs.rows.Telling.{blocks_where, lies_on}
-use Rattle.ix_model.specs.rows.Walks.{node, nothing, child}
+use Rattle.std.proofs.Common.{◌≡◌, ◌+◌, ◌<◌, ◌≤◌, ◌&&◌, ℕ, zero, suc, Bool, true, false, List, [], ◌∷◌, ◌++◌, length, take, find, Option, Some, None, unwrap_or}
+use Rattle.std.proofs.Common.{option_map, slice_get, refl, sym, ap, ◌∙◌, subst, arith, append_assoc, append-nil, length-append}
+use Rattle.std.specs.{Option.{option_map_or, option_and_then}, List.list_any}
+use Rattle.std.proofs.lemmas.{Bool.{and_parts, or_parts, cond-false, Decides.nat_tests}, List.take_all}
+use Rattle.ix_model.specs.{world.World.{World, Object, Holding, at, fs_at, is_dir}, world.Naming.{same_bytes, same_names, last_name}, world.Owners.names_in_all}
+use Rattle.ix_model.specs.{world.Numbers.{first_inode, free_inode}, rows.{Telling.{blocks_where, lies_on}, Walks.{node, nothing, child}}}
 use Rattle.ix_model.specs.opening.Opening.{directory_of, placed, with_object, with_objects, bare_world, opening_world}
 use Rattle.ix_model.specs.opening.Valid.{is_valid, fs_of, is_mount, blocks_taken, object_fits, objects_fit}
-use Rattle.ix_model.specs.declared.config.Config.{Config}
-use Rattle.ix_model.specs.declared.config.FsSpec.{FsSpec}
-use Rattle.ix_model.specs.declared.config.Limits.{Limits}
-use Rattle.ix_model.specs.declared.config.ObjSpec.{ObjSpec}
-use Rattle.ix_model.proofs.tables.Inodes.{first_within, free_is}
-use Rattle.ix_model.proofs.opening.Built.{Built}
-use Rattle.ix_model.proofs.opening.Leading.{lead, directory_is}
-use Rattle.ix_model.proofs.opening.Lines.{parent_of, line_is, fs_of_child}
-use Rattle.ix_model.proofs.sound.Reaching.{bare_is_built}
-use Rattle.ix_model.proofs.opening.OpenedWorlds.{world_with, lines_built}
-use Rattle.ix_model.proofs.opening.Placing.{Place, length-after}
-use Rattle.ix_model.proofs.opening.Validity.{Valid, valid_parts}
-use Rattle.ix_model.proofs.opening.WaysPlaced.{name_is_new}
-use Rattle.ix_tables.specs.Parts.{Parts, parts_of, homes_of}
-use Rattle.ix_tables.specs.Views.{frame_alone, vacant_inode}
-use Rattle.ix_tables.specs.Opening.{opening_after, Leads, with_line, HasPlace}
+use Rattle.ix_model.specs.declared.config.{Config.Config, FsSpec.FsSpec, Limits.Limits, ObjSpec.ObjSpec}
+use Rattle.ix_model.proofs.{tables.Inodes.{first_within, free_is}, opening.Built.Built, opening.Leading.{lead, directory_is}, opening.WaysPlaced.name_is_new}
+use Rattle.ix_model.proofs.{opening.Lines.{parent_of, line_is, fs_of_child}, opening.OpenedWorlds.{world_with, lines_built}, sound.Reaching.bare_is_built}
+use Rattle.ix_model.proofs.{opening.Placing.{Place, length-after}, opening.Validity.{Valid, valid_parts}}
+use Rattle.ix_tables.specs.{Parts.{Parts, parts_of, homes_of}, Views.{frame_alone, vacant_inode}, Opening.{opening_after, Leads, with_line, HasPlace}}
 
 -- ---- the lines before
 fit_first : (fss : List FsSpec) (l : Limits) (before lines : List ObjSpec) (i : ℕ) → objects_fit fss l before lines ≡ true → objects_fit fss l before (take i lines) ≡ true

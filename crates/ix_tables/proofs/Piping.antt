@@ -1,25 +1,17 @@
 -- Pipes, which stand behind the inodes.
-use Rattle.std.proofs.Common.{◌≡◌, ◌+◌, ◌-◌, ◌<◌, ◌≤◌, ℕ, Bool, true, false, List, [], ◌++◌, length, map, Option, Some, None, is_some, option_map}
-use Rattle.std.proofs.Common.{unwrap_or, slice_index_or, slice_set, refl, sym, ap, ◌∙◌, arith, inl, inr}
+use Rattle.std.proofs.Common.{◌≡◌, ◌+◌, ◌-◌, ◌<◌, ◌≤◌, ℕ, Bool, true, false, List, [], ◌++◌, length, map, Option, Some, None, is_some, option_map, unwrap_or}
+use Rattle.std.proofs.Common.{slice_index_or, slice_set, refl, sym, ap, ◌∙◌, arith, inl, inr}
 use Rattle.std.specs.Option.{option_map_or}
-use Rattle.std.proofs.lemmas.Bool.{cases_lt}
-use Rattle.std.proofs.lemmas.Bool.Decides.{nat_tests}
-use Rattle.std.proofs.lemmas.List.{get_or-append_right, set-append_right, map-set, set-get_or, length-map}
+use Rattle.std.proofs.lemmas.{Bool.{cases_lt, Decides.nat_tests}, List.{get_or-append_right, set-append_right, map-set, set-get_or, length-map}}
 use Rattle.std.proofs.Math.ListN.{get_or-map}
-use Rattle.ix_model.specs.world.World.{Object, Holding, at, put, change, is_pipe}
-use Rattle.ix_model.specs.world.Contents.{holds_nothing, side}
-use Rattle.ix_model.specs.rows.Walks.{node, nothing}
+use Rattle.ix_model.specs.{world.{World.{Object, Holding, at, put, change, is_pipe}, Contents.{holds_nothing, side}}, rows.Walks.{node, nothing}}
 use Rattle.ix_model.specs.declared.config.Limits.{Limits}
-use Rattle.ix_inode.specs.declared.node.Node.{Node}
-use Rattle.ix_inode.specs.Nodes.{Nodes}
-use Rattle.ix_inode.specs.Shown.{kind_of}
+use Rattle.ix_inode.specs.{declared.node.Node.Node, Nodes.Nodes, Shown.kind_of}
 use Rattle.ix_name.specs.Directories.{Directories, names_of}
 use Rattle.ix_open.specs.Table.{OpenTable}
-use Rattle.ix_pipe.specs.Pipe.{Pipe, waiting, waiting_at, fits, fits_at}
-use Rattle.ix_pipe.specs.Claims.{claimant_of}
-use Rattle.ix_tables.specs.Parts.{Parts}
+use Rattle.ix_pipe.specs.{Pipe.{Pipe, waiting, waiting_at, fits, fits_at}, Claims.claimant_of}
+use Rattle.ix_tables.{specs.Parts.Parts, proofs.Joining.{at_inode, at_pipe, put_pipe}}
 use Rattle.ix_tables.specs.Joined.{object_of, object_of_pipe, holding_of_bytes, holding_of_pipe, all_objects, all_holdings, joined, AreJoined}
-use Rattle.ix_tables.proofs.Joining.{at_inode, at_pipe, put_pipe}
 
 -- no inode is a pipe
 no_pipe : (names : List (List ℕ × ℕ)) (x : Option Node) → is_pipe (unwrap_or (option_map (object_of names) x) nothing) ≡ false

@@ -1,31 +1,17 @@
 -- Another inode, or none, at a number, and a new one.
-use Rattle.std.proofs.Common.{◌≡◌, ◌+◌, ◌<◌, ◌^◌, Bool, true, false, ℕ, List, [], ◌++◌, map, length, Option, Some, None, option_map, unwrap_or}
-use Rattle.std.proofs.Common.{slice_set, nat_lt, refl, sym, ap, subst, ◌∙◌, arith, inl, inr, length-set, get_or-set_other, get_or-set_same}
-use Rattle.std.specs.Option.{option_map_or}
-use Rattle.std.proofs.lemmas.Bool.{cases_eq}
-use Rattle.std.proofs.lemmas.List.{length-map, map-set, set-append_left}
-use Rattle.ix_model.proofs.tables.FreeNumbers.{IsFreeInode}
-use Rattle.ix_model.proofs.tables.Inodes.{first_within}
-use Rattle.ix_model.specs.world.World.{Object, at, put, is_dir}
-use Rattle.ix_model.specs.world.Contents.{holds_nothing}
-use Rattle.ix_model.specs.world.Numbers.{first_pipe}
-use Rattle.ix_model.specs.world.Owners.{names_in_all}
-use Rattle.ix_model.specs.rows.OnPaths.{new_object}
-use Rattle.ix_model.specs.rows.Walks.{node, nothing}
-use Rattle.ix_model.specs.declared.config.Limits.{Limits}
-use Rattle.ix_model.specs.declared.reply.Kind.{Kind}
-use Rattle.ix_inode.specs.Nodes.{Nodes, with_inode, made, vacant_in}
-use Rattle.ix_inode.specs.Shown.{kind_of, is_dir_kind, new_node}
-use Rattle.ix_inode.specs.declared.node.Node.{Node}
+use Rattle.std.proofs.Common.{◌≡◌, ◌+◌, ◌<◌, ◌^◌, Bool, true, false, ℕ, List, [], ◌++◌, map, length, Option, Some, None, option_map, unwrap_or, slice_set, refl}
+use Rattle.std.proofs.Common.{nat_lt, sym, ap, subst, ◌∙◌, arith, inl, inr, length-set, get_or-set_other, get_or-set_same}
+use Rattle.std.{specs.Option.option_map_or, proofs.lemmas.{Bool.cases_eq, List.{length-map, map-set, set-append_left}}}
+use Rattle.ix_model.proofs.tables.{FreeNumbers.IsFreeInode, Inodes.first_within}
+use Rattle.ix_model.specs.world.{World.{Object, at, put, is_dir}, Contents.holds_nothing, Numbers.first_pipe, Owners.names_in_all}
+use Rattle.ix_model.specs.{rows.{OnPaths.new_object, Walks.{node, nothing}}, declared.{config.Limits.Limits, reply.Kind.Kind}}
+use Rattle.ix_inode.specs.{Nodes.{Nodes, with_inode, made, vacant_in}, Shown.{kind_of, is_dir_kind, new_node}, declared.node.Node.Node}
 use Rattle.ix_name.specs.Directories.{Directories, names_of}
 use Rattle.ix_open.specs.Table.{OpenTable}
 use Rattle.ix_pipe.specs.Pipe.{Pipe}
-use Rattle.ix_tables.specs.Parts.{Parts}
-use Rattle.ix_tables.specs.Views.{frame_alone, vacant_inode}
+use Rattle.ix_tables.specs.{Parts.Parts, Views.{frame_alone, vacant_inode}}
+use Rattle.ix_tables.proofs.{Joining.{objects_put, at_inode, put_inode}, Naming.all_names, Vacant.{vacant_is, vacant_free}}
 use Rattle.ix_tables.specs.Joined.{object_of, object_of_pipe, holding_of_bytes, holding_of_pipe, joined, names_in, names_for, HasNames, AreJoined}
-use Rattle.ix_tables.proofs.Joining.{objects_put, at_inode, put_inode}
-use Rattle.ix_tables.proofs.Naming.{all_names}
-use Rattle.ix_tables.proofs.Vacant.{vacant_is, vacant_free}
 
 -- the tables with that in the place of what stood there, without bytes
 pub inode_put : (limits : Limits) (nodes nodes2 : Nodes) (names : Directories) (pipes : List (Option Pipe)) (es : OpenTable) (hs : List ℕ) (now : Parts)

@@ -1,29 +1,18 @@
 -- Names that come and go.
-use Rattle.std.proofs.Common.{◌≡◌, ◌+◌, ◌-◌, ◌^◌, ◌<◌, ◌≤◌, ◌==◌, Bool, true, false, cond, unwrap_or, ℕ, zero, suc, List, [], ◌∷◌, ◌++◌, map, length}
-use Rattle.std.proofs.Common.{set, slice_set, Option, Some, None, option_map, refl, sym, ap, subst, ◌∙◌, arith, inl, inr, length-set}
-use Rattle.std.proofs.Common.{get_or-set_other, get_or-set_same}
-use Rattle.std.specs.Option.{option_map_or}
-use Rattle.std.proofs.lemmas.Bool.Decides.{eqb_tells}
-use Rattle.ix_model.specs.world.World.{Object, at, put, change, is_dir, is_file}
-use Rattle.ix_model.specs.world.Directories.{without_name}
-use Rattle.ix_model.proofs.tables.Finds.{in_table}
-use Rattle.ix_model.proofs.tables.Tables.{seen_changed, at_changed, change_same}
-use Rattle.ix_model.specs.rows.Walks.{node, child, nothing}
-use Rattle.ix_model.specs.declared.reply.Kind.{Kind}
-use Rattle.ix_model.specs.declared.config.Limits.{Limits}
+use Rattle.std.proofs.Common.{◌≡◌, ◌+◌, ◌-◌, ◌^◌, ◌<◌, ◌≤◌, ◌==◌, Bool, true, false, cond, unwrap_or, ℕ, zero, suc, List, [], ◌∷◌, ◌++◌, map, length, set, Some}
+use Rattle.std.proofs.Common.{slice_set, Option, None, option_map, refl, sym, ap, subst, ◌∙◌, arith, inl, inr, length-set, get_or-set_other, get_or-set_same}
+use Rattle.std.{specs.Option.option_map_or, proofs.lemmas.Bool.Decides.eqb_tells}
+use Rattle.ix_model.specs.{world.{World.{Object, at, put, change, is_dir, is_file}, Directories.without_name}, rows.Walks.{node, child, nothing}}
+use Rattle.ix_model.specs.declared.{reply.Kind.Kind, config.Limits.Limits}
+use Rattle.ix_model.proofs.tables.{Finds.in_table, Tables.{seen_changed, at_changed, change_same}}
 use Rattle.ix_model.specs.declared.reply.Kind.TheVariants as kind
-use Rattle.ix_inode.specs.Nodes.{told_at, changed, Nodes, with_inode}
-use Rattle.ix_inode.specs.Shown.{kind_of}
-use Rattle.ix_inode.specs.declared.node.Inode.{Inode}
-use Rattle.ix_inode.specs.declared.node.Node.{Node}
+use Rattle.ix_inode.specs.{Nodes.{told_at, changed, Nodes, with_inode}, Shown.kind_of, declared.node.{Inode.Inode, Node.Node}}
 use Rattle.ix_name.specs.Directories.{Directories, names_of, under, without, with_fewer, removed, AreDifferent}
 use Rattle.ix_open.specs.Table.{OpenTable}
 use Rattle.ix_pipe.specs.Pipe.{Pipe}
-use Rattle.ix_tables.specs.Parts.{Parts}
+use Rattle.ix_tables.{specs.Parts.Parts, proofs.Joining.{inode_edited, Lists, names_at, at_objects, at_inode, put_inode, directory_there, names_there}}
+use Rattle.ix_tables.{proofs.Counting.{Names, names_fewer, times_fewer}, proofs.Placing.{inode_put, joined_put}}
 use Rattle.ix_tables.specs.Joined.{object_of, objects_of, object_of_pipe, all_objects, joined, names_in, names_for, HasLinks, HasNames, AreJoined}
-use Rattle.ix_tables.proofs.Joining.{inode_edited, Lists, names_at, at_objects, at_inode, put_inode, directory_there, names_there}
-use Rattle.ix_tables.proofs.Counting.{Names, names_fewer, times_fewer}
-use Rattle.ix_tables.proofs.Placing.{inode_put, joined_put}
 
 pub objects_named : (xs : List (Option Node)) (ls : Lists) (d : ℕ) (h : Names → Names) → length ls ≡ length xs
     → objects_of xs (set ls d (h (names_at ls d))) ≡ change (objects_of xs ls) d (λ o. record o { names = h o.names })

@@ -1,16 +1,12 @@
 -- A byte written so many times behind the last one of a file.
-use Rattle.std.proofs.Common.{◌≡◌, ◌+◌, ◌-◌, ◌<◌, ◌≤◌, ◌==◌, ℕ, Bool, true, false, not, max, nat_lt, nat_le, ◌&&◌, List, [], ◌∷◌, ◌++◌, length, take, drop}
-use Rattle.std.proofs.Common.{replicate, slice_set, slice_index_or, if◌then◌else◌, refl, sym, ap, ◌∙◌, subst, arith, inl, inr, append-nil, append_assoc}
-use Rattle.std.proofs.lemmas.Bool.{cases_lt}
-use Rattle.std.proofs.lemmas.List.{set-set, set_past, set-get_or, get_or-set_same, get_or_past, take_all, replicate-append-replicate, length-replicate, length-append}
-use Rattle.std.proofs.lemmas.Bool.Decides.{nat_tests, eqb_tells}
-use Rattle.std.proofs.Math.ListN.{drop_of_length-le}
-use Rattle.ix_model.specs.world.World.{Holding}
-use Rattle.ix_model.specs.world.Contents.{holds_nothing, with_side, spliced}
+use Rattle.std.proofs.Common.{◌≡◌, ◌+◌, ◌-◌, ◌<◌, ◌≤◌, ◌==◌, ℕ, Bool, true, false, not, max, nat_lt, nat_le, ◌&&◌, List, [], ◌∷◌, ◌++◌, length, take, drop, sym}
+use Rattle.std.proofs.Common.{replicate, slice_set, slice_index_or, if◌then◌else◌, refl, ap, ◌∙◌, subst, arith, inl, inr, append-nil, append_assoc}
+use Rattle.std.proofs.{lemmas.Bool.{cases_lt, Decides.{nat_tests, eqb_tells}}, Math.ListN.drop_of_length-le}
+use Rattle.std.proofs.lemmas.List.{set-set, set_past, set-get_or, get_or-set_same, get_or_past, take_all, replicate-append-replicate, length-replicate}
+use Rattle.std.proofs.lemmas.List.{length-append}
+use Rattle.ix_model.{specs.world.World.Holding, specs.world.Contents.{holds_nothing, with_side, spliced}, proofs.tables.Blocks.blocks_skip}
 use Rattle.ix_model.specs.rows.Telling.{blocks_for, blocks_on, blocks_beside, fs_of_object, lies_on, length_then}
-use Rattle.ix_model.proofs.tables.Blocks.{blocks_skip}
-use Rattle.ix_tables.specs.Parts.{Parts}
-use Rattle.ix_tables.specs.Views.{frame_alone, content_alone, has_room}
+use Rattle.ix_tables.specs.{Parts.Parts, Views.{frame_alone, content_alone, has_room}}
 
 -- bytes that stand right behind the others
 pub spliced_behind : (place : ℕ) (new old : List ℕ) → length old ≡ place → spliced place new old ≡ old ++ new

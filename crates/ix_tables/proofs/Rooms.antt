@@ -1,25 +1,16 @@
 -- The blocks that files use, as inodes count them and as the holdings show them.
-use Rattle.std.proofs.Common.{◌≡◌, ◌+◌, ◌-◌, ◌≤◌, ◌==◌, ℕ, zero, suc, nat_le, nat_lt, Bool, true, false, not, ◌&&◌, List, [], ◌∷◌, ◌++◌, length, map}
-use Rattle.std.proofs.Common.{Option, Some, None, option_map, slice_index_or, if◌then◌else◌, refl, sym, ap, ◌∙◌, arith, inl, inr, zero-add}
-use Rattle.std.specs.Option.{option_map_or, option_and_then}
-use Rattle.std.proofs.lemmas.Bool.{cases_lt}
-use Rattle.std.proofs.lemmas.Bool.Decides.{nat_tests}
-use Rattle.std.proofs.lemmas.List.{get_or_past}
-use Rattle.ix_model.specs.world.World.{Object, Holding, at, is_file, fs_at}
-use Rattle.ix_model.specs.world.Contents.{holds_nothing}
-use Rattle.ix_model.specs.rows.Telling.{blocks_for, blocks_where, blocks_on, lies_on, fs_of_object}
-use Rattle.ix_model.specs.declared.config.Limits.{Limits}
-use Rattle.ix_model.proofs.tables.Blocks.{blocks_from}
-use Rattle.ix_inode.specs.declared.node.Node.{Node}
-use Rattle.ix_inode.specs.Nodes.{Nodes, blocks_of, free_blocks, has_space, bytes_at}
+use Rattle.std.proofs.Common.{◌≡◌, ◌+◌, ◌-◌, ◌≤◌, ◌==◌, ℕ, zero, suc, nat_le, nat_lt, Bool, true, false, not, ◌&&◌, List, [], ◌∷◌, ◌++◌, length, map, Option}
+use Rattle.std.proofs.Common.{Some, None, option_map, slice_index_or, if◌then◌else◌, refl, sym, ap, ◌∙◌, arith, inl, inr, zero-add}
+use Rattle.std.{specs.Option.{option_map_or, option_and_then}, proofs.lemmas.{Bool.{cases_lt, Decides.nat_tests}, List.get_or_past}}
+use Rattle.ix_model.{specs.world.World.{Object, Holding, at, is_file, fs_at}, specs.world.Contents.holds_nothing, specs.declared.config.Limits.Limits}
+use Rattle.ix_model.{specs.rows.Telling.{blocks_for, blocks_where, blocks_on, lies_on, fs_of_object}, proofs.tables.Blocks.blocks_from}
+use Rattle.ix_inode.specs.{declared.node.Node.Node, Nodes.{Nodes, blocks_of, free_blocks, has_space, bytes_at}}
 use Rattle.ix_name.specs.Directories.{Directories, names_of}
 use Rattle.ix_open.specs.Table.{OpenTable}
 use Rattle.ix_pipe.specs.Pipe.{Pipe}
-use Rattle.ix_tables.specs.Parts.{Parts}
-use Rattle.ix_tables.specs.Views.{frame_alone, has_room}
+use Rattle.ix_tables.specs.{Parts.Parts, Views.{frame_alone, has_room}}
 use Rattle.ix_tables.specs.Joined.{object_of, object_of_pipe, holding_of_bytes, holding_of_pipe, all_objects, joined, AreJoined}
-use Rattle.ix_tables.proofs.Joining.{at_inode, at_pipe}
-use Rattle.ix_tables.proofs.Holding.{inode_there, bytes_there, is_file_there}
+use Rattle.ix_tables.proofs.{Joining.{at_inode, at_pipe}, Holding.{inode_there, bytes_there, is_file_there}}
 
 -- whether an inode names a file system
 abbrev names_fs : ℕ → Option Node → Bool

@@ -1,21 +1,14 @@
 -- What is told of the objects that inodes and pipes make.
-use Rattle.std.proofs.Common.{◌≡◌, ◌+◌, ◌-◌, ◌<◌, true, false, Bool, IfSome, ℕ, List, length, Option, Some, None, is_some, option_map, unwrap_or, refl, sym, ap, subst, ◌∙◌, arith}
+use Rattle.std.proofs.Common.{◌≡◌, ◌+◌, ◌-◌, ◌<◌, true, false, Bool, IfSome, ℕ, List, length, Option, Some, None, is_some, option_map, unwrap_or, refl, sym, ap}
+use Rattle.std.proofs.Common.{subst, ◌∙◌, arith}
 use Rattle.std.specs.Option.{option_map_or}
 use Rattle.ix_label.specs.Category.{Categories, top}
-use Rattle.ix_model.proofs.tables.Finds.{in_table}
-use Rattle.ix_model.specs.world.World.{Object, at, is_pipe}
-use Rattle.ix_model.specs.rows.Walks.{node, nothing}
+use Rattle.ix_model.{proofs.tables.Finds.in_table, specs.{world.World.{Object, at, is_pipe}, rows.Walks.{node, nothing}, declared.privs.PrivSet.PrivSet}}
 use Rattle.ix_model.specs.declared.reply.Kind.TheVariants as kind
-use Rattle.ix_model.specs.declared.privs.PrivSet.{PrivSet}
-use Rattle.ix_inode.specs.Nodes.{Nodes, told_at}
-use Rattle.ix_inode.specs.Shown.{kind_of}
-use Rattle.ix_inode.specs.declared.node.Inode.{Inode}
-use Rattle.ix_inode.specs.declared.node.Node.{Node}
+use Rattle.ix_inode.specs.{Nodes.{Nodes, told_at}, Shown.kind_of, declared.node.{Inode.Inode, Node.Node}}
 use Rattle.ix_name.specs.Directories.{Directories, names_of}
 use Rattle.ix_pipe.specs.Pipe.{Pipe}
-use Rattle.ix_tables.specs.Joined.{object_of, object_of_pipe, all_objects}
-use Rattle.ix_tables.specs.Views.{Shows, object_by}
-use Rattle.ix_tables.specs.declared.row.ObjectRow.{ObjectRow}
+use Rattle.ix_tables.specs.{Joined.{object_of, object_of_pipe, all_objects}, Views.{Shows, object_by}, declared.row.ObjectRow.ObjectRow}
 use Rattle.ix_tables.proofs.Joining.{at_inode, at_pipe}
 
 -- what stands is told

@@ -1,28 +1,17 @@
 -- Files and directories that go.
-use Rattle.std.proofs.Common.{◌≡◌, ◌-◌, ◌<◌, ◌≤◌, ◌==◌, ◌&&◌, ◌||◌, Bool, true, false, not, ℕ, nat_eq, List, [], length, Option, Some, None, is_some}
-use Rattle.std.proofs.Common.{if◌then◌else◌, option_map, refl, sym, ap, subst, ◌∙◌, arith, inl, inr}
-use Rattle.std.specs.Option.{option_map_or}
-use Rattle.std.proofs.lemmas.Bool.Decides.{eqb_tells}
-use Rattle.ix_model.specs.world.World.{Object, at, held, is_pipe}
-use Rattle.ix_model.specs.world.Numbers.{first_pipe}
-use Rattle.ix_model.specs.world.Owners.{times_named}
-use Rattle.ix_model.specs.rows.Lifetimes.{stays}
-use Rattle.ix_model.specs.declared.config.Limits.{Limits}
-use Rattle.ix_model.specs.declared.reply.Kind.{Kind}
+use Rattle.std.proofs.Common.{◌≡◌, ◌-◌, ◌<◌, ◌≤◌, ◌==◌, ◌&&◌, ◌||◌, Bool, true, false, not, ℕ, nat_eq, List, [], length, Option, Some, None, is_some, refl, sym}
+use Rattle.std.proofs.Common.{if◌then◌else◌, option_map, ap, subst, ◌∙◌, arith, inl, inr}
+use Rattle.std.{specs.Option.option_map_or, proofs.lemmas.Bool.Decides.eqb_tells}
+use Rattle.ix_model.specs.{world.{World.{Object, at, held, is_pipe}, Numbers.first_pipe, Owners.times_named}, rows.Lifetimes.stays}
+use Rattle.ix_model.specs.declared.{config.Limits.Limits, reply.Kind.Kind}
 use Rattle.ix_model.specs.declared.reply.Kind.TheVariants as kind
-use Rattle.ix_inode.specs.Nodes.{Nodes, without, told_at}
-use Rattle.ix_inode.specs.Shown.{kind_of}
-use Rattle.ix_inode.specs.declared.node.Inode.{Inode}
-use Rattle.ix_inode.specs.declared.node.Node.{Node}
+use Rattle.ix_inode.specs.{Nodes.{Nodes, without, told_at}, Shown.kind_of, declared.node.{Inode.Inode, Node.Node}}
 use Rattle.ix_name.specs.Directories.{Directories, names_of}
 use Rattle.ix_open.specs.Table.{OpenTable}
 use Rattle.ix_pipe.specs.Pipe.{Pipe}
-use Rattle.ix_tables.specs.Parts.{Parts}
-use Rattle.ix_tables.specs.Views.{frame_alone, without_object, object_let_go}
+use Rattle.ix_tables.specs.{Parts.Parts, Views.{frame_alone, without_object, object_let_go}}
 use Rattle.ix_tables.specs.Joined.{object_of, object_of_pipe, joined, names_for, HasLinks, HasNames, AreJoined}
-use Rattle.ix_tables.proofs.Joining.{at_inode, at_pipe}
-use Rattle.ix_tables.proofs.Naming.{all_times}
-use Rattle.ix_tables.proofs.Placing.{inode_put, joined_put}
+use Rattle.ix_tables.proofs.{Joining.{at_inode, at_pipe}, Naming.all_times, Placing.{inode_put, joined_put}}
 
 -- whether something of that kind, with so many links, goes
 abbrev pub goes : Kind → ℕ → Bool → Bool

@@ -1,20 +1,14 @@
 -- The lowest free inode of a file system.
-use Rattle.std.proofs.Common.{◌≡◌, ◌+◌, ◌≤◌, true, false, cond, ℕ, List, [], ◌∷◌, ◌++◌, map, length, take, drop, Option, Some, None, is_none, option_map, nat_lt, refl, sym, ap, ◌∙◌, arith}
-use Rattle.std.specs.List.{drop-map, take-map, position_or_len}
-use Rattle.std.proofs.lemmas.List.{drop-append-le, take-append-le, length-drop, length-map}
-use Rattle.ix_model.proofs.tables.FreeNumbers.{IsFreeInode, free_inode_is}
-use Rattle.ix_model.proofs.tables.Inodes.{first_within}
-use Rattle.ix_model.specs.world.World.{Object, lowest_free, fs_at}
-use Rattle.ix_model.specs.world.Numbers.{first_inode, free_inode}
-use Rattle.ix_model.specs.declared.config.Limits.{Limits}
-use Rattle.ix_inode.specs.Nodes.{Nodes, vacant_in}
-use Rattle.ix_inode.specs.declared.node.Node.{Node}
+use Rattle.std.proofs.Common.{◌≡◌, ◌+◌, ◌≤◌, true, false, cond, ℕ, List, [], ◌∷◌, ◌++◌, map, length, take, drop, Option, Some, None, is_none, option_map, refl}
+use Rattle.std.proofs.Common.{nat_lt, sym, ap, ◌∙◌, arith}
+use Rattle.std.{specs.List.{drop-map, take-map, position_or_len}, proofs.lemmas.List.{drop-append-le, take-append-le, length-drop, length-map}}
+use Rattle.ix_model.proofs.tables.{FreeNumbers.{IsFreeInode, free_inode_is}, Inodes.first_within}
+use Rattle.ix_model.specs.{world.{World.{Object, lowest_free, fs_at}, Numbers.{first_inode, free_inode}}, declared.config.Limits.Limits}
+use Rattle.ix_inode.specs.{Nodes.{Nodes, vacant_in}, declared.node.Node.Node}
 use Rattle.ix_name.specs.Directories.{Directories}
 use Rattle.ix_open.specs.Table.{OpenTable}
 use Rattle.ix_pipe.specs.Pipe.{Pipe}
-use Rattle.ix_tables.specs.Parts.{Parts}
-use Rattle.ix_tables.specs.Views.{vacant_inode, frame_alone}
-use Rattle.ix_tables.specs.Joined.{objects_of, object_of_pipe, joined, AreJoined}
+use Rattle.ix_tables.specs.{Parts.Parts, Views.{vacant_inode, frame_alone}, Joined.{objects_of, object_of_pipe, joined, AreJoined}}
 use Rattle.ix_tables.proofs.Joining.{Lists, length-objects}
 
 tests : {A : Type 0} (t : List (Option A)) → position_or_len is_none t ≡ position_or_len (λ b. b) (map is_none t)

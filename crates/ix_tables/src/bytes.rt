@@ -1,9 +1,7 @@
 ghost use Rattle.std.specs.Prelude.{◌≡◌, ◌+◌, ◌-◌, ◌<◌, ◌≤◌, ◌++◌, length, take, drop, min, replicate, is_some, IsTrue, slice_index_or, slice_set, true, false};
 ghost use Rattle.std.specs.Option.{option_map_or};
-ghost use Rattle.ix_model.specs.world.World.{Holding, at, is_file, is_pipe};
-ghost use Rattle.ix_model.specs.world.Contents.{holds_nothing, side, with_side, spliced, cut_to};
-ghost use Rattle.ix_model.specs.rows.Telling.{length_then};
-ghost use Rattle.ix_model.specs.rows.Walks.{node};
+ghost use Rattle.ix_model.specs.world.{World.{Holding, at, is_file, is_pipe}, Contents.{holds_nothing, side, with_side, spliced, cut_to}};
+ghost use Rattle.ix_model.specs.rows.{Telling.{length_then}, Walks.{node}};
 ghost use Rattle.ix_tables.specs.Views.{has_room};
 
 use crate::tables::Tables;

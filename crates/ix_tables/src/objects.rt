@@ -1,10 +1,8 @@
 ghost use Rattle.std.specs.Prelude.{◌≡◌, ◌+◌, ◌<◌, ◌==◌, ◌^◌, length, is_some, IfSome, IsTrue, Some, true, false, if◌then◌else◌};
 ghost use Rattle.std.specs.Option.{option_map_or};
 ghost use Rattle.ix_label.specs.Category.{leq};
-ghost use Rattle.ix_model.specs.world.World.{at, change, ceiling_of, is_dir, is_pipe};
-ghost use Rattle.ix_model.specs.world.Numbers.{first_inode, first_pipe};
-ghost use Rattle.ix_model.specs.rows.OnPaths.{links_of};
-ghost use Rattle.ix_model.specs.rows.Walks.{node};
+ghost use Rattle.ix_model.specs.world.{World.{at, change, ceiling_of, is_dir, is_pipe}, Numbers.{first_inode, first_pipe}};
+ghost use Rattle.ix_model.specs.rows.{OnPaths.{links_of}, Walks.{node}};
 ghost use Rattle.ix_inode.specs.Shown.{is_dir_kind};
 ghost use Rattle.ix_tables.specs.Views.{Shows, frame_alone, object_by};
 

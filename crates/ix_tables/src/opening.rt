@@ -1,18 +1,13 @@
-ghost use Rattle.std.specs.Prelude.{◌≡◌, ◌+◌, ◌-◌, ◌<◌, ◌≤◌, [], length, map, suc, IfOk, IsTrue, Some, true, false, is_some, unwrap_or, slice_index_or, slice_set};
+ghost use Rattle.std.specs.Prelude.{◌≡◌, ◌+◌, ◌-◌, ◌<◌, ◌≤◌, [], length, map, suc, IfOk, IsTrue, Some, true, false, is_some, unwrap_or, slice_index_or};
+ghost use Rattle.std.specs.Prelude.{slice_set};
 ghost use Rattle.std.specs.Option.{option_map_or};
 ghost use Rattle.ix_label.specs.Category.{leq};
-ghost use Rattle.ix_model.specs.world.World.{at, change, ceiling_of, is_dir, is_file, is_pipe};
-ghost use Rattle.ix_model.specs.world.Numbers.{first_pipe};
-ghost use Rattle.ix_model.specs.world.Contents.{holds_nothing};
-ghost use Rattle.ix_model.specs.rows.Walks.{node, child};
-ghost use Rattle.ix_model.specs.opening.Opening.{bare_world, opening_world, directory_of};
-ghost use Rattle.ix_model.specs.opening.Valid.{all_differ, is_valid};
+ghost use Rattle.ix_model.specs.{world.World.{at, change, ceiling_of, is_dir, is_file, is_pipe}, world.Numbers.{first_pipe}, world.Contents.{holds_nothing}};
+ghost use Rattle.ix_model.specs.{world.NameRefs.{name_of}, world.Paths.{path_of}, rows.Walks.{node, child}};
+ghost use Rattle.ix_model.specs.opening.{Opening.{bare_world, opening_world, directory_of}, Valid.{all_differ, is_valid}};
 ghost use Rattle.ix_inode.specs.Nodes.{are_within};
-ghost use Rattle.ix_tables.specs.Parts.{parts_of};
-ghost use Rattle.ix_tables.specs.Views.{has_room};
+ghost use Rattle.ix_tables.specs.{Parts.{parts_of}, Views.{has_room}};
 ghost use Rattle.ix_tables.specs.Opening.{roots_named, homes_at_first, opening_after, Leads, kind_said, as_said, with_line, HasPlace};
-ghost use Rattle.ix_model.specs.world.NameRefs.{name_of};
-ghost use Rattle.ix_model.specs.world.Paths.{path_of};
 
 use crate::names::enter;
 use crate::tables::Tables;

@@ -1,10 +1,6 @@
-ghost use Rattle.std.specs.Prelude.{◌≡◌, ◌-◌, ◌<◌, is_some, IfSome, IsTrue, None, Some, not, true, false, slice_set};
+ghost use Rattle.std.specs.{Prelude.{◌≡◌, ◌-◌, ◌<◌, is_some, IfSome, IsTrue, None, Some, not, true, false, slice_set}, Option.{option_map_or}};
 ghost use Rattle.std.proofs.Common.{option_map};
-ghost use Rattle.std.specs.Option.{option_map_or};
-ghost use Rattle.ix_model.specs.world.World.{at, put, change, is_pipe, held};
-ghost use Rattle.ix_model.specs.world.Contents.{holds_nothing};
-ghost use Rattle.ix_model.specs.rows.OnPaths.{new_object};
-ghost use Rattle.ix_model.specs.rows.Walks.{node};
+ghost use Rattle.ix_model.specs.{world.{World.{at, put, change, is_pipe, held}, Contents.{holds_nothing}}, rows.{OnPaths.{new_object}, Walks.{node}}};
 ghost use Rattle.ix_model.specs.declared.reply.Kind.TheVariants as kind;
 ghost use Rattle.ix_tables.specs.Views.{vacant_pipe, object_let_go, claimed};
 ghost use Rattle.ix_pipe.specs.Claims.{claim_answer};

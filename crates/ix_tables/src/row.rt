@@ -1,6 +1,5 @@
 ghost use Rattle.std.specs.Prelude.{◌≡◌};
-ghost use Rattle.ix_model.specs.world.World.{is_dir, is_file, is_pipe, is_trusted};
-ghost use Rattle.ix_model.specs.rows.Walks.{nothing};
+ghost use Rattle.ix_model.specs.{world.World.{is_dir, is_file, is_pipe, is_trusted}, rows.Walks.{nothing}};
 ghost use Rattle.ix_tables.specs.Views.{object_by};
 
 use bitflags::Flags;

@@ -27,11 +27,9 @@ pub struct Tables {
 }
 
 impl Model for Tables {
-    ghost use Rattle.std.specs.Coded.{codes};
+    ghost use Rattle.std.specs.{Coded.{codes}, Prelude.{◌≡◌, length}};
     ghost use Rattle.ix_label.specs.contracts.label.Label as label_type;
-    ghost use Rattle.std.specs.Prelude.{◌≡◌, length};
-    ghost use Rattle.ix_tables.specs.Parts.{Parts};
-    ghost use Rattle.ix_tables.specs.Joined.{joined, AreJoined};
+    ghost use Rattle.ix_tables.specs.{Parts.{Parts}, Joined.{joined, AreJoined}};
 
     ghost Value = { Parts };
 

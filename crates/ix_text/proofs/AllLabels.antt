@@ -1,21 +1,12 @@
 -- The one label of a spelling is found among all labels.
-use Rattle.std.proofs.Common.{◌≡◌, ◌≢◌, ℕ, zero, suc, ◌+◌, ◌<◌, Bool, true, false, not, ◌&&◌, ◌||◌, ◌==◌, List, [], ◌∷◌, ◌++◌, map, find, cond}
-use Rattle.std.proofs.Common.{Option, Some, None, ◌⊎◌, inl, inr, refl, sym, ap, ◌∙◌, subst, arith}
+use Rattle.std.proofs.Common.{◌≡◌, ◌≢◌, ℕ, zero, suc, ◌+◌, ◌<◌, Bool, true, false, not, ◌&&◌, ◌||◌, ◌==◌, List, [], ◌∷◌, ◌++◌, map, find, cond, Option, Some}
+use Rattle.std.proofs.Common.{None, ◌⊎◌, inl, inr, refl, sym, ap, ◌∙◌, subst, arith}
 use Rattle.std.specs.FinSet as set
-use Rattle.std.specs.FinSet.{contains-remove}
-use Rattle.std.specs.Cmp.{nat_cmp_total, unsigned_tied}
-use Rattle.std.proofs.lemmas.Bool.{eq-eqb, ne_eqb, cases_eq}
-use Rattle.std.specs.Cmp.Lexicographic.{same_text}
-use Rattle.ix_label.specs.declared.form.Form.{Form}
-use Rattle.ix_label.specs.Forms.{greatest, Fits, IsWithin}
-use Rattle.ix_label.specs.Category.{Categories, has, bottom, with}
-use Rattle.ix_label.specs.Members.{same_members, has-bottom, has-with}
-use Rattle.ix_label.specs.Spelling.{spelling}
-use Rattle.ix_label.proofs.Fitting.{within-fits}
-use Rattle.ix_model.specs.world.Naming.{same_bytes}
-use Rattle.ix_text.specs.Labels.{labels_below, is_spelled, label_in}
-use Rattle.ix_model.proofs.tables.Alike.{bytes_itself}
-use Rattle.ix_text.proofs.Tests.{both, bool_cases}
+use Rattle.std.{specs.{FinSet.contains-remove, Cmp.{nat_cmp_total, unsigned_tied, Lexicographic.same_text}}, proofs.lemmas.Bool.{eq-eqb, ne_eqb, cases_eq}}
+use Rattle.ix_label.{specs.declared.form.Form.Form, specs.Forms.{greatest, Fits, IsWithin}, specs.Category.{Categories, has, bottom, with}}
+use Rattle.ix_label.{specs.Members.{same_members, has-bottom, has-with}, specs.Spelling.spelling, proofs.Fitting.within-fits}
+use Rattle.ix_model.{specs.world.Naming.same_bytes, proofs.tables.Alike.bytes_itself}
+use Rattle.ix_text.{specs.Labels.{labels_below, is_spelled, label_in}, proofs.Tests.{both, bool_cases}}
 
 -- ---- every label is there
 abbrev Among : Categories → List Categories → Type 0

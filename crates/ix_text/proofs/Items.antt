@@ -1,10 +1,8 @@
 -- The items of a label, written one after the other.
-use Rattle.std.proofs.Common.{◌≡◌, ℕ, ◌+◌, ◌<◌, ◌≤◌, false, List, [], ◌++◌, length, take, drop, refl, sym, ap, ◌∙◌, arith, append_assoc, length-append, inl, inr}
-use Rattle.std.proofs.lemmas.Bool.{cases_lt, ne_eqb}
-use Rattle.std.proofs.lemmas.List.{append-nil, take_all, take_at, take-append-drop}
-use Rattle.ix_label.specs.Category.{Categories, has}
-use Rattle.ix_label.specs.Spelling.{item, items, runs}
-use Rattle.ix_label.specs.Scanning.{IsFirstFrom, RunsTo, comma_after}
+use Rattle.std.proofs.Common.{◌≡◌, ℕ, ◌+◌, ◌<◌, ◌≤◌, false, List, [], ◌++◌, length, take, drop, refl, sym, ap, ◌∙◌, arith, append_assoc, length-append, inl}
+use Rattle.std.proofs.Common.{inr}
+use Rattle.std.proofs.lemmas.{Bool.{cases_lt, ne_eqb}, List.{append-nil, take_all, take_at, take-append-drop}}
+use Rattle.ix_label.specs.{Category.{Categories, has}, Spelling.{item, items, runs}, Scanning.{IsFirstFrom, RunsTo, comma_after}}
 use Rattle.ix_label.proofs.Texts.{comma_after_none, comma_after_some, item_some}
 use Rattle.ix_label.proofs.Walk.{IsSpelledBelow, IsSpelledBelow-none, IsSpelledBelow-more, IsSpelledBelow-all}
 use Rattle.ix_text.specs.Items.{separator}

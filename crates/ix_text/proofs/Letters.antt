@@ -1,6 +1,5 @@
 -- What is left of a word after the letters of a set.
-use Rattle.std.proofs.Common.{◌≡◌, ℕ, suc, ◌==◌, true, false, List, [], ◌∷◌, length, Some, None, refl, arith}
-use Rattle.std.proofs.lemmas.Bool.{eqb-true}
+use Rattle.std.proofs.{Common.{◌≡◌, ℕ, suc, ◌==◌, true, false, List, [], ◌∷◌, length, Some, None, refl, arith}, lemmas.Bool.eqb-true}
 use Rattle.ix_text.specs.Privs.{bits_from}
 
 pub no_bytes_left : (bits : ℕ) (word : List ℕ) → (length word == 0) ≡ true → bits_from bits [] word ≡ Some bits

@@ -1,12 +1,8 @@
 -- Names of scripts are names of the machine.
 use Rattle.std.proofs.Common.{◌≡◌, ℕ, true, false, ◌&&◌, not, ◌==◌, nat_le, nat_lt, List, [], ◌∷◌, length, refl, arith}
-use Rattle.std.specs.List.{list_all}
-use Rattle.std.proofs.lemmas.Bool.Decides.{nat_tests}
-use Rattle.std.proofs.lemmas.Bool.{lt-ltb}
+use Rattle.std.{specs.List.list_all, proofs.lemmas.Bool.{Decides.nat_tests, lt-ltb}}
 use Rattle.ix_model.specs.world.Naming.{is_name, may_stand_in_name, same_bytes}
-use Rattle.ix_text.specs.Bytes.{is_letter}
-use Rattle.ix_text.specs.Names.{may_stand_in_script_name, is_reserved, is_script_name}
-use Rattle.ix_text.proofs.Tests.{both, join_tests, list_all_weaker}
+use Rattle.ix_text.{specs.{Bytes.is_letter, Names.{may_stand_in_script_name, is_reserved, is_script_name}}, proofs.Tests.{both, join_tests, list_all_weaker}}
 
 unlike : (b c : ℕ) (bytes text : List ℕ) → (b == c) ≡ false → not (same_bytes (b ∷ bytes) (c ∷ text)) ≡ true
 unlike b c bytes text h = rw h refl

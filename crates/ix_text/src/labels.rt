@@ -1,8 +1,6 @@
-ghost use Rattle.std.specs.Prelude.{◌≡◌, ◌+◌, ◌<◌, ◌++◌, ◌∷◌, [], length, take, OnOk};
-ghost use Rattle.std.specs.Fmt.{decimal};
+ghost use Rattle.std.specs.{Prelude.{◌≡◌, ◌+◌, ◌<◌, ◌++◌, ◌∷◌, [], length, take, OnOk}, Fmt.{decimal}};
 ghost use Rattle.ix_label.specs.Spelling.{spelling, item, items, runs};
-ghost use Rattle.ix_text.specs.Items.{separator};
-ghost use Rattle.ix_text.specs.Labels.{label_in};
+ghost use Rattle.ix_text.specs.{Items.{separator}, Labels.{label_in}};
 
 use itoa::Buffer;
 use ix_label::{Form, Label, Steps};

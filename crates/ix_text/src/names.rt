@@ -1,7 +1,5 @@
-ghost use Rattle.std.specs.Prelude.{◌≡◌};
-ghost use Rattle.std.specs.List.{list_all};
-ghost use Rattle.ix_text.specs.Bytes.{begins_with, is_letter};
-ghost use Rattle.ix_text.specs.Names.{is_reserved, is_script_name, may_stand_in_script_name, name_of};
+ghost use Rattle.std.specs.{Prelude.{◌≡◌}, List.{list_all}};
+ghost use Rattle.ix_text.specs.{Bytes.{begins_with, is_letter}, Names.{is_reserved, is_script_name, may_stand_in_script_name, name_of}};
 
 use crate::bytes::{is, is_digit, is_letter};
 use ix_model::Name;

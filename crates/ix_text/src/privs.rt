@@ -1,6 +1,5 @@
 ghost use Rattle.std.specs.Prelude.{◌≡◌, ℕ, ◌≤◌, ◌<◌, ◌+◌, List, ◌∷◌};
-ghost use Rattle.ix_text.specs.Spellings.{letters};
-ghost use Rattle.ix_text.specs.Privs.{bits_from, privs_of};
+ghost use Rattle.ix_text.specs.{Spellings.{letters}, Privs.{bits_from, privs_of}};
 
 use crate::bytes::{begins, is};
 use bitflags::Flags;

@@ -1,18 +1,11 @@
 -- A history shows what its steps give, one after another.
 use Rattle.std.proofs.Common.{◌≡◌, ℕ, zero, suc, ◌+◌, ◌&&◌, List, [], ◌∷◌, ◌++◌, length, take, if◌then◌else◌, refl, ap, ◌∙◌, arith}
 use Rattle.std.specs.Option.{option_map_or}
-use Rattle.ix_model.specs.world.World.{World}
-use Rattle.ix_model.specs.history.Step.{Given, answer, step, step_of, run}
-use Rattle.ix_model.specs.rows.Table.{Decision, verdict}
-use Rattle.ix_model.specs.rows.Telling.{told}
-use Rattle.ix_model.specs.opening.Opening.{opening_world}
+use Rattle.ix_model.specs.{world.World.World, history.Step.{Given, answer, step, step_of, run}, history.Events.{Op, Event}, opening.Opening.opening_world}
 use Rattle.ix_model.specs.history.AuditLog.{is_answer, is_licensed, exercises, line_of_act, lines_added, audit_log}
-use Rattle.ix_model.specs.history.Events.{Op, Event}
+use Rattle.ix_model.specs.rows.{Table.{Decision, verdict}, Telling.told}
+use Rattle.ix_model.specs.declared.{audit.AuditLine.AuditLine, config.Config.Config, refusal.Refusal.Refusal, reply.Reply.Reply}
 use Rattle.ix_model.specs.history.Events as op
-use Rattle.ix_model.specs.declared.audit.AuditLine.{AuditLine}
-use Rattle.ix_model.specs.declared.config.Config.{Config}
-use Rattle.ix_model.specs.declared.refusal.Refusal.{Refusal}
-use Rattle.ix_model.specs.declared.reply.Reply.{Reply}
 use Rattle.ix_model.specs.declared.reply.Reply.TheVariants as reply
 use Rattle.ix_worked.specs.Sessions.{Line, Shown, line_of, lines_of, labels_in, shown_from, shown, log_of}
 

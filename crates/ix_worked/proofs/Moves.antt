@@ -1,17 +1,11 @@
 -- A session by what each of its entries changes. The worlds that it goes through have no names: each is made from the one before it.
 use Rattle.std.proofs.Common.{◌≡◌, ℕ, suc, List, [], ◌∷◌, ◌++◌, take, drop, length, slice_index_or, refl, ap, arith}
-use Rattle.ix_model.specs.world.World.{World}
-use Rattle.ix_model.specs.history.Step.{Given, answer, run}
-use Rattle.ix_model.specs.history.Events.{Event}
-use Rattle.ix_model.specs.opening.Opening.{opening_world}
-use Rattle.ix_model.specs.rows.Table.{Decision, verdict}
-use Rattle.ix_model.specs.rows.Telling.{told}
-use Rattle.ix_model.specs.declared.config.Config.{Config}
-use Rattle.ix_model.specs.declared.refusal.Refusal.{Refusal}
-use Rattle.ix_model.specs.declared.reply.Reply.{Reply}
+use Rattle.ix_model.specs.{world.World.World, history.{Step.{Given, answer, run}, Events.Event}, opening.Opening.opening_world}
+use Rattle.ix_model.specs.{rows.{Table.{Decision, verdict}, Telling.told}, declared.{config.Config.Config, refusal.Refusal.Refusal, reply.Reply.Reply}}
 use Rattle.ix_model.specs.declared.reply.Reply.TheVariants as reply
 use Rattle.ix_worked.specs.Sessions.{Line, Shown, lines_of, shown, calls, log_of}
-use Rattle.ix_worked.proofs.Chains.{◌⨾◌, Gives, decision_before, lines_by, lines_given, shown_by, shown_given, log_by, log_given, last_of, run_given, gives_some}
+use Rattle.ix_worked.proofs.Chains.{◌⨾◌, Gives, decision_before, lines_by, lines_given, shown_by, shown_given, log_by, log_given, last_of, run_given}
+use Rattle.ix_worked.proofs.Chains.{gives_some}
 
 -- what an entry changes, and what it gives from the world before it
 abbrev pub Change : Type 0

@@ -1,29 +1,17 @@
 -- What a high process does comes to one that was low, entry by entry.
 use Rattle.std.proofs.Common.{◌≡◌, ℕ, suc, Bool, true, false, List, [], ◌∷◌, ◌++◌, ◌&&◌, refl, sym, subst₂, codes}
-use Rattle.std.proofs.lemmas.Bool.{and_parts}
-use Rattle.std.specs.Option.{option_map_or}
+use Rattle.std.{proofs.lemmas.Bool.and_parts, specs.Option.option_map_or}
 use Rattle.ix_label.specs.Category.{Categories, bottom, leq}
-use Rattle.ix_model.specs.world.World.{World, at, living}
-use Rattle.ix_model.specs.opening.Opening.{opening_world}
-use Rattle.ix_model.specs.history.Events.{Event}
-use Rattle.ix_model.specs.history.Lowering.{Crosses}
-use Rattle.ix_model.specs.world.Privs.{no_privileges}
-use Rattle.ix_model.specs.two_runs.TwoRuns.{Agree, AgreeAt, IsHigh, is_one_kind}
+use Rattle.ix_model.specs.{world.{World.{World, at, living}, Privs.no_privileges}, opening.Opening.opening_world, history.{Events.Event, Lowering.Crosses}}
+use Rattle.ix_model.specs.{two_runs.TwoRuns.{Agree, AgreeAt, IsHigh, is_one_kind}, declared.config.Config.Config}
 use Rattle.ix_model.specs.two_runs.TwoRuns as runs
 use Rattle.ix_model.specs.declared.audit.Act.TheVariants as act
 use Rattle.ix_model.specs.declared.call.Mode.TheVariants as mode
-use Rattle.ix_model.specs.declared.config.Config.{Config}
 use Rattle.ix_model.specs.declared.reply.Kind.TheVariants as kind
 use Rattle.ix_model.specs.declared.reply.Reply.TheVariants as reply
-use Rattle.ix_worked.specs.short.OnProcesses.{family}
-use Rattle.ix_worked.specs.PairsOfRuns.{before, after, BothAgree}
-use Rattle.ix_worked.specs.Scripts.{seven, log_line}
-use Rattle.ix_worked.specs.Sessions.{calls, Goes}
+use Rattle.ix_worked.specs.{short.OnProcesses.family, PairsOfRuns.{before, after, BothAgree}, Scripts.{seven, log_line}, Sessions.{calls, Goes}}
 use Rattle.ix_worked.specs.ToldUp.{waiting_for_high, piping_from_high, notebook, sharing_with_high, drawer, looking_at_high, bureau, letting_down}
-use Rattle.ix_worked.proofs.runs.Agreeing.{agree_on, high_of}
-use Rattle.ix_worked.proofs.Chains.{◌⨾◌, Chained, Gives}
-use Rattle.ix_worked.proofs.Computing.{running}
-use Rattle.ix_worked.proofs.runs.Falling.{object_crosses}
+use Rattle.ix_worked.proofs.{runs.{Agreeing.{agree_on, high_of}, Falling.object_crosses}, Chains.{◌⨾◌, Chained, Gives}, Computing.running}
 use Rattle.ix_worked.proofs.Labels.{labels, leq-with_bottom}
 use Rattle.ix_worked.proofs.Moves.{Move, GoesBy, given, number, bytes, answers, done, ◌▸◌, goes, tells_by, world_after, comes_to}
 use Rattle.ix_worked.proofs.Worlds.{with_line, with_pipe, with_entry, opened, floated, raised, marked, moved, holding, with_child, with_ended, without_process}

@@ -1,19 +1,11 @@
 -- What is shown where a high process writes any two bytes, entry by entry.
 use Rattle.std.proofs.Common.{◌≡◌, ℕ, List, [], ◌∷◌, refl, codes}
 use Rattle.ix_label.specs.Category.{Categories, bottom, top}
-use Rattle.ix_model.specs.world.World.{World}
-use Rattle.ix_model.specs.history.Step.{Given}
-use Rattle.ix_model.specs.opening.Opening.{opening_world}
-use Rattle.ix_model.specs.history.Events.{Event}
+use Rattle.ix_model.specs.{world.World.World, history.{Step.Given, Events.Event}, opening.Opening.opening_world}
 use Rattle.ix_model.specs.history.Events as op
 use Rattle.ix_model.specs.declared.call.Mode.TheVariants as mode
-use Rattle.ix_worked.specs.Sessions.{shown}
-use Rattle.ix_worked.specs.Scripts.{seven, in_root, proc, file, usual_fs, entry}
-use Rattle.ix_worked.specs.floating.TwoLevels.{two_levels, writing, writing_shows}
-use Rattle.ix_worked.proofs.Chains.{◌⨾◌, Steps, number, bytes, shown_by, shown_given}
-use Rattle.ix_worked.proofs.Computing.{running}
-use Rattle.ix_worked.proofs.Labels.{labels}
-use Rattle.ix_worked.proofs.Worlds.{Opened, world_with}
+use Rattle.ix_worked.specs.{Sessions.shown, Scripts.{seven, in_root, proc, file, usual_fs, entry}, floating.TwoLevels.{two_levels, writing, writing_shows}}
+use Rattle.ix_worked.proofs.{Chains.{◌⨾◌, Steps, number, bytes, shown_by, shown_given}, Computing.running, Labels.labels, Worlds.{Opened, world_with}}
 
 -- the entries, and what follows the first, the second and so on
 abbrev pub opening_d_high : Event

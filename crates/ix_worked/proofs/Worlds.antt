@@ -1,19 +1,11 @@
 -- The worlds that the sessions go through, written out.
 use Rattle.std.proofs.Common.{ℕ, ◌+◌, ◌-◌, true, List, [], ◌∷◌, ◌++◌, Option, Some, None, option_map, map, length, replicate, slice_set}
 use Rattle.ix_label.specs.Category.{Categories, bottom}
-use Rattle.ix_model.specs.world.World.{World, Process, Object, Open, at, change, put}
-use Rattle.ix_model.specs.opening.Opening.{process_of}
-use Rattle.ix_model.specs.rows.OnPaths.{new_object}
-use Rattle.ix_model.specs.world.Directories.{with_name}
-use Rattle.ix_model.specs.opening.Flat.{flat_world}
-use Rattle.ix_model.specs.declared.audit.AuditLine.{AuditLine}
-use Rattle.ix_model.specs.declared.call.Mode.{Mode}
+use Rattle.ix_model.specs.{world.{World.{World, Process, Object, Open, at, change, put}, Directories.with_name}, opening.{Opening.process_of, Flat.flat_world}}
+use Rattle.ix_model.specs.{rows.OnPaths.new_object, declared.audit.AuditLine.AuditLine, declared.call.Mode.Mode, declared.reply.Kind.Kind}
+use Rattle.ix_model.specs.{declared.config.FsSpec.FsSpec, declared.config.ProcSpec.ProcSpec, declared.config.ObjSpec.ObjSpec}
 use Rattle.ix_model.specs.declared.call.Mode.TheVariants as mode
-use Rattle.ix_model.specs.declared.reply.Kind.{Kind}
 use Rattle.ix_model.specs.declared.reply.Kind.TheVariants as kind
-use Rattle.ix_model.specs.declared.config.FsSpec.{FsSpec}
-use Rattle.ix_model.specs.declared.config.ProcSpec.{ProcSpec}
-use Rattle.ix_model.specs.declared.config.ObjSpec.{ObjSpec}
 use Rattle.ix_worked.specs.Scripts.{usual_limits}
 
 -- a process, and the open entries behind its first descriptors

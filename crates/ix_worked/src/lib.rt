@@ -10,30 +10,19 @@ pub mod two_runs;
 
 ghost use Rattle.std.specs.Prelude.{◌≡◌, ℕ, true, [], ◌∷◌, codes, take};
 ghost use Rattle.ix_model.specs.opening.Valid.{is_valid};
-ghost use Rattle.ix_worked.specs.Sessions.{shown, log_of};
-ghost use Rattle.ix_worked.specs.floating.Untouched.{untouched, no_entries, untouched_shows};
-ghost use Rattle.ix_worked.specs.Scripts.{three, three_and_five};
-ghost use Rattle.ix_worked.specs.floating.Floating.{reading_up, reading, floating_shows, stopped_shows};
-ghost use Rattle.ix_worked.specs.floating.FileCeiling.{low_files, writing_down, writing_down_shows};
-ghost use Rattle.ix_worked.specs.floating.TwoLevels.{two_levels, writing, writing_shows};
-ghost use Rattle.ix_worked.specs.floating.LooksAnew.{held_low, reading_twice, reading_twice_shows};
-ghost use Rattle.ix_worked.specs.floating.FrozenFile.{a_frozen_file, writing_to_it, writing_to_it_shows};
-ghost use Rattle.ix_worked.specs.privileges.Downgrading.{one_line, lowering, lowering_shows};
-ghost use Rattle.ix_worked.specs.privileges.ReadingTheLog.{two_lines, reading_the_log, reading_the_log_shows};
-ghost use Rattle.ix_worked.specs.privileges.Executing.{programs, executing, executing_shows};
-ghost use Rattle.ix_worked.specs.privileges.TrustedFile.{writing_a_program, writing_a_program_shows};
-ghost use Rattle.ix_worked.specs.files.SharedEntry.{one_file, sharing, sharing_shows};
-ghost use Rattle.ix_worked.specs.files.FewBlocks.{two_blocks, filling, filling_shows};
-ghost use Rattle.ix_worked.specs.processes.Inheriting.{letters, inheriting, inheriting_shows};
-ghost use Rattle.ix_worked.specs.processes.Waiting.{a_secret, waiting, waiting_shows};
-ghost use Rattle.ix_worked.specs.processes.WaitingLow.{waiting_low, waiting_low_shows};
-ghost use Rattle.ix_worked.specs.files.Trees.{two_file_systems, naming, naming_shows};
-ghost use Rattle.ix_worked.specs.floating.HighDirectory.{a_high_directory, looking_into_it, looking_into_it_shows};
-ghost use Rattle.ix_worked.specs.pipes.FullPipe.{one_process, piping, piping_shows};
-ghost use Rattle.ix_worked.specs.pipes.Claims.{claiming, claiming_shows};
-ghost use Rattle.ix_worked.specs.pipes.Copying.{copying, copying_shows};
-ghost use Rattle.ix_worked.specs.privileges.Login.{office, asking, asking_shows};
-ghost use Rattle.ix_worked.specs.processes.SharedOffset.{one_shared, below_seven, reading_on, reading_on_shows, writing_on, writing_on_shows, writing_frozen, writing_frozen_shows};
+ghost use Rattle.ix_worked.specs.{Sessions.{shown, log_of}, floating.Untouched.{untouched, no_entries, untouched_shows}, Scripts.{three, three_and_five}};
+ghost use Rattle.ix_worked.specs.{floating.Floating.{reading_up, reading, floating_shows, stopped_shows}, privileges.Login.{office, asking, asking_shows}};
+ghost use Rattle.ix_worked.specs.{floating.FileCeiling.{low_files, writing_down, writing_down_shows}, floating.TwoLevels.{two_levels, writing, writing_shows}};
+ghost use Rattle.ix_worked.specs.{floating.LooksAnew.{held_low, reading_twice, reading_twice_shows}, files.SharedEntry.{one_file, sharing, sharing_shows}};
+ghost use Rattle.ix_worked.specs.{floating.FrozenFile.{a_frozen_file, writing_to_it, writing_to_it_shows}, pipes.FullPipe.{one_process, piping, piping_shows}};
+ghost use Rattle.ix_worked.specs.{floating.HighDirectory.{a_high_directory, looking_into_it, looking_into_it_shows}, pipes.Claims.{claiming, claiming_shows}};
+ghost use Rattle.ix_worked.specs.{privileges.Downgrading.{one_line, lowering, lowering_shows}, privileges.Executing.{programs, executing, executing_shows}};
+ghost use Rattle.ix_worked.specs.{privileges.ReadingTheLog.{two_lines, reading_the_log, reading_the_log_shows}, pipes.Copying.{copying, copying_shows}};
+ghost use Rattle.ix_worked.specs.{privileges.TrustedFile.{writing_a_program, writing_a_program_shows}, files.FewBlocks.{two_blocks, filling, filling_shows}};
+ghost use Rattle.ix_worked.specs.{files.Trees.{two_file_systems, naming, naming_shows}, processes.Inheriting.{letters, inheriting, inheriting_shows}};
+ghost use Rattle.ix_worked.specs.{processes.Waiting.{a_secret, waiting, waiting_shows}, processes.WaitingLow.{waiting_low, waiting_low_shows}};
+ghost use Rattle.ix_worked.specs.processes.SharedOffset.{one_shared, below_seven, reading_on, reading_on_shows, writing_on, writing_on_shows, writing_frozen};
+ghost use Rattle.ix_worked.specs.processes.SharedOffset.{writing_frozen_shows};
 
 /// Where nothing is called there is the root, without categories, and nothing else.
 #[tactic(auto, using(crate::proofs::Fitting::untouched_fits, crate::proofs::worked::is_untouched))]

@@ -3,11 +3,8 @@
 
 ghost use Rattle.std.specs.Prelude.{◌≡◌, ℕ, true, codes};
 ghost use Rattle.ix_label.specs.Category.{bottom};
-ghost use Rattle.ix_model.specs.history.Lowering.{Crosses};
-ghost use Rattle.ix_model.specs.opening.Valid.{is_valid};
-ghost use Rattle.ix_worked.specs.short.OnProcesses.{family};
-ghost use Rattle.ix_worked.specs.PairsOfRuns.{before, after, BothAgree};
-ghost use Rattle.ix_worked.specs.Sessions.{Goes, calls};
+ghost use Rattle.ix_model.specs.{history.Lowering.{Crosses}, opening.Valid.{is_valid}};
+ghost use Rattle.ix_worked.specs.{short.OnProcesses.{family}, PairsOfRuns.{before, after, BothAgree}, Sessions.{Goes, calls}};
 ghost use Rattle.ix_worked.specs.ToldUp.{
   waiting_for_high,
   piping_from_high,

@@ -3,18 +3,11 @@
 
 ghost use Rattle.std.specs.Prelude.{◌≡◌, true, false, [], ◌∷◌, codes, replicate};
 ghost use Rattle.ix_label.specs.Category.{Categories, bottom};
-ghost use Rattle.ix_model.specs.history.Cost.{cost_of, cost_of_history};
-ghost use Rattle.ix_model.specs.history.Events.{CreateAt, LinkAt, WriteFd, SelfLabel};
-ghost use Rattle.ix_model.specs.history.Freshness.{Reading, Writing};
-ghost use Rattle.ix_model.specs.history.Lowering.{Lowered, Crosses};
-ghost use Rattle.ix_model.specs.opening.Opening.{opening_world};
-ghost use Rattle.ix_model.specs.two_runs.EqualLengths.{AlikeInLength};
-ghost use Rattle.ix_model.specs.two_runs.TwoRuns.{Alike};
-ghost use Rattle.ix_worked.specs.privileges.Downgrading.{one_line, lowering};
-ghost use Rattle.ix_worked.specs.floating.LooksAnew.{held_low, reading_twice};
-ghost use Rattle.ix_worked.specs.short.OnDescriptors.{desk};
-ghost use Rattle.ix_worked.specs.short.OnEntries.{shared_desk, seeking_high};
-ghost use Rattle.ix_worked.specs.short.OnProcesses.{family};
+ghost use Rattle.ix_model.specs.{history.Cost.{cost_of, cost_of_history}, history.Events.{CreateAt, LinkAt, WriteFd, SelfLabel}};
+ghost use Rattle.ix_model.specs.{history.Freshness.{Reading, Writing}, history.Lowering.{Lowered, Crosses}, opening.Opening.{opening_world}};
+ghost use Rattle.ix_model.specs.two_runs.{EqualLengths.{AlikeInLength}, TwoRuns.{Alike}};
+ghost use Rattle.ix_worked.specs.{privileges.Downgrading.{one_line, lowering}, floating.LooksAnew.{held_low, reading_twice}};
+ghost use Rattle.ix_worked.specs.short.{OnDescriptors.{desk}, OnEntries.{shared_desk, seeking_high}, OnProcesses.{family}};
 ghost use Rattle.ix_worked.specs.PairsOfRuns.{
   before,
   after,
@@ -27,9 +20,7 @@ ghost use Rattle.ix_worked.specs.PairsOfRuns.{
   writing_low,
   leaving_high,
 };
-ghost use Rattle.ix_worked.specs.Scripts.{seven, in_root, under};
-ghost use Rattle.ix_worked.specs.Sessions.{calls};
-ghost use Rattle.ix_worked.specs.files.SharedEntry.{one_file, sharing};
+ghost use Rattle.ix_worked.specs.{Scripts.{seven, in_root, under}, Sessions.{calls}, files.SharedEntry.{one_file, sharing}};
 ghost use Rattle.ix_worked.specs.floating.TwoLevels.{two_levels, writing};
 
 /// What a high process writes is replaced by other bytes: at bottom the two histories agree, and the one low read is

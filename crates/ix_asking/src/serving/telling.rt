@@ -1,9 +1,6 @@
 ghost use Rattle.std.specs.Prelude.{◌≡◌, ◌<◌, ℕ, List};
-ghost use Rattle.ix_asking.specs.Asking.{first, heard, IsDue};
-ghost use Rattle.ix_asking.specs.Steps.{next_of};
-ghost use Rattle.ix_asking.specs.serving.Serving.{Server, tell, told_text, when_told};
-ghost use Rattle.ix_asking.specs.serving.Telling.{telling_asks, telling_most};
-ghost use Rattle.ix_asking.specs.serving.Texts.{said};
+ghost use Rattle.ix_asking.specs.{Asking.{first, heard, IsDue}, Steps.{next_of}};
+ghost use Rattle.ix_asking.specs.serving.{Serving.{Server, tell, told_text, when_told}, Telling.{telling_asks, telling_most}, Texts.{said}};
 
 use crate::asks::Step;
 use crate::serving::outcome::Outcome;

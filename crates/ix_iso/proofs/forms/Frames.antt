@@ -1,22 +1,13 @@
 -- What each word of a row leaves fits a form, where what it is told fits.
 use Rattle.std.proofs.Common.{◌≡◌, ℕ, Bool, true, false, List, [], ◌∷◌, ◌++◌, Option, Some, None, refl, sym, subst, inl, inr}
-use Rattle.std.specs.Prelude.{All, slice_get, if◌then◌else◌}
-use Rattle.std.specs.Option.{option_and_then}
-use Rattle.std.proofs.lemmas.List.Elements.{All-push, All-get_or}
-use Rattle.std.proofs.lemmas.Option.{slice_get_within, get_or_from_slice_get}
-use Rattle.ix_label.specs.declared.form.Form.{Form}
-use Rattle.ix_label.specs.declared.form.Form.TheVariants.{One, Two}
-use Rattle.ix_label.specs.Category.{Categories, bottom, join}
-use Rattle.ix_label.specs.Forms.{Fits}
+use Rattle.std.specs.{Prelude.{All, slice_get, if◌then◌else◌}, Option.option_and_then}
+use Rattle.std.proofs.lemmas.{List.Elements.{All-push, All-get_or}, Option.{slice_get_within, get_or_from_slice_get}}
+use Rattle.ix_label.specs.{declared.form.Form.{Form, TheVariants.{One, Two}}, Category.{Categories, bottom, join}, Forms.Fits}
 use Rattle.ix_label.specs.Narrow.{narrow-bottom, narrow-join}
-use Rattle.ix_model.specs.world.World.{Frame, Object, Process, Open, at, put, change}
-use Rattle.ix_model.specs.rows.Rows.{change_object, change_process, change_open, put_object, put_open, put_process, add_process}
-use Rattle.ix_model.specs.rows.Auditing.{logged}
-use Rattle.ix_model.specs.rows.OnProcesses.{remains, end_process}
-use Rattle.ix_model.specs.history.Spelled.{AuditFits}
+use Rattle.ix_model.specs.{world.World.{Frame, Object, Process, Open, at, put, change}, rows.Auditing.logged, rows.OnProcesses.{remains, end_process}}
+use Rattle.ix_model.specs.{rows.Rows.{change_object, change_process, change_open, put_object, put_open, put_process, add_process}, history.Spelled.AuditFits}
 use Rattle.ix_model.specs.declared.audit.AuditLine.{AuditLine}
-use Rattle.ix_model.proofs.tables.Finds.{at_put, at_change, at_push}
-use Rattle.ix_model.proofs.words.Keeps.{Holds, Keeps}
+use Rattle.ix_model.proofs.{tables.Finds.{at_put, at_change, at_push}, words.Keeps.{Holds, Keeps}}
 use Rattle.ix_iso.specs.Forms.{FrameFits}
 
 -- ---- labels

@@ -1,43 +1,28 @@
 -- What a row leaves fits a form, and so does what it answers.
 use Rattle.std.proofs.Common.{◌≡◌, ℕ, Bool, true, false, not, List, [], ◌∷◌, Option, Some, None, option_map, refl, subst, if◌then◌else◌}
-use Rattle.std.specs.Prelude.{slice_get, unwrap_or}
-use Rattle.std.specs.Option.{option_map_or}
-use Rattle.ix_label.specs.declared.form.Form.{Form}
-use Rattle.ix_label.specs.Category.{Categories, bottom, join}
-use Rattle.ix_label.specs.Forms.{Fits}
-use Rattle.ix_model.specs.world.Naming.{PathOf}
-use Rattle.ix_model.specs.world.World.{Frame, Object, Process, Open, at, living, is_dir, is_pipe}
-use Rattle.ix_model.specs.rows.Outcomes.{Outcome, Row, Refuse, Pass}
-use Rattle.ix_model.specs.rows.Rows.{◌>>=◌, ◌>>◌, on_pass, pass, refuse, some, frame, process, object, record_of, change_object, change_process}
-use Rattle.ix_model.specs.rows.Rows.{change_open, put_object, put_open, put_process, add_process, observe, affect}
-use Rattle.ix_model.specs.rows.Walks.{OpenFile, NotDir, nothing, node, child, behind, behind_of, entry_at, join_all, looking_into, lacking, walk}
-use Rattle.ix_model.specs.rows.Walks.{walk_from, walked_to, object_at, spot_at, missing, opened}
-use Rattle.ix_model.specs.rows.Lifetimes.{let_go_object, let_go, let_go_all}
-use Rattle.ix_model.specs.rows.Auditing.{logged}
+use Rattle.std.specs.{Prelude.{slice_get, unwrap_or}, Option.option_map_or}
+use Rattle.ix_label.specs.{declared.form.Form.Form, Category.{Categories, bottom, join}, Forms.Fits}
+use Rattle.ix_model.specs.{world.{Naming.PathOf, World.{Frame, Object, Process, Open, at, living, is_dir, is_pipe}}, rows.Outcomes.{Outcome, Row, Refuse, Pass}}
+use Rattle.ix_model.specs.{rows.Lifetimes.{let_go_object, let_go, let_go_all}, rows.Auditing.logged, rows.Table.row, declared.audit.AuditLine.AuditLine}
+use Rattle.ix_model.specs.{rows.OnProcesses.{end_process, fork, exec, exit, wait_child}, history.{Events.Op, Spelled.{AuditFits, CallFits, ReplyFits}}}
+use Rattle.ix_model.specs.{declared.call.Keep.Keep, declared.call.Mode.Mode, declared.privs.PrivSet.PrivSet, declared.refusal.Refusal.Refusal}
+use Rattle.ix_model.specs.{declared.reply.Kind.Kind, declared.reply.Reply.Reply}
+use Rattle.ix_model.specs.rows.Rows.{◌>>=◌, ◌>>◌, on_pass, pass, refuse, some, frame, process, object, record_of, change_object, change_process, change_open}
+use Rattle.ix_model.specs.rows.Rows.{put_object, put_open, put_process, add_process, observe, affect}
+use Rattle.ix_model.specs.rows.Walks.{OpenFile, NotDir, nothing, node, child, behind, behind_of, entry_at, join_all, looking_into, lacking, walk, walk_from}
+use Rattle.ix_model.specs.rows.Walks.{walked_to, object_at, spot_at, missing, opened}
 use Rattle.ix_model.specs.rows.OnPaths.{make, create_at, make_dir, open_at, link_at, unlink_at, remove_dir, change_dir, stat_at, list_at}
 use Rattle.ix_model.specs.rows.OnDescriptors.{LengthChecks, float_entry, read_fd, write_fd, cut_fd, seek_fd, dup_fd, close_fd, make_pipe, claimed, pex, unpex}
-use Rattle.ix_model.specs.rows.OnProcesses.{end_process, fork, exec, exit, wait_child}
-use Rattle.ix_model.specs.rows.OnLabels.{label_of, self_label, set_label, set_self, freeze, freeze_self, thaw, thaw_self, set_priv, drop_lic, grant_lic, set_ceiling, read_log}
-use Rattle.ix_model.specs.rows.Table.{row}
-use Rattle.ix_model.specs.history.Events.{Op}
+use Rattle.ix_model.specs.rows.OnLabels.{label_of, self_label, set_label, set_self, freeze, freeze_self, thaw, thaw_self, set_priv, drop_lic, grant_lic}
+use Rattle.ix_model.specs.rows.OnLabels.{set_ceiling, read_log}
 use Rattle.ix_model.specs.history.Events as op
-use Rattle.ix_model.specs.history.Spelled.{AuditFits, CallFits, ReplyFits}
-use Rattle.ix_model.specs.declared.audit.AuditLine.{AuditLine}
-use Rattle.ix_model.specs.declared.call.Keep.{Keep}
-use Rattle.ix_model.specs.declared.call.Mode.{Mode}
-use Rattle.ix_model.specs.declared.privs.PrivSet.{PrivSet}
-use Rattle.ix_model.specs.declared.refusal.Refusal.{Refusal}
 use Rattle.ix_model.specs.declared.refusal.Refusal.TheVariants as refusal
-use Rattle.ix_model.specs.declared.reply.Kind.{Kind}
 use Rattle.ix_model.specs.declared.reply.Kind.TheVariants as kind
-use Rattle.ix_model.specs.declared.reply.Reply.{Reply}
-use Rattle.ix_model.proofs.words.LetGo.{LetsGo, keeps_let_go_object, keeps_let_go, keeps_let_go_all}
+use Rattle.ix_model.proofs.{words.LetGo.{LetsGo, keeps_let_go_object, keeps_let_go, keeps_let_go_all}, words.Living.is_living, words.Rowwise.keeps_bind_frame}
 use Rattle.ix_model.proofs.words.Keeps.{Holds, Keeps, keeping, keeping_tests, keeps_only_if}
-use Rattle.ix_model.proofs.words.Living.{is_living}
-use Rattle.ix_model.proofs.words.Rowwise.{keeps_bind_frame}
 use Rattle.ix_iso.specs.Forms.{FrameFits}
-use Rattle.ix_iso.proofs.forms.Frames.{fits-bottom, fits-join, all_get, fits_object, fits_process, fits_open, fits_new_object, fits_no_object}
-use Rattle.ix_iso.proofs.forms.Frames.{fits_new_open, fits_no_open, fits_child, fits_collected, fits_end, fits_logged}
+use Rattle.ix_iso.proofs.forms.Frames.{fits-bottom, fits-join, all_get, fits_object, fits_process, fits_open, fits_new_object, fits_no_object, fits_new_open}
+use Rattle.ix_iso.proofs.forms.Frames.{fits_no_open, fits_child, fits_collected, fits_end, fits_logged}
 
 module _ (form : Form) where
   abbrev R : Frame → Type 0

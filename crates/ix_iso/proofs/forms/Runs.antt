@@ -1,36 +1,23 @@
 -- A step keeps to a form, and so does a run from the opening world of a config that fits.
-use Rattle.std.proofs.Common.{◌≡◌, ℕ, zero, suc, ◌-◌, Bool, true, false, List, [], ◌∷◌, ◌++◌, map, replicate, take, Option, Some, None, sym, subst, arith, if◌then◌else◌}
-use Rattle.std.specs.Prelude.{All, slice_get, unwrap_or}
-use Rattle.std.specs.Option.{option_map_or}
-use Rattle.std.proofs.lemmas.List.Elements.{All-nil, All-tail, All-take}
-use Rattle.ix_label.specs.declared.form.Form.{Form}
-use Rattle.ix_label.specs.Forms.{Fits}
-use Rattle.ix_model.specs.world.World.{Frame, World, Object, Process, Open, lives}
-use Rattle.ix_model.specs.world.Numbers.{free_inode}
-use Rattle.ix_model.specs.opening.Opening.{root_of, bare, bare_objects, process_of, directory_of, object_of, placed, with_object, with_objects, bare_world, opening_world}
-use Rattle.ix_model.specs.rows.Outcomes.{Outcome, Refuse, Pass}
-use Rattle.ix_model.specs.rows.OnDescriptors.{LengthChecks}
-use Rattle.ix_model.specs.rows.Refusals.{keeps_label}
-use Rattle.ix_model.specs.rows.Table.{Decision, row, settled, verdict}
-use Rattle.ix_model.specs.rows.Telling.{told}
-use Rattle.ix_model.specs.rows.Walks.{OpenFile, node, behind}
-use Rattle.ix_model.specs.history.Events.{Op, Event}
+use Rattle.std.proofs.Common.{◌≡◌, ℕ, zero, suc, ◌-◌, Bool, true, false, List, [], ◌∷◌, ◌++◌, map, replicate, take, Option, Some, None, sym, subst, arith}
+use Rattle.std.proofs.Common.{if◌then◌else◌}
+use Rattle.std.{specs.{Prelude.{All, slice_get, unwrap_or}, Option.option_map_or}, proofs.lemmas.List.Elements.{All-nil, All-tail, All-take}}
+use Rattle.ix_label.specs.{declared.form.Form.Form, Forms.Fits}
+use Rattle.ix_model.specs.{world.{World.{Frame, World, Object, Process, Open, lives}, Numbers.free_inode}, rows.Outcomes.{Outcome, Refuse, Pass}}
+use Rattle.ix_model.specs.{rows.OnDescriptors.LengthChecks, rows.Refusals.keeps_label, rows.Table.{Decision, row, settled, verdict}, rows.Telling.told}
+use Rattle.ix_model.specs.{rows.Walks.{OpenFile, node, behind}, history.{Events.{Op, Event}, Spelled.{AuditFits, CallFits, ConfigFits, EventsFit, ReplyFits}}}
+use Rattle.ix_model.specs.declared.{audit.AuditLine.AuditLine, config.{Config.Config, FsSpec.FsSpec, ObjSpec.ObjSpec}, reply.Reply.Reply}
+use Rattle.ix_model.specs.opening.Opening.{root_of, bare, bare_objects, process_of, directory_of, object_of, placed, with_object, with_objects, bare_world}
+use Rattle.ix_model.specs.opening.Opening.{opening_world}
 use Rattle.ix_model.specs.history.Events as op
-use Rattle.ix_model.specs.history.Spelled.{AuditFits, CallFits, ConfigFits, EventsFit, ReplyFits}
-use Rattle.ix_model.specs.history.Step.{plainly, read_answer, write_answer, cut_answer, seek_answer, stat_answer, exit_answer, wait_answer, pex_answer, answer, step, step_of, run}
-use Rattle.ix_model.specs.declared.audit.AuditLine.{AuditLine}
-use Rattle.ix_model.specs.declared.config.Config.{Config}
-use Rattle.ix_model.specs.declared.config.FsSpec.{FsSpec}
-use Rattle.ix_model.specs.declared.config.ObjSpec.{ObjSpec}
+use Rattle.ix_model.specs.history.Step.{plainly, read_answer, write_answer, cut_answer, seek_answer, stat_answer, exit_answer, wait_answer, pex_answer, answer}
+use Rattle.ix_model.specs.history.Step.{step, step_of, run}
 use Rattle.ix_model.specs.declared.refusal.Refusal.TheVariants as refusal
 use Rattle.ix_model.specs.declared.reply.Kind.TheVariants as kind
-use Rattle.ix_model.specs.declared.reply.Reply.{Reply}
 use Rattle.ix_model.specs.declared.reply.Reply.TheVariants as reply
 use Rattle.ix_model.proofs.words.Answered.{step_frame}
-use Rattle.ix_iso.specs.Forms.{FrameFits, FormsStay}
-use Rattle.ix_iso.specs.Laws.{given_after}
-use Rattle.ix_iso.proofs.forms.Frames.{AllAt, fits-bottom, all_put, all_changed, all_get}
-use Rattle.ix_iso.proofs.forms.Rows.{Fit, fit_row}
+use Rattle.ix_iso.specs.{Forms.{FrameFits, FormsStay}, Laws.given_after}
+use Rattle.ix_iso.proofs.forms.{Frames.{AllAt, fits-bottom, all_put, all_changed, all_get}, Rows.{Fit, fit_row}}
 
 module _ (form : Form) where
   -- ---- a decision

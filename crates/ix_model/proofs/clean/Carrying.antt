@@ -1,12 +1,9 @@
 -- Where nothing goes, a clean content is carried over whole.
-use Rattle.std.proofs.Common.{ℕ, zero, suc, ◌+◌, ◌-◌, ◌<◌, ◌≡◌, ◌&&◌, Bool, true, false, List, [], ◌∷◌, length, Option, is_some, refl, ap, sym, ◌∙◌, arith, get_or, if◌then◌else◌, append-nil}
+use Rattle.std.proofs.Common.{ℕ, zero, suc, ◌+◌, ◌-◌, ◌<◌, ◌≡◌, ◌&&◌, Bool, true, false, List, [], ◌∷◌, length, Option, is_some, refl, ap, sym, ◌∙◌, arith}
+use Rattle.std.proofs.Common.{get_or, if◌then◌else◌, append-nil}
 use Rattle.std.proofs.lemmas.List.{same_lists, get_or_default}
-use Rattle.ix_model.specs.world.World.{Frame, Content, World, Process, Holding, at, is_ended}
-use Rattle.ix_model.specs.world.Contents.{keep, grown, carried, holds_nothing}
-use Rattle.ix_model.specs.laws.Clean.{IsClean}
-use Rattle.ix_model.specs.rows.OnDescriptors.{LengthChecks}
-use Rattle.ix_model.specs.rows.Table.{verdict}
-use Rattle.ix_model.specs.history.Events.{Op}
+use Rattle.ix_model.specs.world.{World.{Frame, Content, World, Process, Holding, at, is_ended}, Contents.{keep, grown, carried, holds_nothing}}
+use Rattle.ix_model.specs.{laws.Clean.IsClean, rows.{OnDescriptors.LengthChecks, Table.verdict}, history.Events.Op}
 use Rattle.ix_model.proofs.words.Lasts.{Lasting, Ended, Lasts, lets_nothing_go, lasts_decided}
 
 pub length-keep : {A : Type 0} (d : A) (p : ℕ → Bool) (k : ℕ) (xs : List A) → length (keep d p k xs) ≡ length xs

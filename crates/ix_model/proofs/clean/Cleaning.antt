@@ -1,31 +1,18 @@
 -- A step leaves a clean world.
-use Rattle.std.proofs.Common.{ℕ, zero, suc, ◌+◌, ◌-◌, ◌≡◌, ◌≢◌, ◌≤◌, ◌&&◌, Bool, true, false, not, List, [], ◌∷◌, nat_le, length, Option, Some, None}
-use Rattle.std.proofs.Common.{is_some, refl, sym, ap, subst, ◌∙◌, arith, get_or, set, if◌then◌else◌, length-append, length-set}
-use Rattle.std.specs.Option.{option_map_or}
-use Rattle.std.proofs.lemmas.List.{get_or-set_other, length-replicate}
-use Rattle.ix_model.specs.world.World.{Frame, Content, World, Object, Holding, at, is_ended, is_pipe}
-use Rattle.ix_model.specs.rows.Walks.{OpenFile, behind}
-use Rattle.ix_model.specs.rows.OnDescriptors.{LengthChecks, write_fd, cut_fd}
-use Rattle.ix_model.specs.rows.Table.{verdict, row}
+use Rattle.std.proofs.Common.{ℕ, zero, suc, ◌+◌, ◌-◌, ◌≡◌, ◌≢◌, ◌≤◌, ◌&&◌, Bool, true, false, not, List, [], ◌∷◌, nat_le, length, Option, Some, None, is_some}
+use Rattle.std.proofs.Common.{refl, sym, ap, subst, ◌∙◌, arith, get_or, set, if◌then◌else◌, length-append, length-set}
+use Rattle.std.{specs.Option.option_map_or, proofs.lemmas.List.{get_or-set_other, length-replicate}}
+use Rattle.ix_model.specs.{world.World.{Frame, Content, World, Object, Holding, at, is_ended, is_pipe}, history.{AuditLog.is_answer, Events.{Op, Event}}}
+use Rattle.ix_model.specs.rows.{Walks.{OpenFile, behind}, OnDescriptors.{LengthChecks, write_fd, cut_fd}, Table.{verdict, row}, Telling.told}
+use Rattle.ix_model.specs.{opening.Opening.opening_world, laws.Clean.IsClean, declared.{config.Config.Config, reply.Reply.Reply}}
 use Rattle.ix_model.specs.world.Contents.{grown, carried, holds_nothing, on_pipe, after_read, after_write, after_cut, after_seek, after_exit, emptied}
-use Rattle.ix_model.specs.history.Step.{plainly, read_answer, write_answer, cut_answer, seek_answer, exit_answer, pex_answer, answer, step, step_of, run, is_whole}
-use Rattle.ix_model.specs.rows.Telling.{told}
-use Rattle.ix_model.specs.history.AuditLog.{is_answer}
-use Rattle.ix_model.specs.opening.Opening.{opening_world}
-use Rattle.ix_model.specs.laws.Clean.{IsClean}
-use Rattle.ix_model.specs.history.Events.{Op, Event}
+use Rattle.ix_model.specs.history.Step.{plainly, read_answer, write_answer, cut_answer, seek_answer, exit_answer, pex_answer, answer, step, step_of, run}
+use Rattle.ix_model.specs.history.Step.{is_whole}
 use Rattle.ix_model.specs.history.Events as op
-use Rattle.ix_model.specs.declared.config.Config.{Config}
-use Rattle.ix_model.specs.declared.reply.Reply.{Reply}
 use Rattle.ix_model.specs.declared.reply.Reply.TheVariants as reply
-use Rattle.ix_model.proofs.words.Lasts.{Lasts, lasts_decided}
-use Rattle.ix_model.proofs.clean.Carrying.{get_or-keep, length-keep}
-use Rattle.ix_model.proofs.words.Ends.{Ends, Anything, ending}
-use Rattle.ix_model.proofs.words.Looks.{ends_touch, ends_float_entry}
-use Rattle.ix_model.proofs.words.Standing.{behind_is}
-use Rattle.ix_model.proofs.words.Answered.{world_stat, world_wait, passed}
-use Rattle.ix_model.proofs.told.Spent.{spent_decided}
-use Rattle.ix_model.proofs.opening.Openings.{clean_opening}
+use Rattle.ix_model.proofs.{words.Lasts.{Lasts, lasts_decided}, words.Ends.{Ends, Anything, ending}, words.Looks.{ends_touch, ends_float_entry}}
+use Rattle.ix_model.proofs.{words.Standing.behind_is, words.Answered.{world_stat, world_wait, passed}, clean.Carrying.{get_or-keep, length-keep}}
+use Rattle.ix_model.proofs.{told.Spent.spent_decided, opening.Openings.clean_opening}
 
 -- ---- what is carried is clean
 dropped : {A : Type 0} (d : A) (a b : Bool) (x : A) → b ≡ false → (if a && b then x else d) ≡ d

@@ -1,28 +1,17 @@
 -- A call gives as many bytes as its reply says.
 use Rattle.std.proofs.Common.{◌≡◌, ◌≤◌, ℕ, Bool, true, false, List, [], Option, Some, None, refl, sym, subst, arith, nat_le, if◌then◌else◌}
-use Rattle.std.proofs.lemmas.Bool.{leb-true}
-use Rattle.std.proofs.lemmas.List.{length-take}
+use Rattle.std.proofs.lemmas.{Bool.leb-true, List.length-take}
 use Rattle.ix_label.specs.Category.{Categories}
-use Rattle.ix_model.proofs.words.Looks.{ends_float_entry}
-use Rattle.ix_model.specs.world.World.{World, Frame, lives}
-use Rattle.ix_model.specs.rows.Outcomes.{Outcome, Refuse, Pass}
-use Rattle.ix_model.specs.rows.Rows.{observe}
-use Rattle.ix_model.specs.rows.Walks.{OpenFile, behind}
-use Rattle.ix_model.specs.rows.OnDescriptors.{LengthChecks, read_fd}
-use Rattle.ix_model.specs.rows.Table.{Decision, row, settled, verdict}
-use Rattle.ix_model.specs.world.Contents.{readable}
-use Rattle.ix_model.specs.history.Step.{plainly, read_answer, write_answer, cut_answer, seek_answer, stat_answer, exit_answer, wait_answer, pex_answer, answer, step}
-use Rattle.ix_model.specs.rows.Telling.{told}
-use Rattle.ix_model.specs.history.Shown.{AreShown}
-use Rattle.ix_model.specs.history.Events.{Op}
+use Rattle.ix_model.proofs.{words.{Looks.ends_float_entry, Ends.{Ends, Anything, ending}}, refused.Refusing.{is_bare, Relabels, relabels_row}}
+use Rattle.ix_model.specs.{world.{World.{World, Frame, lives}, Contents.readable}, rows.Outcomes.{Outcome, Refuse, Pass}, rows.Rows.observe, rows.Telling.told}
+use Rattle.ix_model.specs.{rows.Walks.{OpenFile, behind}, rows.OnDescriptors.{LengthChecks, read_fd}, rows.Table.{Decision, row, settled, verdict}}
+use Rattle.ix_model.specs.{history.{Shown.AreShown, Events.Op}, declared.{refusal.Refusal.Refusal, reply.Reply.Reply}}
+use Rattle.ix_model.specs.history.Step.{plainly, read_answer, write_answer, cut_answer, seek_answer, stat_answer, exit_answer, wait_answer, pex_answer, answer}
+use Rattle.ix_model.specs.history.Step.{step}
 use Rattle.ix_model.specs.history.Events as op
-use Rattle.ix_model.specs.declared.refusal.Refusal.{Refusal}
 use Rattle.ix_model.specs.declared.refusal.Refusal.TheVariants as refusal
 use Rattle.ix_model.specs.declared.reply.Kind.TheVariants as kind
-use Rattle.ix_model.specs.declared.reply.Reply.{Reply}
 use Rattle.ix_model.specs.declared.reply.Reply.TheVariants as reply
-use Rattle.ix_model.proofs.words.Ends.{Ends, Anything, ending}
-use Rattle.ix_model.proofs.refused.Refusing.{is_bare, Relabels, relabels_row}
 
 -- ---- replies without bytes
 abbrev Without : Reply → Type 0

@@ -1,18 +1,12 @@
 -- Frames that are sound but for one object, which has come or is about to go; and a new object.
-use Rattle.std.proofs.Common.{◌≡◌, ◌≢◌, ◌<◌, ◌≤◌, ◌+◌, ◌==◌, ℕ, zero, suc, Bool, true, false, true≢false, not, ◌&&◌, ◌||◌, [], map, sum, length}
-use Rattle.std.proofs.Common.{count_by, Option, Some, None, is_none, if◌then◌else◌, refl, sym, ap, ◌∙◌, subst, arith, inl, inr, length-set}
-use Rattle.std.specs.Option.{option_map_or}
-use Rattle.std.proofs.lemmas.Bool.Decides.{eqb_tells}
-use Rattle.std.proofs.lemmas.List.{get_or-set_other}
+use Rattle.std.proofs.Common.{◌≡◌, ◌≢◌, ◌<◌, ◌≤◌, ◌+◌, ◌==◌, ℕ, zero, suc, Bool, true, false, true≢false, not, ◌&&◌, ◌||◌, [], map, sum, length, count_by, Some}
+use Rattle.std.proofs.Common.{Option, None, is_none, if◌then◌else◌, refl, sym, ap, ◌∙◌, subst, arith, inl, inr, length-set}
+use Rattle.std.{specs.Option.option_map_or, proofs.lemmas.{Bool.Decides.eqb_tells, List.get_or-set_other}}
 use Rattle.ix_label.specs.Category.{leq}
-use Rattle.ix_model.specs.world.World.{fs_at, Frame, Object, at, put, is_file, is_dir, is_pipe, held, ceiling_of, no_claims}
-use Rattle.ix_model.specs.world.Numbers.{first_inode}
-use Rattle.ix_model.specs.world.Owners.{times_in, times_named, names_in_all}
-use Rattle.ix_model.specs.opening.Valid.{all_differ}
+use Rattle.ix_model.specs.{world.World.{fs_at, Frame, Object, at, put, is_file, is_dir, is_pipe, held, ceiling_of, no_claims}, world.Numbers.first_inode}
+use Rattle.ix_model.specs.{world.Owners.{times_in, times_named, names_in_all}, opening.Valid.all_differ}
 use Rattle.ix_model.specs.laws.Sound.{LabelsBelow, NamesSound, LivesSound, OpensSound, ProcessesSound, ClaimsSound, WithinLimits}
-use Rattle.ix_model.proofs.tables.Finds.{at_put, sum_put}
-use Rattle.ix_model.proofs.frames.Frames.{FrameSound}
-use Rattle.ix_model.proofs.tables.Labels.{labels_put_object}
+use Rattle.ix_model.proofs.{tables.{Finds.{at_put, sum_put}, Labels.labels_put_object}, frames.Frames.FrameSound}
 
 -- each directory but object 0 and this one is named exactly once
 pub record NamesBut (but : ℕ) (f : Frame) : Type 0 where

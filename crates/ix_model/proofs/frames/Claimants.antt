@@ -1,25 +1,14 @@
 -- Who claims an end: a claimant has a descriptor on it. The claims of one object change, and all else stays.
 use Rattle.std.proofs.Common.{◌≡◌, ◌==◌, ◌&&◌, ℕ, true, false, not, Option, Some, None, option_map, refl, sym, ap, ◌∙◌, subst, inl, inr}
-use Rattle.std.specs.Option.{option_map_or}
-use Rattle.std.specs.List.{list_any}
-use Rattle.std.proofs.lemmas.Bool.{and_from, eq-eqb}
+use Rattle.std.{specs.{Option.option_map_or, List.list_any}, proofs.lemmas.Bool.{and_from, eq-eqb}}
 use Rattle.ix_label.specs.Category.{leq, top}
-use Rattle.ix_model.specs.world.World.{fs_at, Frame, Object, Process, Open, at, put, change, living, is_on}
-use Rattle.ix_model.specs.world.Owners.{has_end}
-use Rattle.ix_model.specs.rows.Walks.{OpenFile, behind, behind_of, entry_at}
-use Rattle.ix_model.specs.rows.OnDescriptors.{claimed, pex, unpex}
-use Rattle.ix_model.specs.declared.reply.Reply.{Reply}
-use Rattle.ix_model.proofs.tables.Finds.{at_put, at_change, any_by}
-use Rattle.ix_model.proofs.words.Living.{is_living, not_ended}
-use Rattle.ix_model.proofs.words.Keeps.{keeps_claimed}
+use Rattle.ix_model.specs.{world.{World.{fs_at, Frame, Object, Process, Open, at, put, change, living, is_on}, Owners.has_end}, declared.reply.Reply.Reply}
+use Rattle.ix_model.specs.rows.{Walks.{OpenFile, behind, behind_of, entry_at}, OnDescriptors.{claimed, pex, unpex}}
+use Rattle.ix_model.proofs.tables.{Finds.{at_put, at_change, any_by}, Labels.labels_object, SameKinds.{kinds_itself, kinds_floats}}
+use Rattle.ix_model.proofs.{words.{Living.{is_living, not_ended}, Keeps.keeps_claimed, Standing.behind_is}, sound.Logging.{Refused, Passed}}
+use Rattle.ix_model.proofs.frames.{Floats.{object_but, floats_itself, floats_object}, Frames.{FrameSound, Follows, follows_itself}}
 use Rattle.ix_model.proofs.words.Ends.{Ends, ends_kept, ends_bind, ends_then, ends_pass, ends_need, ends_object, ends_opened, ends_change_object}
-use Rattle.ix_model.proofs.tables.Labels.{labels_object}
-use Rattle.ix_model.proofs.frames.Floats.{object_but, floats_itself, floats_object}
 use Rattle.ix_model.proofs.frames.Floated.{names_floated, lives_floated, opens_floated, processes_floated, claims_moved, limits_floated}
-use Rattle.ix_model.proofs.tables.SameKinds.{kinds_itself, kinds_floats}
-use Rattle.ix_model.proofs.frames.Frames.{FrameSound, Follows, follows_itself}
-use Rattle.ix_model.proofs.sound.Logging.{Refused, Passed}
-use Rattle.ix_model.proofs.words.Standing.{behind_is}
 
 -- ---- what stands behind a descriptor
 pub record IsBehind (f : Frame) (pid fd : ℕ) (e : OpenFile) : Type 0 where

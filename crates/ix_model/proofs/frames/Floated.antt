@@ -1,20 +1,13 @@
 -- A frame that is a sound one but for labels and the like is sound but for labels and the log.
-use Rattle.std.proofs.Common.{◌≡◌, ◌<◌, ◌≤◌, ◌+◌, ◌==◌, ℕ, Bool, true, false, not, ◌&&◌, ◌||◌, List, map, length, sum, count_by, Option, Some, None}
-use Rattle.std.proofs.Common.{is_some, is_none, option_map, cond, refl, sym, ap, ◌∙◌, subst, arith}
-use Rattle.std.specs.Option.{option_map_or}
-use Rattle.std.specs.List.{list_any}
-use Rattle.std.proofs.lemmas.List.Sums.{sum-map}
+use Rattle.std.proofs.Common.{◌≡◌, ◌<◌, ◌≤◌, ◌+◌, ◌==◌, ℕ, Bool, true, false, not, ◌&&◌, ◌||◌, List, map, length, sum, count_by, Option, Some, None, is_some}
+use Rattle.std.proofs.Common.{is_none, option_map, cond, refl, sym, ap, ◌∙◌, subst, arith}
+use Rattle.std.{specs.{Option.option_map_or, List.list_any}, proofs.lemmas.List.Sums.sum-map}
 use Rattle.ix_model.specs.world.World.{fs_at, Frame, Content, Object, Process, Open, at, living, lives, is_file, is_dir, is_pipe, is_on, held}
-use Rattle.ix_model.specs.rows.Telling.{blocks_where, blocks_on, lies_on}
-use Rattle.ix_model.specs.world.Numbers.{first_inode}
-use Rattle.ix_model.specs.opening.Valid.{all_differ}
-use Rattle.ix_model.specs.world.Owners.{times_in, times_named, names_in_all, owns, has_end}
+use Rattle.ix_model.specs.{rows.Telling.{blocks_where, blocks_on, lies_on}, opening.Valid.all_differ, declared.config.FsSpec.FsSpec}
+use Rattle.ix_model.specs.world.{Numbers.first_inode, Owners.{times_in, times_named, names_in_all, owns, has_end}}
 use Rattle.ix_model.specs.laws.Sound.{NamesSound, LivesSound, OpensSound, ProcessesSound, ClaimsSound, WithinLimits, LengthsSound}
-use Rattle.ix_model.specs.declared.config.FsSpec.{FsSpec}
-use Rattle.ix_model.proofs.tables.Tables.{none_is, Back, back, seen_same, map_same, any_same, length_same}
-use Rattle.ix_model.proofs.frames.Floats.{Floats, object_but, process_but, open_but}
-use Rattle.ix_model.proofs.words.Living.{is_living, not_ended, lives_as}
-use Rattle.ix_model.proofs.tables.Blocks.{blocks_from}
+use Rattle.ix_model.proofs.tables.{Tables.{none_is, Back, back, seen_same, map_same, any_same, length_same}, Blocks.blocks_from}
+use Rattle.ix_model.proofs.{frames.Floats.{Floats, object_but, process_but, open_but}, words.Living.{is_living, not_ended, lives_as}}
 
 -- whether a process has a descriptor on that end, by a table of open entries
 abbrev pub has_on : List (Option Open) → ℕ → ℕ → Option Process → Bool

@@ -1,11 +1,9 @@
 -- Frames that are one but for labels, those of open entries too, ceilings, frozen marks, privileges, claims, working directories and the log.
 use Rattle.std.proofs.Common.{◌≡◌, ℕ, false, refl}
 use Rattle.ix_label.specs.Category.{Categories, bottom}
-use Rattle.ix_model.specs.world.Privs.{no_privileges}
-use Rattle.ix_model.specs.world.World.{Frame, Object, Process, Open, change, no_claims}
+use Rattle.ix_model.specs.world.{Privs.no_privileges, World.{Frame, Object, Process, Open, change, no_claims}}
 use Rattle.ix_model.specs.rows.Rows.{change_object, change_process, change_open, observe, affect}
-use Rattle.ix_model.proofs.tables.Tables.{SameBut, same_itself, same_changed}
-use Rattle.ix_model.proofs.words.Keeps.{Holds, Keeps, keeping}
+use Rattle.ix_model.proofs.{tables.Tables.{SameBut, same_itself, same_changed}, words.Keeps.{Holds, Keeps, keeping}}
 
 -- an object by its kind, its file system and its names
 abbrev pub object_but : Object → Object

@@ -1,18 +1,15 @@
 -- Sound frames: all that is said of a sound world but its lengths. What a frame that is one but for labels and the like keeps.
 use Rattle.std.proofs.Common.{◌≡◌, ◌≤◌, ℕ, List, Some, option_map, true, refl, ap, ◌∙◌, length}
 use Rattle.ix_label.specs.Category.{Categories, leq}
-use Rattle.ix_model.specs.world.World.{World, Frame, Content, Object, Process, Open, at, change, ceiling_of}
+use Rattle.ix_model.specs.{world.World.{World, Frame, Content, Object, Process, Open, at, change, ceiling_of}, declared.config.FsSpec.FsSpec}
 use Rattle.ix_model.specs.rows.Rows.{change_object, change_process, change_open, observe, affect}
-use Rattle.ix_model.specs.laws.Sound.{LabelsBelow, NamesSound, LivesSound, OpensSound, ProcessesSound, ClaimsSound, WithinLimits, LengthsSound, ShapesSound, HoldingsSound, Sound}
-use Rattle.ix_model.specs.declared.config.FsSpec.{FsSpec}
-use Rattle.ix_model.proofs.tables.Tables.{seen_changed}
-use Rattle.ix_model.proofs.words.Keeps.{Holds, Keeps}
-use Rattle.ix_model.proofs.words.Ends.{Ends, kept_ends}
-use Rattle.ix_model.proofs.words.Looks.{ends_observe, ends_affect}
+use Rattle.ix_model.specs.laws.Sound.{LabelsBelow, NamesSound, LivesSound, OpensSound, ProcessesSound, ClaimsSound, WithinLimits, LengthsSound, ShapesSound}
+use Rattle.ix_model.specs.laws.Sound.{HoldingsSound, Sound}
+use Rattle.ix_model.proofs.{tables.Tables.seen_changed, tables.Labels.{labels_object, labels_process, labels_observed, labels_affected}}
+use Rattle.ix_model.proofs.tables.SameKinds.{Kinds, kinds_itself, kinds_floats}
+use Rattle.ix_model.proofs.words.{Keeps.{Holds, Keeps}, Ends.{Ends, kept_ends}, Looks.{ends_observe, ends_affect}}
 use Rattle.ix_model.proofs.frames.Floats.{Floats, object_but, process_but, open_but, floats_open, floats_itself, floats_object, floats_process}
 use Rattle.ix_model.proofs.frames.Floated.{names_floated, lives_floated, opens_floated, processes_floated, claims_floated, limits_floated}
-use Rattle.ix_model.proofs.tables.Labels.{labels_object, labels_process, labels_observed, labels_affected}
-use Rattle.ix_model.proofs.tables.SameKinds.{Kinds, kinds_itself, kinds_floats}
 
 pub record FrameSound (f : Frame) : Type 0 where
   pub labels : LabelsBelow f

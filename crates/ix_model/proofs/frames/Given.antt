@@ -1,21 +1,13 @@
 -- A new open entry, and a new descriptor on an open entry that stands.
-use Rattle.std.proofs.Common.{◌≡◌, ◌≢◌, ◌<◌, ◌==◌, ℕ, Bool, true, false, true≢false, not, ◌&&◌, ◌||◌, List, length, sum, count_by, map, replicate}
-use Rattle.std.proofs.Common.{Option, Some, None, is_some, is_none, option_map, cond, refl, sym, ap, ◌∙◌, subst, arith, inl, inr, length-set}
-use Rattle.std.specs.Option.{option_map_or}
-use Rattle.std.specs.List.{list_any}
-use Rattle.std.proofs.lemmas.Bool.Decides.{eqb_tells}
-use Rattle.std.proofs.lemmas.Bool.{eq-eqb}
-use Rattle.std.proofs.lemmas.List.{get_or-set_same, get_or-set_other, length-replicate}
-use Rattle.std.proofs.lemmas.List.Folds.{list_any_at}
-use Rattle.std.proofs.lemmas.List.Sums.{sum-map}
+use Rattle.std.proofs.Common.{◌≡◌, ◌≢◌, ◌<◌, ◌==◌, ℕ, Bool, true, false, true≢false, not, ◌&&◌, ◌||◌, List, length, sum, count_by, map, replicate, Option, Some}
+use Rattle.std.proofs.Common.{None, is_some, is_none, option_map, cond, refl, sym, ap, ◌∙◌, subst, arith, inl, inr, length-set}
+use Rattle.std.specs.{Option.option_map_or, List.list_any}
+use Rattle.std.proofs.{lemmas.Bool.Decides.eqb_tells, lemmas.Bool.eq-eqb, lemmas.List.{get_or-set_same, get_or-set_other, length-replicate}}
+use Rattle.std.proofs.{lemmas.List.Folds.list_any_at, lemmas.List.Sums.sum-map}
 use Rattle.ix_model.specs.world.World.{Frame, Process, Open, at, put, change, living, is_dir, is_pipe, is_on, held}
-use Rattle.ix_model.specs.world.Owners.{is_at, times_named, owns, owned}
-use Rattle.ix_model.specs.laws.Sound.{LivesSound, OpensSound, ProcessesSound, ClaimsSound, WithinLimits}
+use Rattle.ix_model.specs.{world.Owners.{is_at, times_named, owns, owned}, laws.Sound.{LivesSound, OpensSound, ProcessesSound, ClaimsSound, WithinLimits}}
 use Rattle.ix_model.proofs.tables.Tables.{none_is, SameBut, Back, back, same_itself, same_changed, seen_changed, map_changed, at_changed, any_put, any_more}
-use Rattle.ix_model.proofs.tables.Finds.{in_table}
-use Rattle.ix_model.proofs.words.Lasts.{some_put}
-use Rattle.ix_model.proofs.words.Living.{is_living, not_ended, lives_as}
-use Rattle.ix_model.proofs.frames.Floated.{has_on}
+use Rattle.ix_model.proofs.{tables.Finds.in_table, words.{Lasts.some_put, Living.{is_living, not_ended, lives_as}}, frames.Floated.has_on}
 
 no_none : {A : Type 0} (p : Option A → Bool) (o : Option A) → p None ≡ false → o ≡ None → p o ≡ true → ⊥
 no_none p o none is h = true≢false (sym h ∙ ap p is ∙ none)

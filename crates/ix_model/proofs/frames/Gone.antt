@@ -1,21 +1,14 @@
 -- An object goes.
-use Rattle.std.proofs.Common.{◌≡◌, ◌≢◌, ◌<◌, ◌==◌, ℕ, Bool, true, false, true≢false, not, ◌&&◌, ◌||◌, List, [], map, sum, length, count_by, Option}
-use Rattle.std.proofs.Common.{Some, None, refl, sym, ap, ◌∙◌, arith, ◌⊎◌, inl, inr, length-set}
+use Rattle.std.proofs.Common.{◌≡◌, ◌≢◌, ◌<◌, ◌==◌, ℕ, Bool, true, false, true≢false, not, ◌&&◌, ◌||◌, List, [], map, sum, length, count_by, Option, Some, None}
+use Rattle.std.proofs.Common.{refl, sym, ap, ◌∙◌, arith, ◌⊎◌, inl, inr, length-set}
 use Rattle.std.specs.Option.{option_map_or}
-use Rattle.std.proofs.lemmas.Bool.{and_from, or_parts, or_cases, and_parts, not-true, not-false, eqb-true, eq-eqb, cases_lt}
-use Rattle.std.proofs.lemmas.List.{get_or-set_other}
+use Rattle.std.proofs.lemmas.{Bool.{and_from, or_parts, or_cases, and_parts, not-true, not-false, eqb-true, eq-eqb, cases_lt}, List.get_or-set_other}
 use Rattle.ix_model.specs.world.World.{Frame, Object, Process, Open, at, put, is_file, is_dir, is_pipe, is_on, held, living}
-use Rattle.ix_model.specs.world.Owners.{times_in, times_named, names_in_all}
-use Rattle.ix_model.specs.rows.Rows.{put_object}
-use Rattle.ix_model.specs.rows.Lifetimes.{stays, let_go_object}
-use Rattle.ix_model.specs.declared.refusal.Refusal.{Refusal}
-use Rattle.ix_model.specs.declared.reply.Kind.{Kind}
+use Rattle.ix_model.specs.{world.Owners.{times_in, times_named, names_in_all}, rows.{Rows.put_object, Lifetimes.{stays, let_go_object}}}
+use Rattle.ix_model.specs.declared.{refusal.Refusal.Refusal, reply.Kind.Kind}
 use Rattle.ix_model.specs.declared.reply.Kind.TheVariants as kind
-use Rattle.ix_model.proofs.tables.Finds.{at_put, any_by, in_table, passes_some, sum_put, sum_at, sum_zero}
-use Rattle.ix_model.proofs.tables.Labels.{labels_put_object}
-use Rattle.ix_model.proofs.frames.Frames.{FrameSound}
-use Rattle.ix_model.proofs.frames.Awaiting.{Awaiting, Arrived, arrived}
-use Rattle.ix_model.proofs.words.Ends.{Ends, ends_only_if}
+use Rattle.ix_model.proofs.tables.{Finds.{at_put, any_by, in_table, passes_some, sum_put, sum_at, sum_zero}, Labels.labels_put_object}
+use Rattle.ix_model.proofs.{frames.{Frames.FrameSound, Awaiting.{Awaiting, Arrived, arrived}}, words.Ends.{Ends, ends_only_if}}
 
 -- an object that nothing needs
 pub record IsUnneeded (f : Frame) (o : ℕ) (x : Object) : Type 0 where

@@ -1,24 +1,14 @@
 -- A descriptor is given up, and with it what it alone kept.
 use Rattle.std.proofs.Common.{◌≡◌, ◌==◌, ◌&&◌, ◌||◌, ℕ, Bool, true, false, not, Option, Some, None, option_map, refl, sym, ap, ◌∙◌, inl, inr}
-use Rattle.std.specs.Option.{option_map_or}
-use Rattle.std.specs.List.{list_any}
-use Rattle.std.proofs.lemmas.Bool.{and_parts, eqb-true, eq-eqb, not-false}
-use Rattle.std.proofs.lemmas.Bool.Decides.{eqb_tells}
-use Rattle.std.proofs.lemmas.List.{get_or-set_other}
-use Rattle.ix_model.specs.world.World.{Frame, Object, Process, at, put, change, is_dir, is_pipe, is_on}
-use Rattle.ix_model.specs.world.Owners.{is_at, owns, has_end}
-use Rattle.ix_model.specs.rows.Walks.{OpenFile}
-use Rattle.ix_model.specs.rows.Lifetimes.{has_lost}
+use Rattle.std.specs.{Option.option_map_or, List.list_any}
+use Rattle.std.proofs.lemmas.{Bool.{and_parts, eqb-true, eq-eqb, not-false, Decides.eqb_tells}, List.get_or-set_other}
+use Rattle.ix_model.specs.world.{World.{Frame, Object, Process, at, put, change, is_dir, is_pipe, is_on}, Owners.{is_at, owns, has_end}}
+use Rattle.ix_model.specs.rows.{Walks.OpenFile, Lifetimes.has_lost}
 use Rattle.ix_model.specs.laws.Sound.{LabelsBelow, NamesSound, LivesSound, ProcessesSound, ClaimsSound, WithinLimits}
-use Rattle.ix_model.proofs.tables.Tables.{at_changed, seen_changed, any_put}
-use Rattle.ix_model.proofs.tables.Finds.{at_put, at_change, any_into}
-use Rattle.ix_model.proofs.words.Living.{is_living, not_ended, lives_as}
-use Rattle.ix_model.proofs.tables.Labels.{labels_object, labels_process}
-use Rattle.ix_model.proofs.frames.Floats.{floats_itself, floats_object}
+use Rattle.ix_model.proofs.{tables.Tables.{at_changed, seen_changed, any_put}, tables.Finds.{at_put, at_change, any_into}, frames.Frames.FrameSound}
+use Rattle.ix_model.proofs.{tables.Labels.{labels_object, labels_process}, words.Living.{is_living, not_ended, lives_as}, frames.Claimants.IsBehind}
+use Rattle.ix_model.proofs.{frames.Floats.{floats_itself, floats_object}, frames.Given.{OpensBut, and_more, processes_put_fd, limits_put_fd}}
 use Rattle.ix_model.proofs.frames.Floated.{has_on, names_floated, lives_floated, processes_floated, limits_floated}
-use Rattle.ix_model.proofs.frames.Frames.{FrameSound}
-use Rattle.ix_model.proofs.frames.Given.{OpensBut, and_more, processes_put_fd, limits_put_fd}
-use Rattle.ix_model.proofs.frames.Claimants.{IsBehind}
 
 -- all claims but one are claimants'
 pub record ClaimsBut (pid o end : ℕ) (f : Frame) : Type 0 where

@@ -1,22 +1,14 @@
 -- A name more, and a name fewer, in one directory.
-use Rattle.std.proofs.Common.{◌≡◌, ◌≢◌, ◌<◌, ◌≤◌, ◌+◌, ◌==◌, ℕ, Bool, true, false, true≢false, not, ◌&&◌, ◌||◌, List, [], ◌∷◌, ◌++◌, map, sum, length}
-use Rattle.std.proofs.Common.{count_by, cond, Option, Some, None, is_none, option_map, if◌then◌else◌, refl, sym, ap, ◌∙◌, subst, arith, inl, inr}
-use Rattle.std.proofs.Common.{length-set, length-append}
-use Rattle.std.specs.Option.{option_map_or}
-use Rattle.std.proofs.lemmas.Bool.Decides.{eqb_tells}
-use Rattle.std.proofs.lemmas.Bool.{ltb-true, ne_eqb, eq-eqb}
-use Rattle.ix_model.specs.world.Directories.{with_name, without_name, has_room_for_a_name}
-use Rattle.ix_model.specs.world.World.{Frame, Object, at, change, is_file, is_dir, is_pipe, held}
-use Rattle.ix_model.specs.rows.Walks.{child}
-use Rattle.ix_model.specs.world.Owners.{times_in, times_named, names_in_all}
-use Rattle.ix_model.specs.opening.Valid.{all_differ}
+use Rattle.std.proofs.Common.{◌≡◌, ◌≢◌, ◌<◌, ◌≤◌, ◌+◌, ◌==◌, ℕ, Bool, true, false, true≢false, not, ◌&&◌, ◌||◌, List, [], ◌∷◌, ◌++◌, map, sum, length, count_by}
+use Rattle.std.proofs.Common.{cond, Option, Some, None, is_none, option_map, if◌then◌else◌, refl, sym, ap, ◌∙◌, subst, arith, inl, inr, length-set}
+use Rattle.std.proofs.Common.{length-append}
+use Rattle.std.{specs.Option.option_map_or, proofs.lemmas.Bool.{Decides.eqb_tells, ltb-true, ne_eqb, eq-eqb}}
+use Rattle.ix_model.specs.{world.Directories.{with_name, without_name, has_room_for_a_name}, world.Owners.{times_in, times_named, names_in_all}}
+use Rattle.ix_model.specs.{world.World.{Frame, Object, at, change, is_file, is_dir, is_pipe, held}, rows.Walks.child, opening.Valid.all_differ}
 use Rattle.ix_model.specs.laws.Sound.{OpensSound, ProcessesSound, ClaimsSound, WithinLimits}
-use Rattle.ix_model.proofs.tables.Tables.{seen_changed}
-use Rattle.ix_model.proofs.tables.Finds.{in_table, at_change, sum_put}
-use Rattle.ix_model.proofs.tables.Labels.{labels_object}
-use Rattle.ix_model.proofs.frames.Frames.{FrameSound}
+use Rattle.ix_model.proofs.{tables.Tables.seen_changed, tables.Finds.{in_table, at_change, sum_put}, tables.Labels.labels_object}
 use Rattle.ix_model.proofs.tables.Listed.{Names, count_more, differ_more, others, count_out, differ_fewer, length_fewer}
-use Rattle.ix_model.proofs.frames.Awaiting.{NamesBut, LivesBut, Awaiting, arrived}
+use Rattle.ix_model.proofs.frames.{Frames.FrameSound, Awaiting.{NamesBut, LivesBut, Awaiting, arrived}}
 
 -- an object with other names
 abbrev pub renaming : (Names → Names) → Object → Object

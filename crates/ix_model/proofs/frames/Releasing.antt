@@ -1,29 +1,15 @@
 -- An open entry without an owner goes, and with it the object that it alone kept.
 use Rattle.std.proofs.Common.{◌≡◌, ◌≢◌, ◌==◌, ℕ, true, false, not, List, Option, Some, None, is_some, refl, sym, ap, ◌∙◌, inl, inr, length-set}
-use Rattle.std.specs.Option.{option_map_or}
-use Rattle.std.specs.List.{list_any}
-use Rattle.std.proofs.lemmas.Bool.{and_from, and_parts, eq-eqb, eqb-true, not-true, not-false}
-use Rattle.std.proofs.lemmas.Bool.Decides.{eqb_tells}
-use Rattle.std.proofs.lemmas.List.{get_or-set_other}
-use Rattle.ix_model.specs.world.World.{Frame, Object, Process, Open, at, put, change, living, is_dir, is_on, held}
+use Rattle.std.specs.{Option.option_map_or, List.list_any}
+use Rattle.std.proofs.lemmas.{Bool.{and_from, and_parts, eq-eqb, eqb-true, not-true, not-false, Decides.eqb_tells}, List.get_or-set_other}
+use Rattle.ix_model.specs.{world.World.{Frame, Object, Process, Open, at, put, change, living, is_dir, is_on, held}, declared.refusal.Refusal.Refusal}
 use Rattle.ix_model.specs.world.Owners.{times_named, is_at, owns, owned}
-use Rattle.ix_model.specs.rows.Walks.{OpenFile, behind}
-use Rattle.ix_model.specs.rows.Rows.{◌>>◌, put_open}
-use Rattle.ix_model.specs.rows.Lifetimes.{has_lost, let_go_claim, let_go_open, let_go_object, let_go}
-use Rattle.ix_model.specs.declared.refusal.Refusal.{Refusal}
-use Rattle.ix_model.proofs.tables.Tables.{seen_changed}
-use Rattle.ix_model.proofs.tables.Finds.{at_put, any_by, any_into, no_any, passes_some}
-use Rattle.ix_model.proofs.words.Living.{is_living, not_ended, lives_as}
-use Rattle.ix_model.proofs.words.Ends.{Ends, ends_then, ends_only_if, ends_change_object, ends_change_caller, ends_put_open}
-use Rattle.ix_model.proofs.frames.Floats.{floats_itself, floats_object}
-use Rattle.ix_model.proofs.frames.Floated.{has_on}
-use Rattle.ix_model.proofs.tables.SameKinds.{Kinds, kinds_floats, kinds_gone}
-use Rattle.ix_model.proofs.frames.Frames.{FrameSound, Follows}
-use Rattle.ix_model.proofs.frames.Given.{or_more, either_more}
-use Rattle.ix_model.proofs.frames.Awaiting.{Awaiting, awaiting, names_but}
-use Rattle.ix_model.proofs.frames.Gone.{object_released}
-use Rattle.ix_model.proofs.frames.Claimants.{is_behind}
-use Rattle.ix_model.proofs.frames.Loose.{Loose, loose_taken, loose_unclaimed, claims_kept}
+use Rattle.ix_model.specs.rows.{Walks.{OpenFile, behind}, Rows.{◌>>◌, put_open}, Lifetimes.{has_lost, let_go_claim, let_go_open, let_go_object, let_go}}
+use Rattle.ix_model.proofs.{tables.Tables.seen_changed, tables.Finds.{at_put, any_by, any_into, no_any, passes_some}, frames.Floated.has_on}
+use Rattle.ix_model.proofs.{tables.SameKinds.{Kinds, kinds_floats, kinds_gone}, words.Living.{is_living, not_ended, lives_as}, frames.Gone.object_released}
+use Rattle.ix_model.proofs.{words.Ends.{Ends, ends_then, ends_only_if, ends_change_object, ends_change_caller, ends_put_open}, frames.Claimants.is_behind}
+use Rattle.ix_model.proofs.{frames.Floats.{floats_itself, floats_object}, frames.Frames.{FrameSound, Follows}, frames.Given.{or_more, either_more}}
+use Rattle.ix_model.proofs.{frames.Awaiting.{Awaiting, awaiting, names_but}, frames.Loose.{Loose, loose_taken, loose_unclaimed, claims_kept}}
 
 -- ---- the open entry
 module _ (e : ℕ) (f : Frame) (l : Loose e f) where

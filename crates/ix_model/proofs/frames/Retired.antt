@@ -1,27 +1,16 @@
 -- A record that nothing needs is put in the place of a process, or none.
-use Rattle.std.proofs.Common.{◌≡◌, ◌≢◌, ◌≤◌, ℕ, Bool, true, false, true≢false, not, ◌&&◌, List, length, cond, Option, Some, None, is_some, refl, sym, ap, ◌∙◌, arith, inl, inr}
-use Rattle.std.specs.Option.{option_map_or}
-use Rattle.std.proofs.lemmas.Bool.Decides.{eqb_tells}
-use Rattle.std.proofs.lemmas.List.{get_or-set_other}
-use Rattle.std.specs.List.{list_any}
-use Rattle.std.proofs.lemmas.Bool.{and_parts}
-use Rattle.std.proofs.lemmas.List.Sums.{sum-map}
-use Rattle.std.proofs.lemmas.List.Quantifiers.{position-Some}
+use Rattle.std.proofs.Common.{◌≡◌, ◌≢◌, ◌≤◌, ℕ, Bool, true, false, true≢false, not, ◌&&◌, List, length, cond, Option, Some, None, is_some, refl, sym, ap, ◌∙◌}
+use Rattle.std.proofs.Common.{arith, inl, inr}
+use Rattle.std.specs.{Option.option_map_or, List.list_any}
+use Rattle.std.proofs.lemmas.{Bool.{Decides.eqb_tells, and_parts}, List.{get_or-set_other, Sums.sum-map, Quantifiers.position-Some}}
 use Rattle.ix_label.specs.Category.{leq}
-use Rattle.ix_model.specs.world.World.{Frame, Process, at, put, living, lives, is_ended, is_on}
-use Rattle.ix_model.specs.world.Owners.{is_at, owns}
-use Rattle.ix_model.specs.rows.Rows.{observe}
-use Rattle.ix_model.specs.rows.OnProcesses.{is_child, wait_child}
-use Rattle.ix_model.proofs.tables.Tables.{seen_same}
-use Rattle.ix_model.proofs.tables.Finds.{at_put, any_into, in_table, passes_some, sum_put}
-use Rattle.ix_model.proofs.words.Living.{is_living, not_ended, lives_as}
+use Rattle.ix_model.specs.world.{World.{Frame, Process, at, put, living, lives, is_ended, is_on}, Owners.{is_at, owns}}
+use Rattle.ix_model.specs.rows.{Rows.observe, OnProcesses.{is_child, wait_child}}
+use Rattle.ix_model.proofs.tables.{Tables.seen_same, Finds.{at_put, any_into, in_table, passes_some, sum_put}, Labels.labels_put_process}
+use Rattle.ix_model.proofs.{words.Living.{is_living, not_ended, lives_as}, words.Endings.{ends_put_process, ends_record_of}, frames.Floated.has_on}
 use Rattle.ix_model.proofs.words.Ends.{Ends, ends_kept, ends_bind, ends_then, ends_pass, ends_frame, ends_need, ends_some}
-use Rattle.ix_model.proofs.words.Endings.{ends_put_process, ends_record_of}
-use Rattle.ix_model.proofs.tables.Labels.{labels_put_process}
-use Rattle.ix_model.proofs.frames.Floats.{Floats, process_but, floats_itself, floats_observe}
-use Rattle.ix_model.proofs.frames.Floated.{has_on}
+use Rattle.ix_model.proofs.{frames.Floats.{Floats, process_but, floats_itself, floats_observe}, sound.Logging.{Refused, Passed, holds_both}}
 use Rattle.ix_model.proofs.frames.Frames.{FrameSound, Follows, follows_itself, follows_observe}
-use Rattle.ix_model.proofs.sound.Logging.{Refused, Passed, holds_both}
 
 -- the record that a process leaves is an ended one, and nothing rests on the process
 pub record Retires (f : Frame) (n : ℕ) (y : Option Process) : Type 0 where

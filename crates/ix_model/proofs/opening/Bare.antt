@@ -1,19 +1,12 @@
 -- The table of objects before any line: a root for each file system, and nothing else.
-use Rattle.std.proofs.Common.{◌≡◌, ◌≢◌, ◌<◌, ◌≤◌, ◌+◌, ◌-◌, ℕ, zero, suc, true, List, [], ◌∷◌, ◌++◌, length, drop, replicate, Option, Some, None}
-use Rattle.std.proofs.Common.{option_map, nat_le, refl, sym, ap, ◌∙◌, subst, arith, append_assoc, inl, inr, length-append}
+use Rattle.std.proofs.Common.{◌≡◌, ◌≢◌, ◌<◌, ◌≤◌, ◌+◌, ◌-◌, ℕ, zero, suc, true, List, [], ◌∷◌, ◌++◌, length, drop, replicate, Option, Some, None, option_map}
+use Rattle.std.proofs.Common.{nat_le, refl, sym, ap, ◌∙◌, subst, arith, append_assoc, inl, inr, length-append}
 use Rattle.std.specs.List.{list_all}
 use Rattle.std.proofs.Math.ListN.{get_or-append}
-use Rattle.std.proofs.lemmas.Bool.{and_parts, leb-true, cases_lt}
-use Rattle.std.proofs.lemmas.Bool.Decides.{eqb_tells}
-use Rattle.std.proofs.lemmas.List.{get_or-append-add, get_or-set_other, length-replicate}
-use Rattle.ix_model.specs.world.World.{fs_at, Object, at, change}
-use Rattle.ix_model.specs.world.Numbers.{first_inode}
-use Rattle.ix_model.specs.opening.Opening.{root_of, bare, mounts}
-use Rattle.ix_model.specs.opening.Valid.{is_within, fs_fits}
-use Rattle.ix_model.specs.declared.config.FsSpec.{FsSpec}
-use Rattle.ix_model.proofs.tables.Inodes.{first-cons}
-use Rattle.ix_model.proofs.opening.Openings.{all_one}
-use Rattle.ix_model.proofs.tables.Tables.{at_changed}
+use Rattle.std.proofs.lemmas.{Bool.{and_parts, leb-true, cases_lt, Decides.eqb_tells}, List.{get_or-append-add, get_or-set_other, length-replicate}}
+use Rattle.ix_model.specs.{world.{World.{fs_at, Object, at, change}, Numbers.first_inode}, declared.config.FsSpec.FsSpec}
+use Rattle.ix_model.specs.opening.{Opening.{root_of, bare, mounts}, Valid.{is_within, fs_fits}}
+use Rattle.ix_model.proofs.{tables.{Inodes.first-cons, Tables.at_changed}, opening.Openings.all_one}
 
 -- ---- each file system has an inode
 has_inode : (s : FsSpec) → fs_fits s ≡ true → 1 ≤ s.inodes

@@ -1,32 +1,18 @@
 -- What holds of the objects before any line.
-use Rattle.std.proofs.Common.{◌≡◌, ◌<◌, ◌≤◌, ◌+◌, ◌==◌, ℕ, zero, suc, Bool, true, false, true≢false, not, ◌||◌, List, [], ◌∷◌, ◌++◌, length}
-use Rattle.std.proofs.Common.{length-set, map, sum, drop, count_by, find, replicate, if◌then◌else◌, Option, Some, None, is_some, option_map}
-use Rattle.std.proofs.Common.{unwrap_or, refl, sym, ap, ◌∙◌, subst, arith, inl, inr}
-use Rattle.std.specs.Option.{option_map_or, option_and_then}
-use Rattle.std.specs.List.{list_any, list_all, sum_by}
-use Rattle.std.proofs.lemmas.Bool.{and_parts, or_cases, or_left, ne_eqb}
-use Rattle.std.proofs.lemmas.List.{length-replicate}
-use Rattle.std.proofs.lemmas.List.Sums.{sum-map, sum_by-set}
-use Rattle.std.proofs.lemmas.Iterator.Adapters.{position_from-zero}
+use Rattle.std.proofs.Common.{◌≡◌, ◌<◌, ◌≤◌, ◌+◌, ◌==◌, ℕ, zero, suc, Bool, true, false, true≢false, not, ◌||◌, List, [], ◌∷◌, ◌++◌, length, length-set, map}
+use Rattle.std.proofs.Common.{sum, drop, count_by, find, replicate, if◌then◌else◌, Option, Some, None, is_some, option_map, unwrap_or, refl, sym, ap, ◌∙◌, inl}
+use Rattle.std.proofs.Common.{subst, arith, inr}
+use Rattle.std.{specs.{Option.{option_map_or, option_and_then}, List.{list_any, list_all, sum_by}}, proofs.lemmas.Bool.{and_parts, or_cases, or_left, ne_eqb}}
+use Rattle.std.{proofs.lemmas.List.length-replicate, proofs.lemmas.List.Sums.{sum-map, sum_by-set}, proofs.lemmas.Iterator.Adapters.position_from-zero}
 use Rattle.ix_label.specs.Lattice.{bottom-leq}
-use Rattle.ix_model.specs.world.Naming.{same_bytes, same_names}
-use Rattle.ix_model.specs.world.World.{fs_at, Object, Holding, at, is_file, is_dir, is_pipe}
-use Rattle.ix_model.specs.rows.Walks.{nothing, node, child}
-use Rattle.ix_model.specs.world.Contents.{holds_nothing}
-use Rattle.ix_model.specs.rows.Telling.{blocks_for, blocks_where}
-use Rattle.ix_model.specs.world.Numbers.{first_inode}
-use Rattle.ix_model.specs.opening.Opening.{root_of, mounts}
-use Rattle.ix_model.specs.opening.Valid.{all_differ, fs_fits, fs_of, is_mount, is_taken, has_directory}
-use Rattle.ix_model.specs.world.Owners.{times_in, times_named}
-use Rattle.ix_model.specs.declared.config.FsSpec.{FsSpec}
-use Rattle.ix_model.specs.declared.config.Limits.{Limits}
-use Rattle.ix_model.proofs.tables.Alike.{names_are}
-use Rattle.ix_model.proofs.opening.Openings.{all_one}
-use Rattle.ix_model.proofs.tables.Inodes.{first-cons, first_next, one_fs, filled_one}
-use Rattle.ix_model.proofs.opening.Built.{Fits, Named, DirAt, Ways, is_on_fs, Counted, Held, Built}
+use Rattle.ix_model.specs.{world.Naming.{same_bytes, same_names}, world.World.{fs_at, Object, Holding, at, is_file, is_dir, is_pipe}, world.Numbers.first_inode}
+use Rattle.ix_model.specs.{world.Contents.holds_nothing, world.Owners.{times_in, times_named}, declared.config.{FsSpec.FsSpec, Limits.Limits}}
+use Rattle.ix_model.specs.rows.{Walks.{nothing, node, child}, Telling.{blocks_for, blocks_where}}
+use Rattle.ix_model.specs.opening.{Opening.{root_of, mounts}, Valid.{all_differ, fs_fits, fs_of, is_mount, is_taken, has_directory}}
+use Rattle.ix_model.proofs.tables.{Alike.names_are, Inodes.{first-cons, first_next, one_fs, filled_one}}
+use Rattle.ix_model.proofs.opening.{Openings.all_one, Built.{Fits, Named, DirAt, Ways, is_on_fs, Counted, Held, Built}, NamesPlaced.sum_nothing}
 use Rattle.ix_model.proofs.opening.Bare.{some_inodes, roots, length-roots, root_at, is_root, with_mounts, bare_table, at_first, at_others, each_root}
 use Rattle.ix_model.proofs.opening.Mounts.{length-mounts, mounts_names, mounts_any, mounts_past, mounts_without, mounts_once, mount_at, mounted}
-use Rattle.ix_model.proofs.opening.NamesPlaced.{sum_nothing}
 
 -- ---- the further file systems
 pub first_split : (fss : List FsSpec) (k : ℕ) → 0 < length fss → first_inode fss (suc k) ≡ first_inode fss 1 + first_inode (drop 1 fss) k

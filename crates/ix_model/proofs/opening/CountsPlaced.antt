@@ -1,26 +1,12 @@
 -- One object more, which takes an inode, a name and blocks of those that are left.
-use Rattle.std.proofs.Common.{◌≡◌, ◌≢◌, ◌<◌, ◌≤◌, ◌+◌, ◌==◌, ℕ, suc, Bool, true, false, List, [], ◌∷◌, ◌++◌, length, length-append, length-set, cond}
-use Rattle.std.proofs.Common.{Option, Some, is_some, set, refl, sym, ap, ◌∙◌, subst, arith, inl, inr}
-use Rattle.std.specs.Option.{option_map_or}
+use Rattle.std.proofs.Common.{◌≡◌, ◌≢◌, ◌<◌, ◌≤◌, ◌+◌, ◌==◌, ℕ, suc, Bool, true, false, List, [], ◌∷◌, ◌++◌, length, length-append, length-set, cond, Option}
+use Rattle.std.proofs.Common.{Some, is_some, set, refl, sym, ap, ◌∙◌, subst, arith, inl, inr}
+use Rattle.std.{specs.Option.option_map_or, proofs.lemmas.{Bool.{cond-true, cond-false, Decides.eqb_tells}, List.Sums.{length-filter, sum_by_push}}}
 use Rattle.ix_label.specs.Category.{leq}
-use Rattle.std.proofs.lemmas.Bool.{cond-true, cond-false}
-use Rattle.std.proofs.lemmas.Bool.Decides.{eqb_tells}
-use Rattle.std.proofs.lemmas.List.Sums.{length-filter, sum_by_push}
-use Rattle.ix_model.specs.world.World.{fs_at, Object, Holding, at}
-use Rattle.ix_model.specs.world.Contents.{holds_nothing}
-use Rattle.ix_model.specs.rows.Telling.{blocks_for, blocks_where}
-use Rattle.ix_model.specs.world.Numbers.{first_inode}
-use Rattle.ix_model.specs.opening.Valid.{fs_of, lying_on, blocks_taken}
-use Rattle.ix_model.specs.declared.config.FsSpec.{FsSpec}
-use Rattle.ix_model.specs.declared.config.Limits.{Limits}
-use Rattle.ix_model.specs.declared.config.ObjSpec.{ObjSpec}
-use Rattle.ix_model.proofs.tables.Blocks.{blocks_from, blocks_skip, blocks_edit}
-use Rattle.ix_model.proofs.opening.Fitting.{taken-cons}
-use Rattle.ix_model.proofs.sound.Lengths.{set_either}
-use Rattle.ix_model.proofs.tables.Inodes.{one_fs, filled, filled_same, filled_more}
-use Rattle.ix_model.proofs.opening.Lines.{Line}
-use Rattle.ix_model.proofs.opening.Built.{is_on_fs, Fits, Counted}
-use Rattle.ix_model.proofs.opening.NamesPlaced.{new_no_pipe}
+use Rattle.ix_model.specs.{world.{World.{fs_at, Object, Holding, at}, Contents.holds_nothing, Numbers.first_inode}, rows.Telling.{blocks_for, blocks_where}}
+use Rattle.ix_model.specs.{opening.Valid.{fs_of, lying_on, blocks_taken}, declared.config.{FsSpec.FsSpec, Limits.Limits, ObjSpec.ObjSpec}}
+use Rattle.ix_model.proofs.{tables.{Blocks.{blocks_from, blocks_skip, blocks_edit}, Inodes.{one_fs, filled, filled_same, filled_more}}, opening.Lines.Line}
+use Rattle.ix_model.proofs.{opening.Fitting.taken-cons, opening.Built.{is_on_fs, Fits, Counted}, opening.NamesPlaced.new_no_pipe, sound.Lengths.set_either}
 use Rattle.ix_model.proofs.opening.Placing.{Place, with_one, at_new, seen, each_after, length-after, names_after}
 
 -- ---- the lines on a file system

@@ -1,13 +1,9 @@
 -- One step on in the loops that tell whether a config fits.
-use Rattle.std.proofs.Common.{◌≡◌, ℕ, zero, suc, ◌+◌, ◌-◌, ◌<◌, ◌≤◌, ◌==◌, Bool, true, false, ◌&&◌, not, List, [], ◌∷◌, length, map, take, drop, get_or, refl, sym, ap, ◌∙◌, arith, if◌then◌else◌, sum}
-use Rattle.std.proofs.lemmas.List.{at_drop_more, take_rest}
-use Rattle.std.proofs.lemmas.List.Sums.{sum_by-cons}
-use Rattle.std.specs.List.{list_any}
-use Rattle.ix_model.specs.world.Naming.{same_bytes}
-use Rattle.ix_model.specs.rows.Telling.{blocks_for}
-use Rattle.ix_model.specs.opening.Valid.{all_differ, fs_of, lying_on, blocks_taken}
-use Rattle.ix_model.specs.declared.config.FsSpec.{FsSpec}
-use Rattle.ix_model.specs.declared.config.ObjSpec.{ObjSpec}
+use Rattle.std.proofs.Common.{◌≡◌, ℕ, zero, suc, ◌+◌, ◌-◌, ◌<◌, ◌≤◌, ◌==◌, Bool, true, false, ◌&&◌, not, List, [], ◌∷◌, length, map, take, drop, get_or, refl}
+use Rattle.std.proofs.Common.{sym, ap, ◌∙◌, arith, if◌then◌else◌, sum}
+use Rattle.std.{proofs.lemmas.List.{at_drop_more, take_rest, Sums.sum_by-cons}, specs.List.list_any}
+use Rattle.ix_model.specs.{world.Naming.same_bytes, rows.Telling.blocks_for, opening.Valid.{all_differ, fs_of, lying_on, blocks_taken}}
+use Rattle.ix_model.specs.declared.config.{FsSpec.FsSpec, ObjSpec.ObjSpec}
 
 list_any-map : {X Y : Type 0} (p : Y → Bool) (h : X → Y) (xs : List X) → list_any p (map h xs) ≡ list_any (λ x. p (h x)) xs
 list_any-map p h [] = refl

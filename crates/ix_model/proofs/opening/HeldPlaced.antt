@@ -1,18 +1,11 @@
 -- What the objects of a config's lines hold, with one line more.
 use Rattle.std.proofs.Common.{◌≡◌, ◌≢◌, ◌<◌, ℕ, Bool, true, false, List, [], Option, get_or, set, refl, sym, ap, ◌∙◌, if◌then◌else◌, length}
 use Rattle.std.proofs.lemmas.List.{get_or-set_same, get_or-set_other}
-use Rattle.ix_model.specs.world.World.{Object, Holding, is_dir}
-use Rattle.ix_model.specs.world.Contents.{holds_nothing}
-use Rattle.ix_model.specs.opening.Opening.{object_of}
-use Rattle.ix_model.specs.declared.config.ObjSpec.{ObjSpec}
-use Rattle.ix_model.specs.declared.config.FsSpec.{FsSpec}
-use Rattle.ix_model.specs.declared.config.Limits.{Limits}
+use Rattle.ix_model.specs.{world.{World.{Object, Holding, is_dir}, Contents.holds_nothing}, opening.Opening.object_of}
+use Rattle.ix_model.specs.declared.config.{ObjSpec.ObjSpec, FsSpec.FsSpec, Limits.Limits}
 use Rattle.ix_model.specs.declared.reply.Kind.TheVariants as kind
-use Rattle.ix_model.proofs.opening.Lines.{Line}
+use Rattle.ix_model.proofs.opening.{Lines.Line, Placing.{Place, with_one, not_new, each_after}, CountsPlaced.holding_for, Built.Held}
 use Rattle.ix_model.proofs.sound.Lengths.{set_either}
-use Rattle.ix_model.proofs.opening.Placing.{Place, with_one, not_new, each_after}
-use Rattle.ix_model.proofs.opening.CountsPlaced.{holding_for}
-use Rattle.ix_model.proofs.opening.Built.{Held}
 
 -- the object of a line is a directory where the line says so
 dir_of : (k : ℕ) (b : ObjSpec) → is_dir (object_of k b) ≡ b.dir

@@ -1,9 +1,6 @@
 -- Where names lead, from directory to directory.
-use Rattle.std.proofs.Common.{◌≡◌, ℕ, List, [], ◌∷◌, ◌++◌, Option, Some, None, unwrap_or, refl, ap, ◌∙◌}
-use Rattle.std.specs.Option.{option_and_then}
-use Rattle.ix_model.specs.world.World.{Object}
-use Rattle.ix_model.specs.rows.Walks.{node, child}
-use Rattle.ix_model.specs.opening.Opening.{directory_of}
+use Rattle.std.{proofs.Common.{◌≡◌, ℕ, List, [], ◌∷◌, ◌++◌, Option, Some, None, unwrap_or, refl, ap, ◌∙◌}, specs.Option.option_and_then}
+use Rattle.ix_model.specs.{world.World.Object, rows.Walks.{node, child}, opening.Opening.directory_of}
 
 -- the object to which names lead from an object on
 abbrev pub lead : List (Option Object) → ℕ → List (List ℕ) → Option ℕ

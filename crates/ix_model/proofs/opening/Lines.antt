@@ -1,23 +1,13 @@
 -- What an object line that fits says, and where a path leads after it.
-use Rattle.std.proofs.Common.{◌≡◌, ◌⊎◌, ◌≤◌, ◌+◌, ◌-◌, ◌==◌, ℕ, suc, Bool, true, false, not, ◌&&◌, ◌||◌, List, [], ◌∷◌, ◌++◌, length, take, drop}
-use Rattle.std.proofs.Common.{cond, Some, None, nat_le, refl, sym, ap, ◌∙◌, arith, get_or, inl, inr, eqb-true}
-use Rattle.std.specs.Option.{option_map_or}
-use Rattle.std.specs.List.{list_any, position_from}
-use Rattle.std.proofs.Math.Bool.{and-true, or-false}
-use Rattle.std.proofs.Math.Seq.{drop-cons}
-use Rattle.std.proofs.lemmas.Bool.{and_parts, or_parts, or_cases, or_left, or_right, not-true, leb-true}
-use Rattle.std.proofs.lemmas.List.{take-append-drop, drop_all}
-use Rattle.std.proofs.lemmas.List.Folds.{list_any-append}
-use Rattle.std.proofs.lemmas.Iterator.Adapters.{position_from-zero}
+use Rattle.std.proofs.Common.{◌≡◌, ◌⊎◌, ◌≤◌, ◌+◌, ◌-◌, ◌==◌, ℕ, suc, Bool, true, false, not, ◌&&◌, ◌||◌, List, [], ◌∷◌, ◌++◌, length, take, drop, cond, Some}
+use Rattle.std.proofs.Common.{None, nat_le, refl, sym, ap, ◌∙◌, arith, get_or, inl, inr, eqb-true}
+use Rattle.std.specs.{Option.option_map_or, List.{list_any, position_from}}
+use Rattle.std.proofs.{Math.{Bool.{and-true, or-false}, Seq.drop-cons}, lemmas.Bool.{and_parts, or_parts, or_cases, or_left, or_right, not-true, leb-true}}
+use Rattle.std.proofs.{lemmas.List.{take-append-drop, drop_all}, lemmas.List.Folds.list_any-append, lemmas.Iterator.Adapters.position_from-zero}
 use Rattle.ix_label.specs.Category.{leq}
-use Rattle.ix_model.specs.world.World.{fs_at}
-use Rattle.ix_model.specs.world.Naming.{same_bytes, same_names, last_name}
-use Rattle.ix_model.specs.world.Privs.{is_empty}
-use Rattle.ix_model.specs.rows.Telling.{blocks_for}
+use Rattle.ix_model.specs.{world.{World.fs_at, Naming.{same_bytes, same_names, last_name}, Privs.is_empty}, rows.Telling.blocks_for}
+use Rattle.ix_model.specs.declared.config.{FsSpec.FsSpec, Limits.Limits, ObjSpec.ObjSpec}
 use Rattle.ix_model.specs.opening.Valid.{fs_of, is_mount, is_well_formed, is_taken, has_directory, lying_on, blocks_taken, has_room, object_fits}
-use Rattle.ix_model.specs.declared.config.FsSpec.{FsSpec}
-use Rattle.ix_model.specs.declared.config.Limits.{Limits}
-use Rattle.ix_model.specs.declared.config.ObjSpec.{ObjSpec}
 use Rattle.ix_model.proofs.tables.Alike.{names_are, names_itself}
 
 -- all names but the last

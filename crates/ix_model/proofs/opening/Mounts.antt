@@ -1,19 +1,10 @@
 -- The names of the further file systems' roots: how often each number stands among them, and what each leads to.
-use Rattle.std.proofs.Common.{◌≡◌, ◌<◌, ◌+◌, ◌==◌, ℕ, zero, suc, Bool, true, false, ◌&&◌, ◌||◌, List, [], ◌∷◌, length, map, count_by, find, cond}
-use Rattle.std.proofs.Common.{Some, None, option_map, refl, sym, ap, ◌∙◌, arith, inl, inr}
+use Rattle.std.proofs.Common.{◌≡◌, ◌<◌, ◌+◌, ◌==◌, ℕ, zero, suc, Bool, true, false, ◌&&◌, ◌||◌, List, [], ◌∷◌, length, map, count_by, find, cond, Some, None}
+use Rattle.std.proofs.Common.{option_map, refl, sym, ap, ◌∙◌, arith, inl, inr}
 use Rattle.std.specs.List.{list_any, list_all, position_from}
-use Rattle.std.proofs.Math.Bool.{and-true}
-use Rattle.std.proofs.lemmas.Bool.{cond-true, cond-false, eq-eqb, ne_eqb}
-use Rattle.std.proofs.lemmas.Bool.Decides.{eqb_tells}
-use Rattle.ix_model.specs.world.Naming.{same_bytes, same_names}
-use Rattle.ix_model.specs.world.Numbers.{first_inode}
-use Rattle.ix_model.specs.opening.Opening.{mounts}
-use Rattle.ix_model.specs.opening.Valid.{fs_fits}
-use Rattle.ix_model.specs.declared.config.FsSpec.{FsSpec}
-use Rattle.ix_model.proofs.tables.Alike.{bytes_itself, names_are}
-use Rattle.ix_model.proofs.opening.Bare.{first_fits}
-use Rattle.ix_model.proofs.tables.Inodes.{first-cons}
-use Rattle.ix_model.proofs.words.There.{counted}
+use Rattle.std.proofs.{Math.Bool.and-true, lemmas.Bool.{cond-true, cond-false, eq-eqb, ne_eqb, Decides.eqb_tells}}
+use Rattle.ix_model.specs.{world.{Naming.{same_bytes, same_names}, Numbers.first_inode}, opening.{Opening.mounts, Valid.fs_fits}, declared.config.FsSpec.FsSpec}
+use Rattle.ix_model.proofs.{tables.{Alike.{bytes_itself, names_are}, Inodes.first-cons}, opening.Bare.first_fits, words.There.counted}
 
 pub length-mounts : (n : ℕ) (ms : List FsSpec) → length (mounts n ms) ≡ length ms
 length-mounts n [] = refl

@@ -1,22 +1,13 @@
 -- One object more leaves the names sound.
-use Rattle.std.proofs.Common.{◌≡◌, ◌≢◌, ◌<◌, ◌+◌, ◌==◌, ℕ, suc, Bool, true, false, true≢false, not, List, [], ◌∷◌, ◌++◌, map, sum, count_by, cond}
-use Rattle.std.proofs.Common.{if◌then◌else◌, Option, Some, None, refl, sym, ap, ◌∙◌, arith, inl, inr}
-use Rattle.std.specs.Option.{option_map_or}
-use Rattle.std.specs.List.{list_any}
-use Rattle.std.proofs.lemmas.Bool.{and_parts, or_parts, or_from, and_from, not-true, not_from_false, cases_lt, eq-eqb, ne_eqb}
-use Rattle.std.proofs.lemmas.Bool.Decides.{eqb_tells}
-use Rattle.std.proofs.lemmas.List.{map-append}
-use Rattle.std.proofs.lemmas.List.Folds.{list_any-append}
-use Rattle.std.proofs.lemmas.List.Sums.{sum_by-cons, sum_by_push}
-use Rattle.ix_model.specs.world.Naming.{same_bytes, last_name}
-use Rattle.ix_model.specs.world.World.{Object, at, is_file, is_dir, is_pipe}
-use Rattle.ix_model.specs.opening.Opening.{object_of}
-use Rattle.ix_model.specs.opening.Valid.{all_differ}
-use Rattle.ix_model.specs.world.Owners.{times_in, times_named}
-use Rattle.ix_model.specs.declared.config.ObjSpec.{ObjSpec}
+use Rattle.std.proofs.Common.{◌≡◌, ◌≢◌, ◌<◌, ◌+◌, ◌==◌, ℕ, suc, Bool, true, false, true≢false, not, List, [], ◌∷◌, ◌++◌, map, sum, count_by, cond, Option, Some}
+use Rattle.std.proofs.Common.{if◌then◌else◌, None, refl, sym, ap, ◌∙◌, arith, inl, inr}
+use Rattle.std.specs.{Option.option_map_or, List.list_any}
+use Rattle.std.proofs.{lemmas.Bool.{and_parts, or_parts, or_from, and_from, not-true, not_from_false, cases_lt, eq-eqb, ne_eqb}, lemmas.Bool.Decides.eqb_tells}
+use Rattle.std.proofs.{lemmas.List.map-append, lemmas.List.Folds.list_any-append, lemmas.List.Sums.{sum_by-cons, sum_by_push}}
+use Rattle.ix_model.specs.world.{Naming.{same_bytes, last_name}, World.{Object, at, is_file, is_dir, is_pipe}, Owners.{times_in, times_named}}
+use Rattle.ix_model.specs.{opening.{Opening.object_of, Valid.all_differ}, declared.config.ObjSpec.ObjSpec}
 use Rattle.ix_model.specs.declared.reply.Kind.TheVariants as kind
-use Rattle.ix_model.proofs.opening.Built.{Named}
-use Rattle.ix_model.proofs.opening.Placing.{Place, naming, with_one, not_new, at_new, seen, each_after, times_after}
+use Rattle.ix_model.proofs.opening.{Built.Named, Placing.{Place, naming, with_one, not_new, at_new, seen, each_after, times_after}}
 
 -- an object line makes no pipe
 pub new_no_pipe : (k : ℕ) (b : ObjSpec) → is_pipe (object_of k b) ≡ false

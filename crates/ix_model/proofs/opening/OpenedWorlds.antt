@@ -1,26 +1,13 @@
 -- The opening world of a valid config, line by line.
-use Rattle.std.proofs.Common.{◌≡◌, ◌<◌, ◌≤◌, ◌+◌, ℕ, true, List, [], ◌∷◌, ◌++◌, length, map, replicate, take, drop, Option, Some, None, option_map}
-use Rattle.std.proofs.Common.{unwrap_or, set, refl, sym, ap, ◌∙◌, subst, arith, append_assoc, append-nil}
-use Rattle.std.specs.Option.{option_map_or}
-use Rattle.std.specs.List.{list_any}
-use Rattle.std.proofs.lemmas.Bool.{and_parts, or_parts}
-use Rattle.ix_model.specs.world.World.{fs_at, World, Frame, Object, Holding, lowest_free}
-use Rattle.ix_model.specs.world.Naming.{same_names, last_name}
-use Rattle.ix_model.specs.rows.Walks.{nothing, node}
-use Rattle.ix_model.specs.world.Numbers.{first_inode, free_inode}
-use Rattle.ix_model.specs.opening.Opening.{process_of, directory_of, placed, with_object, with_objects}
-use Rattle.ix_model.specs.opening.Valid.{fs_of, is_mount, object_fits, objects_fit}
-use Rattle.ix_model.specs.declared.config.Config.{Config}
-use Rattle.ix_model.specs.declared.config.ObjSpec.{ObjSpec}
-use Rattle.ix_model.proofs.tables.Inodes.{first_within, free_is}
-use Rattle.ix_model.proofs.opening.Leading.{directory_is}
-use Rattle.ix_model.proofs.opening.Lines.{parent_of, line_is, fs_of_child}
-use Rattle.ix_model.proofs.opening.Placing.{Place, with_one}
-use Rattle.ix_model.proofs.opening.Built.{Built}
-use Rattle.ix_model.proofs.opening.NamesPlaced.{named_after}
-use Rattle.ix_model.proofs.opening.WaysPlaced.{name_is_new, ways_after}
-use Rattle.ix_model.proofs.opening.HeldPlaced.{held_after}
-use Rattle.ix_model.proofs.opening.CountsPlaced.{holding_for, fits_after, counted_after}
+use Rattle.std.proofs.Common.{◌≡◌, ◌<◌, ◌≤◌, ◌+◌, ℕ, true, List, [], ◌∷◌, ◌++◌, length, map, replicate, take, drop, Option, Some, None, option_map, unwrap_or}
+use Rattle.std.proofs.Common.{set, refl, sym, ap, ◌∙◌, subst, arith, append_assoc, append-nil}
+use Rattle.std.{specs.{Option.option_map_or, List.list_any}, proofs.lemmas.Bool.{and_parts, or_parts}}
+use Rattle.ix_model.specs.{world.World.{fs_at, World, Frame, Object, Holding, lowest_free}, world.Naming.{same_names, last_name}, rows.Walks.{nothing, node}}
+use Rattle.ix_model.specs.{world.Numbers.{first_inode, free_inode}, opening.Opening.{process_of, directory_of, placed, with_object, with_objects}}
+use Rattle.ix_model.specs.{opening.Valid.{fs_of, is_mount, object_fits, objects_fit}, declared.config.{Config.Config, ObjSpec.ObjSpec}}
+use Rattle.ix_model.proofs.{tables.Inodes.{first_within, free_is}, opening.Leading.directory_is, opening.Lines.{parent_of, line_is, fs_of_child}}
+use Rattle.ix_model.proofs.{opening.Placing.{Place, with_one}, opening.Built.Built, opening.NamesPlaced.named_after, opening.HeldPlaced.held_after}
+use Rattle.ix_model.proofs.{opening.WaysPlaced.{name_is_new, ways_after}, opening.CountsPlaced.{holding_for, fits_after, counted_after}}
 
 -- the config's world with these objects, which hold these
 abbrev pub world_with : Config → List (Option Object) → List Holding → World

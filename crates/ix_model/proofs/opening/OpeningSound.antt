@@ -1,24 +1,14 @@
 -- A world that a valid config's lines have made is sound.
-use Rattle.std.proofs.Common.{◌≡◌, ◌<◌, ◌≤◌, ◌+◌, ℕ, zero, suc, true, false, true≢false, List, [], ◌∷◌, length, map, Option, Some, None, is_some, is_none, cond, refl, sym, ap, ◌∙◌, subst, arith}
-use Rattle.std.specs.Option.{option_map_or}
-use Rattle.std.specs.List.{list_all}
-use Rattle.std.proofs.lemmas.Bool.{and_parts, or_left, not_from_false, ne_eqb}
-use Rattle.std.proofs.lemmas.List.{length-replicate, length-map}
-use Rattle.std.proofs.lemmas.List.Sums.{sum_by-cons, count_by-le-length}
+use Rattle.std.proofs.Common.{◌≡◌, ◌<◌, ◌≤◌, ◌+◌, ℕ, zero, suc, true, false, true≢false, List, [], ◌∷◌, length, map, Option, Some, None, is_some, is_none, cond}
+use Rattle.std.proofs.Common.{refl, sym, ap, ◌∙◌, subst, arith}
+use Rattle.std.{specs.{Option.option_map_or, List.list_all}, proofs.lemmas.Bool.{and_parts, or_left, not_from_false, ne_eqb}}
+use Rattle.std.{proofs.lemmas.List.{length-replicate, length-map}, proofs.lemmas.List.Sums.{sum_by-cons, count_by-le-length}}
 use Rattle.ix_label.specs.Category.{leq}
-use Rattle.ix_model.specs.world.World.{fs_at, World, Object, Process, Open, Holding, at, is_dir, no_claims}
-use Rattle.ix_model.specs.world.Numbers.{first_inode}
-use Rattle.ix_model.specs.opening.Opening.{process_of}
-use Rattle.ix_model.specs.world.Owners.{times_named}
-use Rattle.ix_model.specs.laws.Sound.{LabelsBelow, NamesSound, LivesSound, OpensSound, ProcessesSound, ClaimsSound, WithinLimits, LengthsSound, ShapesSound, Sound}
-use Rattle.ix_model.specs.laws.Clean.{IsClean}
-use Rattle.ix_model.specs.declared.config.Config.{Config}
-use Rattle.ix_model.specs.declared.config.ProcSpec.{ProcSpec}
-use Rattle.ix_model.specs.declared.config.ObjSpec.{ObjSpec}
-use Rattle.ix_model.proofs.opening.Openings.{all_one}
-use Rattle.ix_model.proofs.words.Living.{is_living}
-use Rattle.ix_model.proofs.opening.Built.{Built}
-use Rattle.ix_model.proofs.opening.OpenedWorlds.{world_with}
+use Rattle.ix_model.specs.world.{World.{fs_at, World, Object, Process, Open, Holding, at, is_dir, no_claims}, Numbers.first_inode, Owners.times_named}
+use Rattle.ix_model.specs.{opening.Opening.process_of, laws.Clean.IsClean, declared.config.{Config.Config, ProcSpec.ProcSpec, ObjSpec.ObjSpec}}
+use Rattle.ix_model.specs.laws.Sound.{LabelsBelow, NamesSound, LivesSound, OpensSound, ProcessesSound, ClaimsSound, WithinLimits, LengthsSound, ShapesSound}
+use Rattle.ix_model.specs.laws.Sound.{Sound}
+use Rattle.ix_model.proofs.{opening.{Openings.all_one, Built.Built, OpenedWorlds.world_with}, words.Living.is_living}
 
 none_some : {A : Type 0} (X : Type 0) (o : Option A) (x : A) → o ≡ None → o ≡ Some x → X
 none_some X o x none some = let e : None ≡ Some x = sym none ∙ some in cc

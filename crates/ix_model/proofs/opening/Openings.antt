@@ -1,18 +1,11 @@
 -- The opening world is clean.
-use Rattle.std.proofs.Common.{◌≡◌, ◌<◌, ◌+◌, ℕ, zero, suc, false, List, [], ◌∷◌, length, take, drop, replicate, Option, Some, None, is_some, is_none}
-use Rattle.std.proofs.Common.{option_map, refl, sym, ap, ◌∙◌, arith, get_or, unwrap_or, true≢false, inl, inr}
-use Rattle.std.specs.Option.{option_map_or}
-use Rattle.std.proofs.lemmas.Bool.Decides.{eqb_tells}
+use Rattle.std.proofs.Common.{◌≡◌, ◌<◌, ◌+◌, ℕ, zero, suc, false, List, [], ◌∷◌, length, take, drop, replicate, Option, Some, None, is_some, is_none, refl, sym}
+use Rattle.std.proofs.Common.{option_map, ap, ◌∙◌, arith, get_or, unwrap_or, true≢false, inl, inr}
+use Rattle.std.{specs.Option.option_map_or, proofs.lemmas.Bool.Decides.eqb_tells, proofs.lemmas.List.Quantifiers.position-Some}
 use Rattle.std.proofs.lemmas.List.{get_or-set_other, get_or-set_same, length-replicate, length-map, length-take, length-drop}
-use Rattle.std.proofs.lemmas.List.Quantifiers.{position-Some}
-use Rattle.ix_model.specs.world.World.{fs_at, World, Frame, at, put, lowest_free}
-use Rattle.ix_model.specs.rows.Walks.{node}
-use Rattle.ix_model.specs.laws.Clean.{IsClean}
-use Rattle.ix_model.specs.world.Contents.{holds_nothing}
-use Rattle.ix_model.specs.world.Numbers.{first_inode, free_inode}
+use Rattle.ix_model.specs.world.{World.{fs_at, World, Frame, at, put, lowest_free}, Contents.holds_nothing, Numbers.{first_inode, free_inode}}
+use Rattle.ix_model.specs.{rows.Walks.node, laws.Clean.IsClean, declared.config.{Config.Config, ObjSpec.ObjSpec}}
 use Rattle.ix_model.specs.opening.Opening.{bare_objects, bare_world, directory_of, process_of, object_of, placed, with_object, with_objects, opening_world}
-use Rattle.ix_model.specs.declared.config.Config.{Config}
-use Rattle.ix_model.specs.declared.config.ObjSpec.{ObjSpec}
 use Rattle.ix_model.proofs.tables.Tables.{seen_changed}
 
 -- what is read of a list of one value

@@ -1,15 +1,9 @@
 -- A table of objects with one more, under a name in a directory.
-use Rattle.std.proofs.Common.{◌≡◌, ◌≢◌, ◌<◌, ◌+◌, ◌==◌, ℕ, zero, suc, List, [], ◌∷◌, ◌++◌, length, map, sum, count_by, cond, Option, Some, None}
-use Rattle.std.proofs.Common.{option_map, refl, sym, ap, ◌∙◌, subst, arith, length-set, inl, inr}
-use Rattle.std.specs.Option.{option_map_or}
-use Rattle.std.specs.List.{sum_by}
-use Rattle.std.proofs.lemmas.Bool.Decides.{eqb_tells}
-use Rattle.std.proofs.lemmas.List.{get_or-set_same, get_or-set_other, length-append}
-use Rattle.std.proofs.lemmas.List.Sums.{sum-map, sum_by-set, sum_by_push}
-use Rattle.ix_model.specs.world.World.{Object, at, put, change}
-use Rattle.ix_model.specs.opening.Opening.{object_of}
-use Rattle.ix_model.specs.world.Naming.{last_name}
-use Rattle.ix_model.specs.world.Owners.{times_in, times_named, names_in_all}
+use Rattle.std.proofs.Common.{◌≡◌, ◌≢◌, ◌<◌, ◌+◌, ◌==◌, ℕ, zero, suc, List, [], ◌∷◌, ◌++◌, length, map, sum, count_by, cond, Option, Some, None, option_map, ap}
+use Rattle.std.proofs.Common.{refl, sym, ◌∙◌, subst, arith, length-set, inl, inr}
+use Rattle.std.specs.{Option.option_map_or, List.sum_by}
+use Rattle.std.proofs.lemmas.{Bool.Decides.eqb_tells, List.{get_or-set_same, get_or-set_other, length-append, Sums.{sum-map, sum_by-set, sum_by_push}}}
+use Rattle.ix_model.specs.{world.{World.{Object, at, put, change}, Naming.last_name, Owners.{times_in, times_named, names_in_all}}, opening.Opening.object_of}
 use Rattle.ix_model.specs.declared.config.ObjSpec.{ObjSpec}
 use Rattle.ix_model.proofs.tables.Tables.{seen_changed, at_changed}
 

@@ -1,13 +1,8 @@
 -- What a valid config's parts say.
-use Rattle.std.proofs.Common.{◌≡◌, ◌<◌, ◌≤◌, true, ◌&&◌, List, [], length, map, nat_le}
-use Rattle.std.specs.List.{list_all}
-use Rattle.std.proofs.lemmas.Bool.{and_parts, leb-true}
+use Rattle.std.{proofs.{Common.{◌≡◌, ◌<◌, ◌≤◌, true, ◌&&◌, List, [], length, map, nat_le}, lemmas.Bool.{and_parts, leb-true}}, specs.List.list_all}
 use Rattle.ix_label.specs.Category.{leq}
 use Rattle.ix_model.specs.opening.Valid.{is_within, all_differ, fs_fits, fss_fit, limits_fit, procs_fit, objects_fit, is_valid}
-use Rattle.ix_model.specs.declared.config.Config.{Config}
-use Rattle.ix_model.specs.declared.config.FsSpec.{FsSpec}
-use Rattle.ix_model.specs.declared.config.Limits.{Limits}
-use Rattle.ix_model.specs.declared.config.ProcSpec.{ProcSpec}
+use Rattle.ix_model.specs.declared.config.{Config.Config, FsSpec.FsSpec, Limits.Limits, ProcSpec.ProcSpec}
 
 pub record FssFit (fss : List FsSpec) : Type 0 where
   pub some : 0 < length fss

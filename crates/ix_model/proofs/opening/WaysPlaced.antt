@@ -1,23 +1,13 @@
 -- One object more leaves paths leading where they led, and its own to it.
-use Rattle.std.proofs.Common.{◌≡◌, ◌==◌, ℕ, Bool, true, false, true≢false, ◌||◌, List, [], ◌∷◌, ◌++◌, find, if◌then◌else◌, Option, Some, None, option_map, unwrap_or, refl, sym, ap, ◌∙◌, inl, inr}
-use Rattle.std.specs.Option.{option_or}
-use Rattle.std.specs.List.{list_any}
-use Rattle.std.proofs.lemmas.Bool.{or_parts, or_cases, eq-eqb, cond-true, cond-false}
-use Rattle.std.proofs.lemmas.Bool.Decides.{eqb_tells}
-use Rattle.std.proofs.lemmas.List.Folds.{list_any-append, find-append}
-use Rattle.ix_model.specs.world.Naming.{same_bytes, last_name}
-use Rattle.ix_model.specs.world.World.{Object, at, is_dir}
-use Rattle.ix_model.specs.rows.Walks.{nothing, node, child}
-use Rattle.ix_model.specs.opening.Opening.{object_of}
-use Rattle.ix_model.specs.opening.Valid.{fs_of, is_taken, has_directory}
-use Rattle.ix_model.specs.declared.config.FsSpec.{FsSpec}
-use Rattle.ix_model.specs.declared.config.Limits.{Limits}
-use Rattle.ix_model.specs.declared.config.ObjSpec.{ObjSpec}
+use Rattle.std.proofs.Common.{◌≡◌, ◌==◌, ℕ, Bool, true, false, true≢false, ◌||◌, List, [], ◌∷◌, ◌++◌, find, if◌then◌else◌, Option, Some, None, option_map, refl}
+use Rattle.std.proofs.Common.{unwrap_or, sym, ap, ◌∙◌, inl, inr}
+use Rattle.std.specs.{Option.option_or, List.list_any}
+use Rattle.std.proofs.lemmas.{Bool.{or_parts, or_cases, eq-eqb, cond-true, cond-false, Decides.eqb_tells}, List.Folds.{list_any-append, find-append}}
+use Rattle.ix_model.specs.{world.{Naming.{same_bytes, last_name}, World.{Object, at, is_dir}}, rows.Walks.{nothing, node, child}}
+use Rattle.ix_model.specs.{opening.{Opening.object_of, Valid.{fs_of, is_taken, has_directory}}, declared.config.{FsSpec.FsSpec, Limits.Limits, ObjSpec.ObjSpec}}
 use Rattle.ix_model.specs.declared.reply.Kind.TheVariants as kind
-use Rattle.ix_model.proofs.tables.Alike.{bytes_are, bytes_itself}
-use Rattle.ix_model.proofs.opening.Leading.{lead, lead_on, lead_kept}
+use Rattle.ix_model.proofs.{tables.Alike.{bytes_are, bytes_itself}, opening.Leading.{lead, lead_on, lead_kept}, opening.Built.{DirAt, Ways}}
 use Rattle.ix_model.proofs.opening.Lines.{parent_of, Line, still_there, now_there, dir_there}
-use Rattle.ix_model.proofs.opening.Built.{DirAt, Ways}
 use Rattle.ix_model.proofs.opening.Placing.{Place, naming, with_one, not_new, at_new, at_dir, at_rest, each_after}
 
 -- ---- what is found under a name, in a list with one name more

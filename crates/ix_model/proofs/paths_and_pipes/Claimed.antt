@@ -1,29 +1,15 @@
 -- What is read from a path that has been whole since a call made it so.
-use Rattle.std.specs.Option.{option_map_or}
-use Rattle.std.proofs.Common.{◌≡◌, ◌≤◌, ◌-◌, ◌==◌, ℕ, zero, suc, Bool, true, false, true≢false, not, ◌&&◌, ◌||◌, List, [], ◌∷◌, ◌++◌, take, drop}
-use Rattle.std.proofs.Common.{Option, Some, None, is_some, refl, sym, ap, ◌∙◌, subst, arith, inl, inr, if◌then◌else◌}
-use Rattle.std.proofs.lemmas.Bool.{and_parts, or_cases, eqb-true}
-use Rattle.std.proofs.lemmas.List.{take-append-drop}
-use Rattle.ix_model.specs.world.World.{World, Frame, Object, at, is_pipe, claimed_by_another, claimed_by}
-use Rattle.ix_model.specs.world.Numbers.{first_pipe}
-use Rattle.ix_model.specs.rows.Walks.{OpenFile, behind}
-use Rattle.ix_model.specs.world.Contents.{holding_of, side, on_pipe, readable, offset_of}
-use Rattle.ix_model.specs.rows.Telling.{told}
-use Rattle.ix_model.specs.rows.Table.{verdict}
-use Rattle.ix_model.specs.history.Step.{plainly, read_answer, answer, step, step_of, run, is_whole}
-use Rattle.ix_model.specs.laws.Sound.{ShapesSound, Sound}
-use Rattle.ix_model.specs.laws.WholePaths.{reaches, sent, written_to, IsEndOf}
+use Rattle.std.{specs.Option.option_map_or, proofs.lemmas.{Bool.{and_parts, or_cases, eqb-true}, List.take-append-drop}}
+use Rattle.std.proofs.Common.{◌≡◌, ◌≤◌, ◌-◌, ◌==◌, ℕ, zero, suc, Bool, true, false, true≢false, not, ◌&&◌, ◌||◌, List, [], ◌∷◌, ◌++◌, take, drop, Option, Some}
+use Rattle.std.proofs.Common.{None, is_some, refl, sym, ap, ◌∙◌, subst, arith, inl, inr, if◌then◌else◌}
+use Rattle.ix_model.specs.{world.World.{World, Frame, Object, at, is_pipe, claimed_by_another, claimed_by}, world.Numbers.first_pipe}
+use Rattle.ix_model.specs.{world.Contents.{holding_of, side, on_pipe, readable, offset_of}, rows.{Walks.{OpenFile, behind}, Telling.told, Table.verdict}}
+use Rattle.ix_model.specs.{history.{Step.{plainly, read_answer, answer, step, step_of, run, is_whole}, Events.{Op, Event}}, laws.Sound.{ShapesSound, Sound}}
+use Rattle.ix_model.specs.{laws.WholePaths.{reaches, sent, written_to, IsEndOf}, declared.{reply.Reply.Reply, refusal.Refusal.Refusal}}
 use Rattle.ix_model.specs.laws.ClaimedPaths.{stays_whole, claims_its_end, sent_by_claimant, written_by_claimants, IsInside}
-use Rattle.ix_model.specs.history.Events.{Op, Event}
 use Rattle.ix_model.specs.history.Events as op
-use Rattle.ix_model.specs.declared.reply.Reply.{Reply}
 use Rattle.ix_model.specs.declared.reply.Reply.TheVariants as reply
-use Rattle.ix_model.specs.declared.refusal.Refusal.{Refusal}
-use Rattle.ix_model.proofs.words.Standing.{behind_is}
-use Rattle.ix_model.proofs.sound.Soundly.{sound_step}
-use Rattle.ix_model.proofs.paths_and_pipes.Wholes.{becomes_empty}
-use Rattle.ix_model.proofs.paths_and_pipes.Written.{holds_written}
-use Rattle.ix_model.proofs.paths_and_pipes.Stopping.{stops}
+use Rattle.ix_model.proofs.{words.Standing.behind_is, sound.Soundly.sound_step, paths_and_pipes.{Wholes.becomes_empty, Written.holds_written, Stopping.stops}}
 
 -- ---- lists
 inside_end : (part end whole : List ℕ) (n : ℕ) → part ≡ take n end → IsEndOf end whole → IsInside part whole

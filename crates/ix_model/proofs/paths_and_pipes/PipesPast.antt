@@ -1,24 +1,13 @@
 -- Past the inodes of all file systems nothing but pipes is ever made.
-use Rattle.std.proofs.Common.{◌≡◌, ◌≢◌, ◌≤◌, ◌+◌, ℕ, zero, suc, Bool, true, false, not, List, [], ◌∷◌, length, map, sum, take, Option, Some, None, is_none, refl, sym, ap, ◌∙◌, arith}
-use Rattle.std.specs.Option.{option_map_or}
-use Rattle.std.proofs.lemmas.List.{get_or-set_other}
-use Rattle.std.proofs.lemmas.List.Sums.{sum_by-cons, sum-map}
-use Rattle.ix_model.specs.world.World.{fs_at, World, Frame, Object, at, put, change, is_pipe}
-use Rattle.ix_model.specs.world.Numbers.{first_inode, first_pipe, free_inode}
-use Rattle.ix_model.specs.rows.Rows.{change_object, change_process, put_object, put_open, put_process, add_process, change_open}
-use Rattle.ix_model.specs.rows.Auditing.{logged}
-use Rattle.ix_model.specs.rows.OnProcesses.{end_process}
-use Rattle.ix_model.specs.rows.Telling.{told}
-use Rattle.ix_model.specs.history.Step.{step}
-use Rattle.ix_model.specs.laws.Sound.{WithinLimits}
-use Rattle.ix_model.specs.history.Events.{Op}
+use Rattle.std.proofs.Common.{◌≡◌, ◌≢◌, ◌≤◌, ◌+◌, ℕ, zero, suc, Bool, true, false, not, List, [], ◌∷◌, length, map, sum, take, Option, Some, None, is_none, sym}
+use Rattle.std.proofs.Common.{refl, ap, ◌∙◌, arith}
+use Rattle.std.{specs.Option.option_map_or, proofs.lemmas.List.{get_or-set_other, Sums.{sum_by-cons, sum-map}}}
+use Rattle.ix_model.specs.world.{World.{fs_at, World, Frame, Object, at, put, change, is_pipe}, Numbers.{first_inode, first_pipe, free_inode}}
+use Rattle.ix_model.specs.{rows.Rows.{change_object, change_process, put_object, put_open, put_process, add_process, change_open}, rows.Auditing.logged}
+use Rattle.ix_model.specs.{rows.OnProcesses.end_process, rows.Telling.told, history.{Step.step, Events.Op}, laws.Sound.WithinLimits}
 use Rattle.ix_model.specs.declared.config.FsSpec.{FsSpec}
-use Rattle.ix_model.proofs.tables.Tables.{seen_changed, seen_put}
-use Rattle.ix_model.proofs.words.Keeps.{Holds}
-use Rattle.ix_model.proofs.tables.FreeNumbers.{free_inode_is}
-use Rattle.ix_model.proofs.words.Lasts.{decided}
-use Rattle.ix_model.proofs.words.Rowwise.{Words, all, bears_all, changes_of, kept_row}
-use Rattle.ix_model.proofs.words.Answered.{step_frame}
+use Rattle.ix_model.proofs.tables.{Tables.{seen_changed, seen_put}, FreeNumbers.free_inode_is}
+use Rattle.ix_model.proofs.words.{Keeps.Holds, Lasts.decided, Rowwise.{Words, all, bears_all, changes_of, kept_row}, Answered.step_frame}
 
 -- the inodes of one file system more
 one_more : (s : FsSpec) (fss : List FsSpec) → sum (map (λ x. x.inodes) (s ∷ fss)) ≡ s.inodes + sum (map (λ x. x.inodes) fss)

@@ -1,24 +1,16 @@
 -- Nobody but the claimant gets through a claimed end.
 use Rattle.std.specs.Option.{option_map_or}
 use Rattle.std.proofs.Common.{◌≡◌, ℕ, Bool, true, false, true≢false, not, List, [], Option, Some, None, refl, sym, ap, ◌∙◌, if◌then◌else◌}
-use Rattle.ix_model.specs.rows.Refusals.{keeps_label}
+use Rattle.ix_model.specs.{rows.Refusals.keeps_label, rows.Outcomes.{Outcome, Refuse, Pass}, rows.Walks.{OpenFile, behind, behind_of, opened}}
+use Rattle.ix_model.specs.{rows.Rows.{◌>>=◌, on_pass, pass, refuse, need, some, frame, object}, rows.OnDescriptors.{LengthChecks, read_fd, write_fd, pex}}
+use Rattle.ix_model.specs.{rows.Table.{row, settled, verdict}, rows.Telling.told, laws.ClaimedPaths.{Stopped, NotThrough}}
+use Rattle.ix_model.specs.history.{Step.{plainly, read_answer, write_answer, pex_answer, answer, step}, Events.Op}
+use Rattle.ix_model.specs.declared.{reply.Reply.Reply, refusal.Refusal.Refusal}
 use Rattle.ix_model.specs.world.World.{World, Frame, Object, Process, at, living, lives, is_pipe, may_read, may_write, claimed_by_another}
-use Rattle.ix_model.specs.rows.Outcomes.{Outcome, Refuse, Pass}
-use Rattle.ix_model.specs.rows.Rows.{◌>>=◌, on_pass, pass, refuse, need, some, frame, object}
-use Rattle.ix_model.specs.rows.Walks.{OpenFile, behind, behind_of, opened}
-use Rattle.ix_model.specs.rows.OnDescriptors.{LengthChecks, read_fd, write_fd, pex}
-use Rattle.ix_model.specs.rows.Table.{row, settled, verdict}
-use Rattle.ix_model.specs.rows.Telling.{told}
-use Rattle.ix_model.specs.history.Step.{plainly, read_answer, write_answer, pex_answer, answer, step}
-use Rattle.ix_model.specs.laws.ClaimedPaths.{Stopped, NotThrough}
-use Rattle.ix_model.specs.history.Events.{Op}
 use Rattle.ix_model.specs.history.Events as op
-use Rattle.ix_model.specs.declared.reply.Reply.{Reply}
 use Rattle.ix_model.specs.declared.reply.Reply.TheVariants as reply
-use Rattle.ix_model.specs.declared.refusal.Refusal.{Refusal}
 use Rattle.ix_model.specs.declared.refusal.Refusal.TheVariants as refusal
-use Rattle.ix_model.proofs.words.Ends.{Ends, ends_bind, ends_then}
-use Rattle.ix_model.proofs.refused.RefusedSteps.{refused_step}
+use Rattle.ix_model.proofs.{words.Ends.{Ends, ends_bind, ends_then}, refused.RefusedSteps.refused_step}
 
 -- ---- rows
 -- a test, with what is known where it fails

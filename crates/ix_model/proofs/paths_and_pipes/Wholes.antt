@@ -1,33 +1,16 @@
 -- A path becomes whole by a claim alone, which empties it.
-use Rattle.std.proofs.Common.{◌≡◌, ℕ, zero, suc, Bool, true, false, not, ◌&&◌, List, [], ◌∷◌, Option, Some, None, is_some, refl, sym, ap, ◌∙◌, true≢false, get_or, set, inl, inr}
-use Rattle.std.specs.Option.{option_map_or}
-use Rattle.std.specs.List.{list_all}
-use Rattle.std.proofs.lemmas.Bool.{and_parts}
-use Rattle.std.proofs.lemmas.Bool.Decides.{eqb_tells}
-use Rattle.std.proofs.lemmas.List.{get_or-set_other}
-use Rattle.ix_model.specs.world.World.{World, Frame, Object, Holding, at, put, change}
-use Rattle.ix_model.specs.rows.Rows.{change_object, change_process, put_object, put_open, put_process, add_process, change_open}
-use Rattle.ix_model.specs.rows.Walks.{OpenFile, behind}
-use Rattle.ix_model.specs.rows.Auditing.{logged}
-use Rattle.ix_model.specs.world.Contents.{carried, emptied, holding_of, holds_nothing}
-use Rattle.ix_model.specs.rows.OnDescriptors.{LengthChecks, claimed, pex}
-use Rattle.ix_model.specs.rows.OnProcesses.{end_process}
-use Rattle.ix_model.specs.rows.Table.{row, verdict}
-use Rattle.ix_model.specs.rows.Telling.{told}
-use Rattle.ix_model.specs.history.AuditLog.{is_answer}
-use Rattle.ix_model.specs.history.Step.{pex_answer, answer, step, is_whole}
-use Rattle.ix_model.specs.history.Events.{Op}
+use Rattle.std.proofs.Common.{◌≡◌, ℕ, zero, suc, Bool, true, false, not, ◌&&◌, List, [], ◌∷◌, Option, Some, None, is_some, refl, sym, ap, ◌∙◌, true≢false, set}
+use Rattle.std.proofs.Common.{get_or, inl, inr}
+use Rattle.std.{specs.{Option.option_map_or, List.list_all}, proofs.lemmas.{Bool.{and_parts, Decides.eqb_tells}, List.get_or-set_other}}
+use Rattle.ix_model.specs.world.{World.{World, Frame, Object, Holding, at, put, change}, Contents.{carried, emptied, holding_of, holds_nothing}}
+use Rattle.ix_model.specs.{rows.Rows.{change_object, change_process, put_object, put_open, put_process, add_process, change_open}, rows.Auditing.logged}
+use Rattle.ix_model.specs.{rows.Walks.{OpenFile, behind}, rows.OnDescriptors.{LengthChecks, claimed, pex}, rows.OnProcesses.end_process, rows.Telling.told}
+use Rattle.ix_model.specs.{rows.Table.{row, verdict}, history.{AuditLog.is_answer, Step.{pex_answer, answer, step, is_whole}, Events.Op}}
+use Rattle.ix_model.specs.declared.{reply.Reply.Reply, refusal.Refusal.Refusal}
 use Rattle.ix_model.specs.history.Events as op
-use Rattle.ix_model.specs.declared.reply.Reply.{Reply}
 use Rattle.ix_model.specs.declared.reply.Reply.TheVariants as reply
-use Rattle.ix_model.specs.declared.refusal.Refusal.{Refusal}
-use Rattle.ix_model.proofs.words.Keeps.{Holds}
-use Rattle.ix_model.proofs.words.Ends.{Ends, Anything}
-use Rattle.ix_model.proofs.words.RowEnds.{endings}
-use Rattle.ix_model.proofs.words.Lasts.{decided}
-use Rattle.ix_model.proofs.words.Rowwise.{Change, Claiming, Words, changes_of, kept_row}
-use Rattle.ix_model.proofs.refused.Refusing.{decided_frames}
-use Rattle.ix_model.proofs.words.Answered.{step_frame, passed}
+use Rattle.ix_model.proofs.{words.Keeps.Holds, words.Ends.{Ends, Anything}, words.RowEnds.endings, words.Lasts.decided, words.Answered.{step_frame, passed}}
+use Rattle.ix_model.proofs.{words.Rowwise.{Change, Claiming, Words, changes_of, kept_row}, refused.Refusing.decided_frames}
 
 -- ---- tables
 -- what a test shows after a change, it showed before, where no change brings it about

@@ -1,28 +1,17 @@
 -- What a pipe holds was written in it.
-use Rattle.std.proofs.Common.{◌≡◌, ◌≢◌, ◌≤◌, ◌+◌, ◌-◌, ◌==◌, ℕ, zero, suc, Bool, true, false, not, ◌&&◌, List, [], ◌∷◌, ◌++◌, length, take, drop}
-use Rattle.std.proofs.Common.{Option, Some, None, is_some, refl, sym, ap, ◌∙◌, subst, arith, append-nil, append_assoc, true≢false, get_or, set}
-use Rattle.std.proofs.Common.{if◌then◌else◌, inl, inr}
-use Rattle.std.specs.Option.{option_map_or}
-use Rattle.std.proofs.lemmas.Bool.{ne_eqb, eq-eqb}
-use Rattle.std.proofs.lemmas.Bool.Decides.{eqb_tells}
-use Rattle.std.proofs.lemmas.List.{get_or-set_other, take-append-drop}
-use Rattle.ix_model.specs.world.World.{World, Frame, Content, Object, Holding, at, is_ended, is_pipe}
-use Rattle.ix_model.specs.rows.Walks.{OpenFile, behind}
-use Rattle.ix_model.specs.world.Numbers.{first_pipe}
-use Rattle.ix_model.specs.world.Contents.{carried, holding_of, offset_of, holds_nothing, side, with_side, on_pipe, spliced, after_read, after_write, after_cut, after_seek, after_exit, emptied}
-use Rattle.ix_model.specs.rows.OnDescriptors.{LengthChecks}
-use Rattle.ix_model.specs.rows.Table.{verdict}
-use Rattle.ix_model.specs.rows.Telling.{told}
-use Rattle.ix_model.specs.history.Step.{plainly, read_answer, write_answer, cut_answer, seek_answer, exit_answer, pex_answer, answer, step, step_of, run, is_whole}
-use Rattle.ix_model.specs.laws.WholePaths.{reaches, sent, written_to, IsEndOf}
-use Rattle.ix_model.specs.laws.Sound.{Sound}
-use Rattle.ix_model.specs.history.Events.{Op, Event}
+use Rattle.std.proofs.Common.{◌≡◌, ◌≢◌, ◌≤◌, ◌+◌, ◌-◌, ◌==◌, ℕ, zero, suc, Bool, true, false, not, ◌&&◌, List, [], ◌∷◌, ◌++◌, length, take, drop, Option, Some}
+use Rattle.std.proofs.Common.{None, is_some, refl, sym, ap, ◌∙◌, subst, arith, append-nil, append_assoc, true≢false, get_or, set, if◌then◌else◌, inl, inr}
+use Rattle.std.{specs.Option.option_map_or, proofs.lemmas.{Bool.{ne_eqb, eq-eqb, Decides.eqb_tells}, List.{get_or-set_other, take-append-drop}}}
+use Rattle.ix_model.specs.{world.{World.{World, Frame, Content, Object, Holding, at, is_ended, is_pipe}, Numbers.first_pipe}, history.Events.{Op, Event}}
+use Rattle.ix_model.specs.{rows.{Walks.{OpenFile, behind}, OnDescriptors.LengthChecks, Table.verdict, Telling.told}, declared.reply.Reply.Reply}
+use Rattle.ix_model.specs.laws.{WholePaths.{reaches, sent, written_to, IsEndOf}, Sound.Sound}
+use Rattle.ix_model.specs.world.Contents.{carried, holding_of, offset_of, holds_nothing, side, with_side, on_pipe, spliced, after_read, after_write, after_cut}
+use Rattle.ix_model.specs.world.Contents.{after_seek, after_exit, emptied}
+use Rattle.ix_model.specs.history.Step.{plainly, read_answer, write_answer, cut_answer, seek_answer, exit_answer, pex_answer, answer, step, step_of, run}
+use Rattle.ix_model.specs.history.Step.{is_whole}
 use Rattle.ix_model.specs.history.Events as op
-use Rattle.ix_model.specs.declared.reply.Reply.{Reply}
 use Rattle.ix_model.specs.declared.reply.Reply.TheVariants as reply
-use Rattle.ix_model.proofs.clean.Carrying.{get_or-keep}
-use Rattle.ix_model.proofs.clean.Cleaning.{wrote, was_cut}
-use Rattle.ix_model.proofs.words.Answered.{world_stat, world_wait}
+use Rattle.ix_model.proofs.{clean.{Carrying.get_or-keep, Cleaning.{wrote, was_cut}}, words.Answered.{world_stat, world_wait}}
 use Rattle.ix_model.proofs.paths_and_pipes.PipesPast.{PipesPast, is_other, pipes_past, past_step, past_next}
 
 -- ---- ends of lists

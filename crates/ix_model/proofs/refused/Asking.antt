@@ -1,29 +1,17 @@
 -- In a sound world each word asks for what stands: the refusals for want of it come from the two tests that are meant.
-use Rattle.std.proofs.Common.{◌≡◌, ◌-◌, ℕ, Bool, true, false, not, ◌&&◌, List, Option, Some, None, is_some, option_map, refl, sym, ap, ◌∙◌, subst, inl, inr, if◌then◌else◌}
-use Rattle.std.specs.Option.{option_map_or}
-use Rattle.std.specs.List.{list_any}
+use Rattle.std.proofs.Common.{◌≡◌, ◌-◌, ℕ, Bool, true, false, not, ◌&&◌, List, Option, Some, None, is_some, option_map, refl, sym, ap, ◌∙◌, subst, inl, inr}
+use Rattle.std.proofs.Common.{if◌then◌else◌}
+use Rattle.std.specs.{Option.option_map_or, List.list_any}
 use Rattle.ix_label.specs.Category.{Categories, leq}
-use Rattle.ix_model.specs.world.Naming.{PathOf}
-use Rattle.ix_model.specs.world.World.{Frame, Object, Process, at, put, change, living, lives, is_on}
-use Rattle.ix_model.specs.rows.Rows.{need, process, object, record_of, observe, affect}
-use Rattle.ix_model.specs.rows.Walks.{Sought, OpenFile, behind, behind_of, entry_at, walk, walk_from, join_all, walked_to, opened}
+use Rattle.ix_model.specs.world.{Naming.PathOf, World.{Frame, Object, Process, at, put, change, living, lives, is_on}, Privs.to_lower}
+use Rattle.ix_model.specs.{rows.Rows.{need, process, object, record_of, observe, affect}, rows.Auditing.{exercise, entitled, log_has_room}}
+use Rattle.ix_model.specs.{rows.Walks.{Sought, OpenFile, behind, behind_of, entry_at, walk, walk_from, join_all, walked_to, opened}, rows.OnDescriptors.claimed}
+use Rattle.ix_model.specs.{rows.OnLabels.{allowed, movable}, laws.CallLaws.has_descriptor}
+use Rattle.ix_model.specs.declared.{privs.PrivSet.PrivSet, reply.Reply.Reply, refusal.Refusal.Refusal}
 use Rattle.ix_model.specs.rows.Walks as sought
-use Rattle.ix_model.specs.rows.Auditing.{exercise, entitled, log_has_room}
-use Rattle.ix_model.specs.rows.OnDescriptors.{claimed}
-use Rattle.ix_model.specs.rows.OnLabels.{allowed, movable}
-use Rattle.ix_model.specs.world.Privs.{to_lower}
-use Rattle.ix_model.specs.laws.CallLaws.{has_descriptor}
-use Rattle.ix_model.specs.declared.privs.PrivSet.{PrivSet}
-use Rattle.ix_model.specs.declared.reply.Reply.{Reply}
-use Rattle.ix_model.specs.declared.refusal.Refusal.{Refusal}
 use Rattle.ix_model.specs.declared.refusal.Refusal.TheVariants as refusal
-use Rattle.ix_model.proofs.tables.Tables.{at_changed}
-use Rattle.ix_model.proofs.tables.Finds.{at_put}
-use Rattle.ix_model.proofs.words.Living.{is_living, not_ended, lives_as}
-use Rattle.ix_model.proofs.frames.Frames.{FrameSound}
-use Rattle.ix_model.proofs.words.There.{walk_there, start_there}
-use Rattle.ix_model.proofs.words.Walked.{Within, Leads, walks}
-use Rattle.ix_model.proofs.words.Standing.{behind_is, stands}
+use Rattle.ix_model.proofs.{tables.{Tables.at_changed, Finds.at_put}, words.Living.{is_living, not_ended, lives_as}, words.There.{walk_there, start_there}}
+use Rattle.ix_model.proofs.{words.Walked.{Within, Leads, walks}, words.Standing.{behind_is, stands}, frames.Frames.FrameSound}
 use Rattle.ix_model.proofs.refused.Refusing.{Relabelled, relabelled_more}
 use Rattle.ix_model.proofs.words.Ends.{Ends, ends_bind, ends_then, ends_pass, ends_frame, ends_only_if, ends_need, ends_change_caller, ends_change_object}
 

@@ -1,44 +1,28 @@
 -- In a sound world a row is refused for want of something only where the call names what isn't there.
-use Rattle.std.specs.Option.{option_map_or}
+use Rattle.std.{specs.Option.option_map_or, proofs.lemmas.List.Quantifiers.position-Some}
 use Rattle.std.proofs.Common.{◌≡◌, ◌&&◌, ℕ, Bool, true, false, not, true≢false, Option, Some, None, is_some, position, refl, sym, ap, ◌∙◌, subst, if◌then◌else◌}
-use Rattle.std.proofs.lemmas.List.Quantifiers.{position-Some}
 use Rattle.ix_label.specs.Category.{Categories}
-use Rattle.ix_model.specs.world.Naming.{PathOf}
-use Rattle.ix_model.specs.world.World.{Frame, World, Process, at, living, lives, is_ended}
-use Rattle.ix_model.specs.rows.Outcomes.{Outcome, Refuse, Pass}
-use Rattle.ix_model.specs.rows.Rows.{need, record_of}
-use Rattle.ix_model.specs.rows.Walks.{object_at, spot_at, missing}
+use Rattle.ix_model.specs.{world.{Naming.PathOf, World.{Frame, World, Process, at, living, lives, is_ended}}, rows.Outcomes.{Outcome, Refuse, Pass}}
+use Rattle.ix_model.specs.{rows.Rows.{need, record_of}, rows.Walks.{object_at, spot_at, missing}, rows.Table.{Decision, row, settled, verdict}}
+use Rattle.ix_model.specs.{rows.OnProcesses.{has_kept, is_child, fork, exec, exit, wait_child}, rows.Telling.told}
+use Rattle.ix_model.specs.history.{Step.step, AuditLog.is_answer, Events.Op}
+use Rattle.ix_model.specs.laws.{Sound.Sound, CallLaws.{lacks_descriptor, lacks_process, descriptor_of, process_named, has_descriptor}}
+use Rattle.ix_model.specs.declared.{call.{Keep.Keep, Mode.Mode}, privs.PrivSet.PrivSet, reply.{Kind.Kind, Reply.Reply}, refusal.Refusal.Refusal}
 use Rattle.ix_model.specs.rows.OnPaths.{make, create_at, make_dir, open_at, link_at, unlink_at, remove_dir, change_dir, stat_at, list_at}
 use Rattle.ix_model.specs.rows.OnDescriptors.{LengthChecks, read_fd, write_fd, cut_fd, seek_fd, dup_fd, close_fd, make_pipe, pex, unpex}
-use Rattle.ix_model.specs.rows.OnProcesses.{has_kept, is_child, fork, exec, exit, wait_child}
-use Rattle.ix_model.specs.rows.OnLabels.{label_of, self_label, set_label, set_self, freeze, freeze_self, thaw, thaw_self, set_priv, drop_lic, grant_lic, set_ceiling, read_log}
-use Rattle.ix_model.specs.rows.Table.{Decision, row, settled, verdict}
-use Rattle.ix_model.specs.rows.Telling.{told}
-use Rattle.ix_model.specs.history.Step.{step}
-use Rattle.ix_model.specs.laws.Sound.{Sound}
-use Rattle.ix_model.specs.history.AuditLog.{is_answer}
-use Rattle.ix_model.specs.laws.CallLaws.{lacks_descriptor, lacks_process, descriptor_of, process_named, has_descriptor}
-use Rattle.ix_model.specs.history.Events.{Op}
+use Rattle.ix_model.specs.rows.OnLabels.{label_of, self_label, set_label, set_self, freeze, freeze_self, thaw, thaw_self, set_priv, drop_lic, grant_lic}
+use Rattle.ix_model.specs.rows.OnLabels.{set_ceiling, read_log}
 use Rattle.ix_model.specs.history.Events as op
-use Rattle.ix_model.specs.declared.call.Keep.{Keep}
 use Rattle.ix_model.specs.declared.call.Keep.TheVariants as keeping
-use Rattle.ix_model.specs.declared.call.Mode.{Mode}
-use Rattle.ix_model.specs.declared.privs.PrivSet.{PrivSet}
-use Rattle.ix_model.specs.declared.reply.Kind.{Kind}
 use Rattle.ix_model.specs.declared.reply.Kind.TheVariants as kind
-use Rattle.ix_model.specs.declared.reply.Reply.{Reply}
 use Rattle.ix_model.specs.declared.reply.Reply.TheVariants as reply
-use Rattle.ix_model.specs.declared.refusal.Refusal.{Refusal}
 use Rattle.ix_model.specs.declared.refusal.Refusal.TheVariants as refusal
-use Rattle.ix_model.proofs.frames.Frames.{FrameSound, frame_of}
-use Rattle.ix_model.proofs.refused.Refusing.{Relabelled, relabelled_itself, refusing_row, plain_answer, decided_frames}
-use Rattle.ix_model.proofs.words.Ends.{Ends, plain}
-use Rattle.ix_model.proofs.words.Ends.{ends_change_open}
-use Rattle.ix_model.proofs.words.Endings.{ends_put_object, ends_put_process, ends_add_process}
-use Rattle.ix_model.proofs.words.RowEnds.{ends_spot, ends_vacant, ends_end_process, ends_logged, ends_let_go_object, ends_let_go, ends_let_go_all}
+use Rattle.ix_model.proofs.{frames.Frames.{FrameSound, frame_of}, refused.Refusing.{Relabelled, relabelled_itself, refusing_row, plain_answer, decided_frames}}
+use Rattle.ix_model.proofs.{words.Ends.{Ends, plain, ends_change_open}, words.Endings.{ends_put_object, ends_put_process, ends_add_process}}
 use Rattle.ix_model.proofs.words.Looks.{ends_float_entry}
-use Rattle.ix_model.proofs.refused.Asking.{is_for_want, there_is, ask_caller, ask_object, ask_observe, ask_affect, ask_walk, ask_entitled, ask_room}
-use Rattle.ix_model.proofs.refused.Asking.{ask_exercise, ask_allowed, ask_movable, ask_opened, ask_target, ask_claimed}
+use Rattle.ix_model.proofs.words.RowEnds.{ends_spot, ends_vacant, ends_end_process, ends_logged, ends_let_go_object, ends_let_go, ends_let_go_all}
+use Rattle.ix_model.proofs.refused.Asking.{is_for_want, there_is, ask_caller, ask_object, ask_observe, ask_affect, ask_walk, ask_entitled, ask_room, ask_opened}
+use Rattle.ix_model.proofs.refused.Asking.{ask_exercise, ask_allowed, ask_movable, ask_target, ask_claimed}
 
 -- what a refusal for want of something says of what the call named
 abbrev Missing : Frame → ℕ → Option ℕ → Option ℕ → Refusal → Type 0

@@ -1,28 +1,19 @@
 -- A call that names what isn't there is refused so.
 use Rattle.std.specs.Option.{option_map_or}
 use Rattle.std.proofs.Common.{◌≡◌, ◌&&◌, ℕ, Bool, true, false, not, true≢false, Option, Some, None, is_some, refl, sym, ap, ◌∙◌, if◌then◌else◌}
-use Rattle.ix_model.specs.world.World.{Frame, World, Process, at, living, lives}
-use Rattle.ix_model.specs.rows.Rows.{◌>>=◌, on_pass, frame, some, refuse, process}
-use Rattle.ix_model.specs.rows.Walks.{OpenFile, behind, behind_of, entry_at, opened}
-use Rattle.ix_model.specs.rows.OnDescriptors.{LengthChecks, read_fd, write_fd, cut_fd, seek_fd, dup_fd, close_fd, pex, unpex}
-use Rattle.ix_model.specs.rows.OnProcesses.{fork}
-use Rattle.ix_model.specs.rows.OnLabels.{grant_lic, set_ceiling}
-use Rattle.ix_model.specs.rows.Table.{Decision, row, verdict}
-use Rattle.ix_model.specs.rows.Telling.{told}
-use Rattle.ix_model.specs.history.Step.{plainly, read_answer, write_answer, cut_answer, seek_answer, stat_answer, exit_answer, wait_answer, pex_answer, answer, step}
-use Rattle.ix_model.specs.laws.Sound.{Sound}
-use Rattle.ix_model.specs.laws.CallLaws.{NothingElseIsMissing, has_descriptor, descriptor_of, process_named, lacks_process}
-use Rattle.ix_model.specs.history.Events.{Op}
+use Rattle.ix_model.specs.{world.World.{Frame, World, Process, at, living, lives}, rows.Rows.{◌>>=◌, on_pass, frame, some, refuse, process}, rows.Telling.told}
+use Rattle.ix_model.specs.{rows.Walks.{OpenFile, behind, behind_of, entry_at, opened}, rows.OnProcesses.fork, rows.OnLabels.{grant_lic, set_ceiling}}
+use Rattle.ix_model.specs.{rows.OnDescriptors.{LengthChecks, read_fd, write_fd, cut_fd, seek_fd, dup_fd, close_fd, pex, unpex}, history.Events.Op}
+use Rattle.ix_model.specs.{rows.Table.{Decision, row, verdict}, declared.refusal.Refusal.Refusal}
+use Rattle.ix_model.specs.laws.{Sound.Sound, CallLaws.{NothingElseIsMissing, has_descriptor, descriptor_of, process_named, lacks_process}}
+use Rattle.ix_model.specs.history.Step.{plainly, read_answer, write_answer, cut_answer, seek_answer, stat_answer, exit_answer, wait_answer, pex_answer, answer}
+use Rattle.ix_model.specs.history.Step.{step}
 use Rattle.ix_model.specs.history.Events as op
 use Rattle.ix_model.specs.declared.call.Keep.TheVariants as keeping
 use Rattle.ix_model.specs.declared.reply.Reply.TheVariants as reply
-use Rattle.ix_model.specs.declared.refusal.Refusal.{Refusal}
 use Rattle.ix_model.specs.declared.refusal.Refusal.TheVariants as refusal
-use Rattle.ix_model.proofs.frames.Frames.{FrameSound, frame_of}
-use Rattle.ix_model.proofs.refused.Refusing.{relabelled_itself}
-use Rattle.ix_model.proofs.words.Ends.{Ends, ends_bind, ends_then}
-use Rattle.ix_model.proofs.refused.Asking.{ask_caller}
-use Rattle.ix_model.proofs.refused.AskingRows.{want_of_descriptor, want_of_process}
+use Rattle.ix_model.proofs.{frames.Frames.{FrameSound, frame_of}, words.Ends.{Ends, ends_bind, ends_then}}
+use Rattle.ix_model.proofs.refused.{Refusing.relabelled_itself, Asking.ask_caller, AskingRows.{want_of_descriptor, want_of_process}}
 use Rattle.ix_model.proofs.paths_and_pipes.Stopping.{tested, never, decided_stops}
 
 not_true : (b : Bool) → not b ≡ true → b ≡ false

@@ -1,36 +1,23 @@
 -- What a refusal leaves: the world but for the caller's label.
 use Rattle.std.proofs.Common.{◌≡◌, ℕ, Bool, true, false, not, ◌&&◌, true≢false, List, Option, Some, None, refl, sym, ap, ◌∙◌, subst, if◌then◌else◌}
 use Rattle.ix_label.specs.Category.{Categories, bottom, join}
-use Rattle.ix_model.specs.world.Naming.{PathOf}
-use Rattle.ix_model.specs.rows.Refusals.{keeps_label}
-use Rattle.ix_model.specs.world.World.{Frame, World, Process, at, change, lives}
-use Rattle.ix_model.specs.rows.Outcomes.{Row, Outcome, Refuse, Pass}
-use Rattle.ix_model.specs.rows.Rows.{observe}
-use Rattle.ix_model.specs.rows.Walks.{Sought, OpenFile, behind, object_at, spot_at, missing, walked_to}
+use Rattle.ix_model.specs.{world.{Naming.PathOf, World.{Frame, World, Process, at, change, lives}, Contents.carried}, rows.Refusals.keeps_label}
+use Rattle.ix_model.specs.{rows.Outcomes.{Row, Outcome, Refuse, Pass}, rows.Rows.observe, rows.OnProcesses.{fork, exec, exit, wait_child}}
+use Rattle.ix_model.specs.{rows.Walks.{Sought, OpenFile, behind, object_at, spot_at, missing, walked_to}, rows.Table.{Decision, verdict, settled, row}}
+use Rattle.ix_model.specs.history.{AuditLog.is_answer, Events.Op}
+use Rattle.ix_model.specs.declared.{call.{Keep.Keep, Mode.Mode}, privs.PrivSet.PrivSet, reply.{Kind.Kind, Reply.Reply}, refusal.Refusal.Refusal}
 use Rattle.ix_model.specs.rows.OnPaths.{make, create_at, make_dir, open_at, link_at, unlink_at, remove_dir, change_dir, stat_at, list_at}
 use Rattle.ix_model.specs.rows.OnDescriptors.{LengthChecks, read_fd, write_fd, cut_fd, seek_fd, dup_fd, close_fd, make_pipe, claimed, pex, unpex}
-use Rattle.ix_model.specs.rows.OnProcesses.{fork, exec, exit, wait_child}
-use Rattle.ix_model.specs.rows.OnLabels.{label_of, self_label, set_label, set_self, freeze, freeze_self, thaw, thaw_self, set_priv, drop_lic, grant_lic, set_ceiling, read_log}
-use Rattle.ix_model.specs.rows.Table.{Decision, verdict, settled, row}
-use Rattle.ix_model.specs.world.Contents.{carried}
-use Rattle.ix_model.specs.history.Step.{plainly, read_answer, write_answer, cut_answer, seek_answer, stat_answer, exit_answer, wait_answer, pex_answer, is_whole, answer}
-use Rattle.ix_model.specs.history.AuditLog.{is_answer}
-use Rattle.ix_model.specs.history.Events.{Op}
+use Rattle.ix_model.specs.rows.OnLabels.{label_of, self_label, set_label, set_self, freeze, freeze_self, thaw, thaw_self, set_priv, drop_lic, grant_lic}
+use Rattle.ix_model.specs.rows.OnLabels.{set_ceiling, read_log}
+use Rattle.ix_model.specs.history.Step.{plainly, read_answer, write_answer, cut_answer, seek_answer, stat_answer, exit_answer, wait_answer, pex_answer, answer}
+use Rattle.ix_model.specs.history.Step.{is_whole}
 use Rattle.ix_model.specs.history.Events as op
-use Rattle.ix_model.specs.declared.call.Keep.{Keep}
-use Rattle.ix_model.specs.declared.call.Mode.{Mode}
-use Rattle.ix_model.specs.declared.privs.PrivSet.{PrivSet}
-use Rattle.ix_model.specs.declared.reply.Kind.{Kind}
 use Rattle.ix_model.specs.declared.reply.Kind.TheVariants as kind
-use Rattle.ix_model.specs.declared.reply.Reply.{Reply}
 use Rattle.ix_model.specs.declared.reply.Reply.TheVariants as reply
-use Rattle.ix_model.specs.declared.refusal.Refusal.{Refusal}
 use Rattle.ix_model.specs.declared.refusal.Refusal.TheVariants as refusal
-use Rattle.ix_model.proofs.tables.Tables.{change_same, change_twice}
-use Rattle.ix_model.proofs.words.Keeps.{Keeps, keeping}
-use Rattle.ix_model.proofs.words.Ends.{Ends, ending, ends_more, ends_kept, kept_ends}
-use Rattle.ix_model.proofs.words.RowEnds.{endings, ends_let_go_object, ends_let_go, ends_let_go_all}
-use Rattle.ix_model.proofs.words.Looks.{ends_observe, ends_touch, ends_float_entry}
+use Rattle.ix_model.proofs.{tables.Tables.{change_same, change_twice}, words.Keeps.{Keeps, keeping}, words.Ends.{Ends, ending, ends_more, ends_kept, kept_ends}}
+use Rattle.ix_model.proofs.{words.RowEnds.{endings, ends_let_go_object, ends_let_go, ends_let_go_all}, words.Looks.{ends_observe, ends_touch, ends_float_entry}}
 
 -- ---- a frame that differs in the caller's label alone
 pub record Relabelled (pid : ℕ) (f g : Frame) : Type 0 where

@@ -1,20 +1,12 @@
 -- The frame that looks leave: the caller's label joined with what it has looked at.
-use Rattle.std.proofs.Common.{◌≡◌, ℕ, Bool, true, false, not, Option, Some, None, option_map, refl, sym, ap, ◌∙◌, subst}
-use Rattle.std.specs.Option.{option_map_or}
-use Rattle.ix_label.specs.Category.{Categories, bottom, join, same}
-use Rattle.ix_label.specs.Lattice.{join-absorbs, join-assoc, join-comm, bottom-leq, same-decides}
-use Rattle.ix_model.specs.world.Naming.{PathOf}
-use Rattle.ix_model.specs.rows.Refusals.{keeps_label}
-use Rattle.ix_model.specs.world.World.{Frame, Process, at, change, living}
-use Rattle.ix_model.specs.rows.Rows.{observe, affect}
-use Rattle.ix_model.specs.rows.Walks.{Sought, walk, join_all, walked_to}
+use Rattle.std.{proofs.Common.{◌≡◌, ℕ, Bool, true, false, not, Option, Some, None, option_map, refl, sym, ap, ◌∙◌, subst}, specs.Option.option_map_or}
+use Rattle.ix_label.specs.{Category.{Categories, bottom, join, same}, Lattice.{join-absorbs, join-assoc, join-comm, bottom-leq, same-decides}}
+use Rattle.ix_model.specs.{world.{Naming.PathOf, World.{Frame, Process, at, change, living}}, history.AuditLog.object_of_path, laws.Looked.along}
+use Rattle.ix_model.specs.{rows.{Refusals.keeps_label, Rows.{observe, affect}, Walks.{Sought, walk, join_all, walked_to}}, declared.refusal.Refusal.Refusal}
 use Rattle.ix_model.specs.rows.Walks as sought
-use Rattle.ix_model.specs.history.AuditLog.{object_of_path}
-use Rattle.ix_model.specs.laws.Looked.{along}
-use Rattle.ix_model.specs.declared.refusal.Refusal.{Refusal}
-use Rattle.ix_model.proofs.tables.Tables.{at_changed, change_same, change_twice}
-use Rattle.ix_model.proofs.words.Living.{is_living, not_ended, lives_as}
-use Rattle.ix_model.proofs.words.Ends.{Ends, ends_bind, ends_then, ends_pass, ends_frame, ends_caller, ends_object, ends_only_if, ends_need, ends_change_caller, ends_change_object}
+use Rattle.ix_model.proofs.{tables.Tables.{at_changed, change_same, change_twice}, words.Living.{is_living, not_ended, lives_as}}
+use Rattle.ix_model.proofs.words.Ends.{Ends, ends_bind, ends_then, ends_pass, ends_frame, ends_caller, ends_object, ends_only_if, ends_need, ends_change_caller}
+use Rattle.ix_model.proofs.words.Ends.{ends_change_object}
 
 -- ---- joins with bottom
 pub join_nothing : (a : Categories) → join a bottom ≡ a

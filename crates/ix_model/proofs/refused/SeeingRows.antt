@@ -2,37 +2,23 @@
 use Rattle.std.specs.Option.{option_map_or}
 use Rattle.std.proofs.Common.{◌≡◌, ℕ, Bool, true, false, true≢false, Option, Some, None, refl, sym, ap, ◌∙◌, subst, if◌then◌else◌}
 use Rattle.ix_label.specs.Category.{Categories, bottom, join}
-use Rattle.ix_model.specs.world.Naming.{PathOf}
-use Rattle.ix_model.specs.rows.Refusals.{keeps_label}
-use Rattle.ix_model.specs.world.World.{Frame, Object, at, lives}
-use Rattle.ix_model.specs.rows.Outcomes.{Outcome, Refuse, Pass}
-use Rattle.ix_model.specs.rows.Rows.{observe}
-use Rattle.ix_model.specs.rows.Walks.{OpenFile, behind, object_at, spot_at, missing}
-use Rattle.ix_model.specs.rows.Auditing.{exercise, entitled, log_has_room}
+use Rattle.ix_model.specs.{world.{Naming.PathOf, World.{Frame, Object, at, lives}}, rows.Refusals.keeps_label, rows.Outcomes.{Outcome, Refuse, Pass}}
+use Rattle.ix_model.specs.{rows.Rows.observe, rows.Walks.{OpenFile, behind, object_at, spot_at, missing}, rows.Auditing.{exercise, entitled, log_has_room}}
+use Rattle.ix_model.specs.{rows.OnProcesses.{fork, exec, exit, wait_child}, rows.Table.{Decision, row, settled, verdict}, laws.Looked.{along, looked_at}}
+use Rattle.ix_model.specs.history.{AuditLog.{object_of_path, label_at, is_answer}, Events.Op}
+use Rattle.ix_model.specs.declared.{call.{Keep.Keep, Mode.Mode}, privs.PrivSet.PrivSet, reply.{Kind.Kind, Reply.Reply}, refusal.Refusal.Refusal}
 use Rattle.ix_model.specs.rows.OnPaths.{make, create_at, make_dir, open_at, link_at, unlink_at, remove_dir, change_dir, stat_at, list_at}
 use Rattle.ix_model.specs.rows.OnDescriptors.{LengthChecks, read_fd, write_fd, cut_fd, seek_fd, dup_fd, close_fd, make_pipe, claimed, pex, unpex}
-use Rattle.ix_model.specs.rows.OnProcesses.{fork, exec, exit, wait_child}
-use Rattle.ix_model.specs.rows.OnLabels.{allowed, movable, label_of, self_label, set_label, set_self, freeze, freeze_self, thaw, thaw_self, set_priv, drop_lic, grant_lic, set_ceiling, read_log}
-use Rattle.ix_model.specs.rows.Table.{Decision, row, settled, verdict}
-use Rattle.ix_model.specs.history.AuditLog.{object_of_path, label_at, is_answer}
-use Rattle.ix_model.specs.laws.Looked.{along, looked_at}
-use Rattle.ix_model.specs.history.Events.{Op}
+use Rattle.ix_model.specs.rows.OnLabels.{allowed, movable, label_of, self_label, set_label, set_self, freeze, freeze_self, thaw, thaw_self, set_priv, drop_lic}
+use Rattle.ix_model.specs.rows.OnLabels.{grant_lic, set_ceiling, read_log}
 use Rattle.ix_model.specs.history.Events as op
-use Rattle.ix_model.specs.declared.call.Keep.{Keep}
-use Rattle.ix_model.specs.declared.call.Mode.{Mode}
-use Rattle.ix_model.specs.declared.privs.PrivSet.{PrivSet}
-use Rattle.ix_model.specs.declared.reply.Kind.{Kind}
 use Rattle.ix_model.specs.declared.reply.Kind.TheVariants as kind
-use Rattle.ix_model.specs.declared.reply.Reply.{Reply}
 use Rattle.ix_model.specs.declared.reply.Reply.TheVariants as reply
-use Rattle.ix_model.specs.declared.refusal.Refusal.{Refusal}
 use Rattle.ix_model.specs.declared.refusal.Refusal.TheVariants as refusal
-use Rattle.ix_model.proofs.words.Ends.{Ends, ending}
-use Rattle.ix_model.proofs.refused.Refusing.{Relabelled, refusing_row}
-use Rattle.ix_model.proofs.words.Endings.{ends_record_of, ends_put_object, ends_put_process, ends_add_process}
-use Rattle.ix_model.proofs.words.RowEnds.{storing, ends_spot, ends_vacant, ends_end_process, ends_logged, ends_let_go_object, ends_let_go, ends_let_go_all}
-use Rattle.ix_model.proofs.words.Looks.{ends_float_entry}
+use Rattle.ix_model.proofs.{words.Ends.{Ends, ending}, words.Endings.{ends_record_of, ends_put_object, ends_put_process, ends_add_process}}
+use Rattle.ix_model.proofs.{words.Looks.ends_float_entry, refused.Refusing.{Relabelled, refusing_row}}
 use Rattle.ix_model.proofs.refused.Seeing.{Seen, join_nothing, nothing_joined, seen_nothing, ends_seen, ends_seen_walk, ends_moved}
+use Rattle.ix_model.proofs.words.RowEnds.{storing, ends_spot, ends_vacant, ends_end_process, ends_logged, ends_let_go_object, ends_let_go, ends_let_go_all}
 
 -- what has been looked at where a row refuses so
 pub record AsSeen (pid : ℕ) (f : Frame) (seen : Refusal → Categories) (r : Refusal) (g : Frame) : Type 0 where

@@ -1,34 +1,21 @@
 -- The rows that add descriptors and open entries leave a sound frame.
-use Rattle.std.proofs.Common.{◌≡◌, ◌≢◌, ◌<◌, ◌==◌, ◌&&◌, ◌||◌, ℕ, true, false, true≢false, not, List, length, length-set, Option, Some, None, is_some, refl, sym, ap, ◌∙◌, subst, arith, inl, inr}
-use Rattle.std.specs.Option.{option_map_or}
-use Rattle.std.proofs.lemmas.Bool.{or_left, and_from, eq-eqb}
-use Rattle.std.proofs.lemmas.Bool.Decides.{eqb_tells}
-use Rattle.std.proofs.lemmas.List.{get_or-set_same, get_or-set_other}
-use Rattle.ix_label.specs.Lattice.{bottom-leq}
-use Rattle.ix_label.specs.Category.{bottom}
-use Rattle.ix_model.specs.world.Naming.{PathOf}
-use Rattle.ix_model.specs.world.World.{Frame, Object, Process, Open, at, put, change, living, lowest_free, is_file, is_dir, is_pipe}
-use Rattle.ix_model.specs.world.Numbers.{free_pipe}
-use Rattle.ix_model.specs.world.Owners.{times_named}
-use Rattle.ix_model.specs.rows.OnPaths.{new_object, open_at}
-use Rattle.ix_model.specs.rows.OnDescriptors.{dup_fd, pipe_end, make_pipe}
-use Rattle.ix_model.specs.laws.Sound.{NamesSound, LivesSound, OpensSound}
-use Rattle.ix_model.specs.declared.call.Mode.{Mode}
+use Rattle.std.proofs.Common.{◌≡◌, ◌≢◌, ◌<◌, ◌==◌, ◌&&◌, ◌||◌, ℕ, true, false, true≢false, not, List, length, length-set, Option, Some, None, is_some, refl, ap}
+use Rattle.std.proofs.Common.{sym, ◌∙◌, subst, arith, inl, inr}
+use Rattle.std.{specs.Option.option_map_or, proofs.lemmas.{Bool.{or_left, and_from, eq-eqb, Decides.eqb_tells}, List.{get_or-set_same, get_or-set_other}}}
+use Rattle.ix_label.specs.{Lattice.bottom-leq, Category.bottom}
+use Rattle.ix_model.specs.{world.Naming.PathOf, world.World.{Frame, Object, Process, Open, at, put, change, living, lowest_free, is_file, is_dir, is_pipe}}
+use Rattle.ix_model.specs.{world.Numbers.free_pipe, world.Owners.times_named, rows.{OnPaths.{new_object, open_at}, OnDescriptors.{dup_fd, pipe_end, make_pipe}}}
+use Rattle.ix_model.specs.{laws.Sound.{NamesSound, LivesSound, OpensSound}, declared.call.Mode.Mode}
 use Rattle.ix_model.specs.declared.call.Mode.TheVariants as mode
 use Rattle.ix_model.specs.declared.reply.Kind.TheVariants as kind
-use Rattle.ix_model.proofs.tables.Tables.{change_twice}
-use Rattle.ix_model.proofs.words.Standing.{behind_is}
-use Rattle.ix_model.proofs.words.Ends.{Ends, ends_bind, ends_then, ends_pass, ends_frame, ends_need, ends_some, ends_caller, ends_object, ends_opened, ends_put_open, ends_change_caller}
-use Rattle.ix_model.proofs.words.Endings.{ends_put_object}
-use Rattle.ix_model.proofs.tables.FreeNumbers.{lowest_free_is, free_pipe_is}
-use Rattle.ix_model.proofs.tables.Labels.{labels_process}
-use Rattle.ix_model.proofs.tables.SameKinds.{kinds_itself, kinds_new}
-use Rattle.ix_model.proofs.frames.Frames.{FrameSound, Follows, follows_itself}
-use Rattle.ix_model.proofs.sound.Steadily.{follows_found}
-use Rattle.ix_model.proofs.sound.Logging.{Refused, Passed, ends_next}
-use Rattle.ix_model.proofs.frames.Given.{opens_but, or_more, either_more, entered, held_more, held_here, lives_entered, opens_entered, claims_entered}
-use Rattle.ix_model.proofs.frames.Given.{limits_entered, given, processes_put_fd, limits_put_fd, given_lives, opens_given, claims_given}
-use Rattle.ix_model.proofs.frames.Awaiting.{IsNew, Awaiting, awaiting, awaiting_new, names_all}
+use Rattle.ix_model.proofs.{tables.Tables.change_twice, tables.FreeNumbers.{lowest_free_is, free_pipe_is}, tables.Labels.labels_process}
+use Rattle.ix_model.proofs.{tables.SameKinds.{kinds_itself, kinds_new}, words.{Standing.behind_is, Endings.ends_put_object}}
+use Rattle.ix_model.proofs.frames.{Frames.{FrameSound, Follows, follows_itself}, Awaiting.{IsNew, Awaiting, awaiting, awaiting_new, names_all}}
+use Rattle.ix_model.proofs.sound.{Steadily.follows_found, Logging.{Refused, Passed, ends_next}}
+use Rattle.ix_model.proofs.words.Ends.{Ends, ends_bind, ends_then, ends_pass, ends_frame, ends_need, ends_some, ends_caller, ends_object, ends_opened}
+use Rattle.ix_model.proofs.words.Ends.{ends_put_open, ends_change_caller}
+use Rattle.ix_model.proofs.frames.Given.{opens_but, or_more, either_more, entered, held_more, held_here, lives_entered, opens_entered, claims_entered, given}
+use Rattle.ix_model.proofs.frames.Given.{limits_entered, processes_put_fd, limits_put_fd, given_lives, opens_given, claims_given}
 
 -- ---- one descriptor more
 module _ (f : Frame) (pid : ℕ) (p : Process) (fd e : ℕ) (lives : living (at f.processes pid) ≡ Some p) (fd_in : fd < length p.fds) (fd_none : at p.fds fd ≡ None) where

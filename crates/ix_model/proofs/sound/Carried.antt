@@ -1,19 +1,11 @@
 -- The lengths of what is carried over.
-use Rattle.std.proofs.Common.{◌≡◌, ◌≤◌, ◌+◌, ◌==◌, ◌&&◌, ℕ, suc, Bool, true, false, true≢false, List, [], ◌∷◌, length, Option, Some, None, is_some}
-use Rattle.std.proofs.Common.{if◌then◌else◌, refl, sym, ap, ◌∙◌, subst, arith, get_or}
-use Rattle.std.specs.Option.{option_map_or}
-use Rattle.std.proofs.lemmas.Bool.{and_parts}
-use Rattle.ix_model.specs.world.World.{World, Frame, Object, Holding, at, is_ended, fs_at}
-use Rattle.ix_model.specs.world.Contents.{keep, carried, holds_nothing}
-use Rattle.ix_model.specs.rows.Telling.{blocks_for, blocks_where, blocks_on, lies_on}
-use Rattle.ix_model.specs.laws.Clean.{IsClean}
-use Rattle.ix_model.specs.laws.Sound.{LengthsSound}
-use Rattle.ix_model.proofs.tables.Tables.{length_same, seen_same}
-use Rattle.ix_model.proofs.frames.Floats.{Floats, object_but, process_but, open_but}
-use Rattle.ix_model.proofs.words.Fixed.{Fixed}
-use Rattle.ix_model.proofs.tables.SameKinds.{Kinds}
-use Rattle.ix_model.proofs.words.Lasts.{Lasts}
-use Rattle.ix_model.proofs.clean.Carrying.{length-keep, get_or-keep, carried_same}
+use Rattle.std.proofs.Common.{◌≡◌, ◌≤◌, ◌+◌, ◌==◌, ◌&&◌, ℕ, suc, Bool, true, false, true≢false, List, [], ◌∷◌, length, Option, Some, None, is_some, refl, sym}
+use Rattle.std.proofs.Common.{if◌then◌else◌, ap, ◌∙◌, subst, arith, get_or}
+use Rattle.std.{specs.Option.option_map_or, proofs.lemmas.Bool.and_parts}
+use Rattle.ix_model.specs.world.{World.{World, Frame, Object, Holding, at, is_ended, fs_at}, Contents.{keep, carried, holds_nothing}}
+use Rattle.ix_model.specs.{rows.Telling.{blocks_for, blocks_where, blocks_on, lies_on}, laws.{Clean.IsClean, Sound.LengthsSound}}
+use Rattle.ix_model.proofs.{tables.{Tables.{length_same, seen_same}, SameKinds.Kinds}, frames.Floats.{Floats, object_but, process_but, open_but}}
+use Rattle.ix_model.proofs.{words.{Fixed.Fixed, Lasts.Lasts}, clean.Carrying.{length-keep, get_or-keep, carried_same}}
 
 -- ---- what is kept of a list
 kept_of : {A : Type 0} (P : A → Type 0) (b : Bool) (x d : A) → (b ≡ true → P x) → P d → P (if b then x else d)

@@ -1,29 +1,16 @@
 -- CloseFd and Exit leave a sound frame.
-use Rattle.std.proofs.Common.{◌≡◌, ◌<◌, ◌==◌, ◌&&◌, ℕ, Bool, true, false, true≢false, not, List, [], ◌∷◌, length, Option, Some, None, is_some}
-use Rattle.std.proofs.Common.{option_map, if◌then◌else◌, get_or, refl, sym, ap, ◌∙◌, subst, arith, inl, inr}
-use Rattle.std.specs.Option.{option_map_or, option_and_then}
-use Rattle.std.specs.List.{list_any, range_with_len}
-use Rattle.std.proofs.lemmas.Bool.{or_cases, and_parts, not-true, eqb-true, eq-eqb}
-use Rattle.std.proofs.lemmas.List.Folds.{list_any_at}
-use Rattle.std.proofs.lemmas.List.FromFn.{get_or-range_with_len, length-range_with_len}
+use Rattle.std.proofs.Common.{◌≡◌, ◌<◌, ◌==◌, ◌&&◌, ℕ, Bool, true, false, true≢false, not, List, [], ◌∷◌, length, Option, Some, None, is_some, option_map, refl}
+use Rattle.std.proofs.Common.{if◌then◌else◌, get_or, sym, ap, ◌∙◌, subst, arith, inl, inr}
+use Rattle.std.{specs.{Option.{option_map_or, option_and_then}, List.{list_any, range_with_len}}, proofs.lemmas.List.Folds.list_any_at}
+use Rattle.std.{proofs.lemmas.Bool.{or_cases, and_parts, not-true, eqb-true, eq-eqb}, proofs.lemmas.List.FromFn.{get_or-range_with_len, length-range_with_len}}
 use Rattle.ix_label.specs.Category.{leq}
-use Rattle.ix_model.specs.world.World.{Frame, Process, at, put, change, living, lives, is_on}
-use Rattle.ix_model.specs.world.Owners.{is_at}
-use Rattle.ix_model.specs.rows.Rows.{pass}
-use Rattle.ix_model.specs.rows.Walks.{OpenFile, behind, behind_of, entry_at}
-use Rattle.ix_model.specs.rows.Lifetimes.{let_go, let_go_if_held, let_go_each, let_go_all}
-use Rattle.ix_model.specs.rows.OnDescriptors.{close_fd}
-use Rattle.ix_model.specs.rows.OnProcesses.{is_child, remains, end_process, exit}
-use Rattle.ix_model.specs.declared.refusal.Refusal.{Refusal}
-use Rattle.ix_model.proofs.tables.Tables.{at_changed}
-use Rattle.ix_model.proofs.tables.Finds.{at_put, at_change, any_at, in_table, no_any, passes_some}
-use Rattle.ix_model.proofs.words.Living.{is_living, not_ended, lives_as}
+use Rattle.ix_model.specs.{world.{World.{Frame, Process, at, put, change, living, lives, is_on}, Owners.is_at}, rows.Rows.pass, rows.OnDescriptors.close_fd}
+use Rattle.ix_model.specs.{rows.Walks.{OpenFile, behind, behind_of, entry_at}, rows.Lifetimes.{let_go, let_go_if_held, let_go_each, let_go_all}}
+use Rattle.ix_model.specs.{rows.OnProcesses.{is_child, remains, end_process, exit}, declared.refusal.Refusal.Refusal}
+use Rattle.ix_model.proofs.{tables.{Tables.at_changed, Finds.{at_put, at_change, any_at, in_table, no_any, passes_some}}, words.Endings.ends_put_process}
+use Rattle.ix_model.proofs.{words.Living.{is_living, not_ended, lives_as}, sound.Logging.{Refused, Passed}}
 use Rattle.ix_model.proofs.words.Ends.{Ends, ends_bind, ends_then, ends_pass, ends_frame, ends_need, ends_opened}
-use Rattle.ix_model.proofs.words.Endings.{ends_put_process}
-use Rattle.ix_model.proofs.frames.Frames.{FrameSound, Follows, follows_itself}
-use Rattle.ix_model.proofs.sound.Logging.{Refused, Passed}
-use Rattle.ix_model.proofs.frames.Releasing.{descriptor_released}
-use Rattle.ix_model.proofs.frames.Retired.{Retires, retired}
+use Rattle.ix_model.proofs.frames.{Frames.{FrameSound, Follows, follows_itself}, Releasing.descriptor_released, Retired.{Retires, retired}}
 
 module _ (f : Frame) (s : FrameSound f) where
   pub close_fd_ends : (pid fd : ℕ) → Ends (close_fd pid fd f) (Refused f) (Passed f)

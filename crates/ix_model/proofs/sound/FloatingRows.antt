@@ -1,10 +1,8 @@
 -- The calls on bytes change nothing in the frame but labels.
 use Rattle.std.proofs.Common.{ℕ}
 use Rattle.ix_model.specs.world.World.{Frame, Object, Process}
-use Rattle.ix_model.specs.rows.Walks.{OpenFile, opened}
-use Rattle.ix_model.specs.rows.OnDescriptors.{LengthChecks, float_entry, read_fd, write_fd, cut_fd}
-use Rattle.ix_model.proofs.words.Keeps.{Keeps, keeping}
-use Rattle.ix_model.proofs.frames.Floats.{Floats, floats_change_open, floats_observe, floats_affect}
+use Rattle.ix_model.specs.rows.{Walks.{OpenFile, opened}, OnDescriptors.{LengthChecks, float_entry, read_fd, write_fd, cut_fd}}
+use Rattle.ix_model.proofs.{words.Keeps.{Keeps, keeping}, frames.Floats.{Floats, floats_change_open, floats_observe, floats_affect}}
 
 module _ (f : Frame) where
   floats_opened : (pid fd : ℕ) → Keeps (Floats f) (opened pid fd)

@@ -1,26 +1,17 @@
 -- The row of every call leaves a sound frame.
 use Rattle.std.proofs.Common.{◌≡◌, ℕ, Bool, true, false, refl, if◌then◌else◌}
-use Rattle.ix_model.specs.world.World.{Frame, lives}
-use Rattle.ix_model.specs.rows.OnDescriptors.{LengthChecks}
-use Rattle.ix_model.specs.rows.Table.{Decision, row, settled, verdict}
-use Rattle.ix_model.specs.history.Events.{Op}
+use Rattle.ix_model.specs.{world.World.{Frame, lives}, rows.{OnDescriptors.LengthChecks, Table.{Decision, row, settled, verdict}}, history.Events.Op}
 use Rattle.ix_model.specs.history.Events as op
 use Rattle.ix_model.specs.declared.reply.Reply.TheVariants as reply
 use Rattle.ix_model.specs.declared.refusal.Refusal.TheVariants as refusal
-use Rattle.ix_model.proofs.words.Keeps.{Holds}
-use Rattle.ix_model.proofs.words.Ends.{kept_ends}
-use Rattle.ix_model.proofs.words.Lasts.{settled_keeps}
-use Rattle.ix_model.proofs.frames.Frames.{FrameSound, Follows, follows_itself}
+use Rattle.ix_model.proofs.{words.{Keeps.Holds, Ends.kept_ends, Lasts.settled_keeps}, sound.Making.{create_at_ends, make_dir_ends, link_at_ends}}
+use Rattle.ix_model.proofs.frames.{Frames.{FrameSound, Follows, follows_itself}, Claimants.{pex_ends, unpex_ends}, Retired.wait_child_ends}
+use Rattle.ix_model.proofs.{sound.Unmaking.{unlink_at_ends, remove_dir_ends}, sound.Adding.{open_at_ends, dup_fd_ends, make_pipe_ends}, sound.Forking.fork_ends}
+use Rattle.ix_model.proofs.sound.Closing.{close_fd_ends, exit_ends}
 use Rattle.ix_model.proofs.sound.Steadily.{follows_stat_at, follows_list_at, follows_label_of, follows_self_label, follows_read_fd, follows_write_fd}
 use Rattle.ix_model.proofs.sound.Steadily.{follows_cut_fd, follows_seek_fd, follows_freeze, follows_freeze_self, follows_drop_lic, follows_exec}
-use Rattle.ix_model.proofs.sound.Logging.{set_label_ends, set_self_ends, thaw_ends, thaw_self_ends, grant_lic_ends, set_ceiling_ends, read_log_ends, set_priv_ends, change_dir_ends}
-use Rattle.ix_model.proofs.sound.Making.{create_at_ends, make_dir_ends, link_at_ends}
-use Rattle.ix_model.proofs.sound.Unmaking.{unlink_at_ends, remove_dir_ends}
-use Rattle.ix_model.proofs.sound.Adding.{open_at_ends, dup_fd_ends, make_pipe_ends}
-use Rattle.ix_model.proofs.sound.Forking.{fork_ends}
-use Rattle.ix_model.proofs.frames.Claimants.{pex_ends, unpex_ends}
-use Rattle.ix_model.proofs.frames.Retired.{wait_child_ends}
-use Rattle.ix_model.proofs.sound.Closing.{close_fd_ends, exit_ends}
+use Rattle.ix_model.proofs.sound.Logging.{set_label_ends, set_self_ends, thaw_ends, thaw_self_ends, grant_lic_ends, set_ceiling_ends, read_log_ends}
+use Rattle.ix_model.proofs.sound.Logging.{set_priv_ends, change_dir_ends}
 
 module _ (f : Frame) (s : FrameSound f) where
   row_follows : (t : LengthChecks) (place pid : ℕ) (c : Op) → lives f pid ≡ true → Holds (row t place pid c f) (Follows f)

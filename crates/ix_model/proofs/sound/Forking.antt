@@ -1,24 +1,13 @@
 -- A fork leaves a sound frame.
-use Rattle.std.proofs.Common.{◌≡◌, ◌<◌, ◌+◌, ℕ, Bool, true, false, true≢false, not, nat_lt, List, [], ◌∷◌, ◌++◌, length, replicate, count_by, cond}
-use Rattle.std.proofs.Common.{Option, Some, None, is_some, refl, sym, ap, ◌∙◌, arith, inl, inr, length-set}
-use Rattle.std.specs.Option.{option_map_or}
-use Rattle.std.proofs.lemmas.Bool.{ltb-true}
-use Rattle.std.proofs.lemmas.List.{get_or_append_left, length-replicate}
-use Rattle.std.proofs.lemmas.List.Sums.{sum_by_push}
-use Rattle.ix_model.specs.world.World.{Frame, Process, at, living, lives, is_dir}
-use Rattle.ix_model.specs.world.Owners.{owns}
-use Rattle.ix_model.specs.rows.OnProcesses.{kept_fds, fork}
-use Rattle.ix_model.specs.declared.call.Keep.{Keep}
+use Rattle.std.proofs.Common.{◌≡◌, ◌<◌, ◌+◌, ℕ, Bool, true, false, true≢false, not, nat_lt, List, [], ◌∷◌, ◌++◌, length, replicate, count_by, cond, Option, sym}
+use Rattle.std.proofs.Common.{Some, None, is_some, refl, ap, ◌∙◌, arith, inl, inr, length-set}
+use Rattle.std.{specs.Option.option_map_or, proofs.lemmas.{Bool.ltb-true, List.{get_or_append_left, length-replicate, Sums.sum_by_push}}}
+use Rattle.ix_model.specs.{world.{World.{Frame, Process, at, living, lives, is_dir}, Owners.owns}, rows.OnProcesses.{kept_fds, fork}, declared.call.Keep.Keep}
 use Rattle.ix_model.specs.declared.call.Keep.TheVariants as keep
-use Rattle.ix_model.proofs.tables.Finds.{at_put, at_push, in_table, any_into, passes_some}
-use Rattle.ix_model.proofs.words.Living.{is_living, not_ended, lives_as}
-use Rattle.ix_model.proofs.opening.Openings.{all_one}
+use Rattle.ix_model.proofs.{tables.{Finds.{at_put, at_push, in_table, any_into, passes_some}, Labels.labels_add_process}, words.Endings.ends_add_process}
+use Rattle.ix_model.proofs.{words.Living.{is_living, not_ended, lives_as}, opening.Openings.all_one, sound.Logging.{Refused, Passed}}
 use Rattle.ix_model.proofs.words.Ends.{Ends, ends_bind, ends_then, ends_pass, ends_frame, ends_need, ends_caller}
-use Rattle.ix_model.proofs.words.Endings.{ends_add_process}
-use Rattle.ix_model.proofs.tables.Labels.{labels_add_process}
-use Rattle.ix_model.proofs.frames.Floated.{has_on}
-use Rattle.ix_model.proofs.frames.Frames.{FrameSound, follows_itself}
-use Rattle.ix_model.proofs.sound.Logging.{Refused, Passed}
+use Rattle.ix_model.proofs.frames.{Floated.has_on, Frames.{FrameSound, follows_itself}}
 
 -- ---- the child's descriptors
 no_kept : (fd e : ℕ) → at (replicate 32 None) fd ≡ Some e → ⊥

@@ -1,25 +1,17 @@
 -- What objects hold after a call: a directory no bytes, and what is no pipe no second list.
-use Rattle.std.proofs.Common.{◌≡◌, ◌-◌, ◌++◌, ℕ, Bool, true, false, true≢false, List, [], length, take, drop, Option, Some, None, is_some, refl, sym, ap, ◌∙◌, ◌&&◌, if◌then◌else◌, slice_set, ◌+◌}
+use Rattle.std.proofs.Common.{◌≡◌, ◌-◌, ◌++◌, ℕ, Bool, true, false, true≢false, List, [], length, take, drop, Option, Some, None, is_some, refl, sym, ap, ◌∙◌}
+use Rattle.std.proofs.Common.{◌&&◌, if◌then◌else◌, slice_set, ◌+◌}
 use Rattle.std.proofs.lemmas.Bool.{and_parts, not-true}
-use Rattle.ix_model.specs.world.World.{World, Frame, Content, Object, Holding, at, is_dir, is_pipe, is_ended}
-use Rattle.ix_model.specs.rows.Walks.{OpenFile, behind}
-use Rattle.ix_model.specs.world.Contents.{carried, holding_of, offset_of, holds_nothing, side, with_side, change_side, on_pipe, readable, after_read}
-use Rattle.ix_model.specs.world.Contents.{after_write, after_cut, after_seek, after_exit, emptied, spliced, cut_to}
-use Rattle.ix_model.specs.history.Step.{plainly, read_answer, write_answer, cut_answer, seek_answer, stat_answer, exit_answer, wait_answer, pex_answer, answer, step}
-use Rattle.ix_model.specs.rows.Table.{verdict}
-use Rattle.ix_model.specs.rows.Telling.{told}
-use Rattle.ix_model.specs.laws.Sound.{Sound}
-use Rattle.ix_model.specs.history.Events.{Op}
+use Rattle.ix_model.specs.{world.World.{World, Frame, Content, Object, Holding, at, is_dir, is_pipe, is_ended}, laws.Sound.Sound, history.Events.Op}
+use Rattle.ix_model.specs.{rows.{Walks.{OpenFile, behind}, Table.verdict, Telling.told}, declared.reply.{Kind.Kind, Reply.Reply}}
+use Rattle.ix_model.specs.world.Contents.{carried, holding_of, offset_of, holds_nothing, side, with_side, change_side, on_pipe, readable, after_read, after_cut}
+use Rattle.ix_model.specs.world.Contents.{after_write, after_seek, after_exit, emptied, spliced, cut_to}
+use Rattle.ix_model.specs.history.Step.{plainly, read_answer, write_answer, cut_answer, seek_answer, stat_answer, exit_answer, wait_answer, pex_answer, answer}
+use Rattle.ix_model.specs.history.Step.{step}
 use Rattle.ix_model.specs.history.Events as op
-use Rattle.ix_model.specs.declared.reply.Kind.{Kind}
 use Rattle.ix_model.specs.declared.reply.Kind.TheVariants as kind
-use Rattle.ix_model.specs.declared.reply.Reply.{Reply}
 use Rattle.ix_model.specs.declared.reply.Reply.TheVariants as reply
-use Rattle.ix_model.proofs.tables.SameKinds.{Kinds}
-use Rattle.ix_model.proofs.sound.Lengths.{set_either}
-use Rattle.ix_model.proofs.sound.Carried.{kept_at, there_is}
-use Rattle.ix_model.proofs.frames.Frames.{frame_of}
-use Rattle.ix_model.proofs.sound.Following.{follows_decided}
+use Rattle.ix_model.proofs.{tables.SameKinds.Kinds, sound.{Lengths.set_either, Carried.{kept_at, there_is}, Following.follows_decided}, frames.Frames.frame_of}
 use Rattle.ix_model.proofs.words.Standing.{Standing, behind_is, stands, on_pipe_is}
 
 pub record Holds (f : Frame) (c : Content) : Type 0 where

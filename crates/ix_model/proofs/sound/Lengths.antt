@@ -1,19 +1,16 @@
 -- Lengths and blocks after the calls that edit what is held.
-use Rattle.std.proofs.Common.{◌≡◌, ◌<◌, ◌≤◌, ◌==◌, ◌+◌, ◌-◌, ℕ, zero, suc, max, Bool, true, false, true≢false, not, ◌&&◌, List, [], ◌∷◌, ◌++◌, length}
-use Rattle.std.proofs.Common.{take, drop, replicate, Option, Some, None, if◌then◌else◌, nat_le, nat_lt, refl, sym, ap, ◌∙◌, subst, arith, get_or, set}
-use Rattle.std.proofs.Common.{length-set, length-append}
+use Rattle.std.proofs.Common.{◌≡◌, ◌<◌, ◌≤◌, ◌==◌, ◌+◌, ◌-◌, ℕ, zero, suc, max, Bool, true, false, true≢false, not, ◌&&◌, List, [], ◌∷◌, ◌++◌, length, take, ap}
+use Rattle.std.proofs.Common.{drop, replicate, Option, Some, None, if◌then◌else◌, nat_le, nat_lt, refl, sym, ◌∙◌, subst, arith, get_or, set, length-set}
+use Rattle.std.proofs.Common.{length-append}
 use Rattle.std.specs.Option.{option_map_or}
-use Rattle.std.proofs.lemmas.Bool.{cond-false, lt-leb, ne_eqb, not-true, ltb-false, or_parts}
-use Rattle.std.proofs.lemmas.List.{length-replicate, length-take, length-drop}
-use Rattle.ix_model.specs.world.World.{Frame, Content, Object, Holding, at, is_pipe}
-use Rattle.ix_model.specs.rows.Walks.{OpenFile}
-use Rattle.ix_model.specs.world.Contents.{holding_of, offset_of, holds_nothing, side, with_side, on_pipe, readable, after_read, after_write, after_cut, after_seek, emptied, grown, cut_to, spliced}
-use Rattle.ix_model.specs.rows.Telling.{blocks_for, blocks_where, blocks_on, blocks_beside, lies_on, fs_of_object, length_then, told_of_pipe_write, told_of_file_write, told_of_write}
-use Rattle.ix_model.specs.rows.OnDescriptors.{LengthChecks}
+use Rattle.std.proofs.lemmas.{Bool.{cond-false, lt-leb, ne_eqb, not-true, ltb-false, or_parts}, List.{length-replicate, length-take, length-drop}}
+use Rattle.ix_model.specs.{world.World.{Frame, Content, Object, Holding, at, is_pipe}, rows.{Walks.OpenFile, OnDescriptors.LengthChecks}}
 use Rattle.ix_model.specs.laws.Sound.{WithinLimits, LengthsSound}
-use Rattle.ix_model.proofs.tables.Tables.{none_is}
-use Rattle.ix_model.proofs.tables.Blocks.{blocks_skip, blocks_edit, on_fs}
-use Rattle.ix_model.proofs.words.Standing.{Standing, on_pipe_is}
+use Rattle.ix_model.specs.world.Contents.{holding_of, offset_of, holds_nothing, side, with_side, on_pipe, readable, after_read, after_write, after_cut, emptied}
+use Rattle.ix_model.specs.world.Contents.{after_seek, grown, cut_to, spliced}
+use Rattle.ix_model.specs.rows.Telling.{blocks_for, blocks_where, blocks_on, blocks_beside, lies_on, fs_of_object, length_then, told_of_pipe_write}
+use Rattle.ix_model.specs.rows.Telling.{told_of_file_write, told_of_write}
+use Rattle.ix_model.proofs.{tables.{Tables.none_is, Blocks.{blocks_skip, blocks_edit, on_fs}}, words.Standing.{Standing, on_pipe_is}}
 
 -- ---- lists
 -- what holds of each element and of a new one holds after the new one is set

@@ -1,36 +1,23 @@
 -- The rows that log, that set labels and ceilings, and that move a process leave a sound frame.
-use Rattle.std.proofs.Common.{◌≡◌, ℕ, Bool, true, false, true≢false, not, nat_lt, [], ◌∷◌, ◌++◌, Some, length, length-append, refl, sym, ap, ◌∙◌, subst, arith, inl, inr}
-use Rattle.std.specs.Option.{option_map_or}
-use Rattle.std.proofs.lemmas.Bool.{ltb-true, not-false}
-use Rattle.ix_label.specs.Category.{Categories, leq, same, bottom}
-use Rattle.ix_label.specs.Lattice.{same-decides}
-use Rattle.ix_model.specs.world.Naming.{PathOf}
-use Rattle.ix_model.specs.world.Privs.{to_lower}
-use Rattle.ix_model.specs.world.World.{Frame, Object, Process, at, change, living, is_dir, ceiling_of}
-use Rattle.ix_model.specs.rows.Outcomes.{Row, Outcome, Refuse, Pass}
-use Rattle.ix_model.specs.rows.Rows.{◌>>◌, pass, need, change_process, only_if, affect}
+use Rattle.std.proofs.Common.{◌≡◌, ℕ, Bool, true, false, true≢false, not, nat_lt, [], ◌∷◌, ◌++◌, Some, length, length-append, refl, sym, ap, ◌∙◌, subst, arith}
+use Rattle.std.proofs.Common.{inl, inr}
+use Rattle.std.{specs.Option.option_map_or, proofs.lemmas.Bool.{ltb-true, not-false}}
+use Rattle.ix_label.specs.{Category.{Categories, leq, same, bottom}, Lattice.same-decides}
+use Rattle.ix_model.specs.world.{Naming.PathOf, Privs.to_lower, World.{Frame, Object, Process, at, change, living, is_dir, ceiling_of}}
+use Rattle.ix_model.specs.{rows.Outcomes.{Row, Outcome, Refuse, Pass}, rows.Rows.{◌>>◌, pass, need, change_process, only_if, affect}, rows.OnPaths.change_dir}
 use Rattle.ix_model.specs.rows.Auditing.{entitled, log_has_room, exercise, logged, audit_line}
-use Rattle.ix_model.specs.rows.OnPaths.{change_dir}
-use Rattle.ix_model.specs.rows.OnLabels.{allowed, movable, set_label, set_self, thaw, thaw_self, set_priv, grant_lic, needs_to_set_ceilings, set_ceiling, read_log}
+use Rattle.ix_model.specs.declared.{audit.AuditLine.AuditLine, privs.PrivSet.PrivSet, refusal.Refusal.Refusal, reply.Reply.Reply}
+use Rattle.ix_model.specs.rows.OnLabels.{allowed, movable, set_label, set_self, thaw, thaw_self, set_priv, grant_lic, needs_to_set_ceilings, set_ceiling}
+use Rattle.ix_model.specs.rows.OnLabels.{read_log}
 use Rattle.ix_model.specs.declared.audit.Act.TheVariants as act
-use Rattle.ix_model.specs.declared.audit.AuditLine.{AuditLine}
-use Rattle.ix_model.specs.declared.privs.PrivSet.{PrivSet}
-use Rattle.ix_model.specs.declared.refusal.Refusal.{Refusal}
 use Rattle.ix_model.specs.declared.refusal.Refusal.TheVariants as refusal
-use Rattle.ix_model.specs.declared.reply.Reply.{Reply}
 use Rattle.ix_model.specs.declared.reply.Reply.TheVariants as reply
-use Rattle.ix_model.proofs.tables.Finds.{at_change}
-use Rattle.ix_model.proofs.words.Living.{is_living, not_ended, lives_as}
-use Rattle.ix_model.proofs.words.Keeps.{Holds, Keeps}
-use Rattle.ix_model.proofs.words.Ends.{Ends, ending, ends_kept, kept_ends, ends_bind, ends_then, ends_pass, ends_frame, ends_need, ends_some}
-use Rattle.ix_model.proofs.words.Ends.{ends_only_if, ends_caller, ends_object, ends_change_object, ends_change_caller}
-use Rattle.ix_model.proofs.words.RowEnds.{ends_entitled, ends_logged}
-use Rattle.ix_model.proofs.words.Looks.{ends_affect}
-use Rattle.ix_model.proofs.frames.Floats.{floats_itself, floats_process}
+use Rattle.ix_model.proofs.{tables.{Finds.at_change, Labels.labels_process}, sound.Steadily.follows_found}
+use Rattle.ix_model.proofs.words.{Living.{is_living, not_ended, lives_as}, Keeps.{Holds, Keeps}, RowEnds.{ends_entitled, ends_logged}, Looks.ends_affect}
+use Rattle.ix_model.proofs.frames.{Floats.{floats_itself, floats_process}, Frames.{Follows, follows_affect, followed_object, followed_process}}
+use Rattle.ix_model.proofs.words.Ends.{Ends, ending, ends_kept, kept_ends, ends_bind, ends_then, ends_pass, ends_frame, ends_need, ends_some, ends_only_if}
+use Rattle.ix_model.proofs.words.Ends.{ends_caller, ends_object, ends_change_object, ends_change_caller}
 use Rattle.ix_model.proofs.frames.Floated.{names_floated, lives_floated, opens_floated, processes_moved, claims_floated, limits_floated}
-use Rattle.ix_model.proofs.tables.Labels.{labels_process}
-use Rattle.ix_model.proofs.frames.Frames.{Follows, follows_affect, followed_object, followed_process}
-use Rattle.ix_model.proofs.sound.Steadily.{follows_found}
 
 -- the log takes one line more
 abbrev pub HasRoom : Frame → Type 0

@@ -1,37 +1,22 @@
 -- The rows that make a file, a directory or a name leave a sound frame.
-use Rattle.std.proofs.Common.{◌≡◌, ◌≢◌, ◌<◌, ◌≤◌, ◌+◌, ◌==◌, ℕ, true, false, true≢false, not, nat_lt, List, sum, length, count_by, Option, Some, None}
-use Rattle.std.proofs.Common.{is_none, refl, sym, ap, ◌∙◌, subst, arith, inl, inr}
-use Rattle.std.specs.Option.{option_map_or}
-use Rattle.std.proofs.lemmas.Bool.{cases_lt, not-true}
-use Rattle.std.proofs.lemmas.List.{get_or-set_same, get_or-set_other}
-use Rattle.ix_label.specs.Category.{Categories, bottom}
-use Rattle.ix_label.specs.Lattice.{bottom-leq}
-use Rattle.ix_model.specs.world.Naming.{PathOf, last_name}
-use Rattle.ix_model.specs.world.Directories.{with_name, has_room_for_a_name}
-use Rattle.ix_model.specs.world.World.{fs_at, Frame, Object, at, put, change, is_dir, is_pipe}
-use Rattle.ix_model.specs.rows.Walks.{Sought}
+use Rattle.std.proofs.Common.{◌≡◌, ◌≢◌, ◌<◌, ◌≤◌, ◌+◌, ◌==◌, ℕ, true, false, true≢false, not, nat_lt, List, sum, length, count_by, Option, Some, None, is_none}
+use Rattle.std.proofs.Common.{refl, sym, ap, ◌∙◌, subst, arith, inl, inr}
+use Rattle.std.{specs.Option.option_map_or, proofs.lemmas.{Bool.{cases_lt, not-true}, List.{get_or-set_same, get_or-set_other}}}
+use Rattle.ix_label.specs.{Category.{Categories, bottom}, Lattice.bottom-leq}
+use Rattle.ix_model.specs.{world.Naming.{PathOf, last_name}, world.Directories.{with_name, has_room_for_a_name}}
+use Rattle.ix_model.specs.{world.World.{fs_at, Frame, Object, at, put, change, is_dir, is_pipe}, world.Numbers.{first_inode, free_inode, fs_number}}
+use Rattle.ix_model.specs.{world.Owners.{times_in, times_named, names_in_all}, declared.{config.FsSpec.FsSpec, reply.Kind.Kind}}
+use Rattle.ix_model.specs.rows.{Walks.Sought, Rows.affect, OnPaths.{new_object, make, create_at, make_dir, link_at}}
 use Rattle.ix_model.specs.rows.Walks as sought
-use Rattle.ix_model.specs.world.Numbers.{first_inode, free_inode, fs_number}
-use Rattle.ix_model.specs.world.Owners.{times_in, times_named, names_in_all}
-use Rattle.ix_model.specs.rows.Rows.{affect}
-use Rattle.ix_model.specs.rows.OnPaths.{new_object, make, create_at, make_dir, link_at}
-use Rattle.ix_model.specs.declared.config.FsSpec.{FsSpec}
-use Rattle.ix_model.specs.declared.reply.Kind.{Kind}
 use Rattle.ix_model.specs.declared.reply.Kind.TheVariants as kind
-use Rattle.ix_model.proofs.tables.Tables.{none_is, back, length_same, map_same, seen_same}
-use Rattle.ix_model.proofs.tables.Finds.{sum_zero}
-use Rattle.ix_model.proofs.words.There.{child_named}
-use Rattle.ix_model.proofs.words.Ends.{Ends, ends_kept, kept_ends, ends_bind, ends_then, ends_pass, ends_frame, ends_need, ends_some, ends_object, ends_change_object}
-use Rattle.ix_model.proofs.words.Looks.{ends_affect}
-use Rattle.ix_model.proofs.words.Endings.{ends_put_object}
-use Rattle.ix_model.proofs.tables.FreeNumbers.{free_inode_is}
-use Rattle.ix_model.proofs.frames.Floats.{Floats, object_but, floats_itself, floats_affect}
-use Rattle.ix_model.proofs.tables.SameKinds.{kinds_new, kinds_change}
-use Rattle.ix_model.proofs.frames.Frames.{FrameSound, Follows, follows_itself, follows_affect}
-use Rattle.ix_model.proofs.sound.Logging.{Refused, Passed, holds_both}
-use Rattle.ix_model.proofs.words.Walked.{Within, Leads, Along, along_itself, within_on, leads_walked_to, leads_there, leads_vacant, leads_missing}
+use Rattle.ix_model.proofs.{tables.Tables.{none_is, back, length_same, map_same, seen_same}, tables.Finds.sum_zero, tables.FreeNumbers.free_inode_is}
+use Rattle.ix_model.proofs.{tables.SameKinds.{kinds_new, kinds_change}, words.{There.child_named, Looks.ends_affect, Endings.ends_put_object}}
+use Rattle.ix_model.proofs.{frames.Floats.{Floats, object_but, floats_itself, floats_affect}, frames.Named.named_sound}
+use Rattle.ix_model.proofs.{frames.Frames.{FrameSound, Follows, follows_itself, follows_affect}, sound.Logging.{Refused, Passed, holds_both}}
 use Rattle.ix_model.proofs.frames.Awaiting.{IsNew, awaiting, awaiting_new, times_new, names_in_new}
-use Rattle.ix_model.proofs.frames.Named.{named_sound}
+use Rattle.ix_model.proofs.words.Ends.{Ends, ends_kept, kept_ends, ends_bind, ends_then, ends_pass, ends_frame, ends_need, ends_some, ends_object}
+use Rattle.ix_model.proofs.words.Ends.{ends_change_object}
+use Rattle.ix_model.proofs.words.Walked.{Within, Leads, Along, along_itself, within_on, leads_walked_to, leads_there, leads_vacant, leads_missing}
 
 -- ---- room for a name
 room_same : (f g : Frame) → names_in_all g.objects ≡ names_in_all f.objects → g.limits ≡ f.limits → has_room_for_a_name f ≡ true → has_room_for_a_name g ≡ true

@@ -1,21 +1,9 @@
 -- Every world that a valid config reaches is sound, and every world that is reached is clean.
 use Rattle.std.proofs.Common.{◌≡◌, ℕ, suc, true, List, [], ◌∷◌, length, replicate, refl, sym, subst, arith}
-use Rattle.ix_model.specs.world.World.{World}
-use Rattle.ix_model.specs.world.Contents.{holds_nothing}
-use Rattle.ix_model.specs.history.Step.{step_of, run}
-use Rattle.ix_model.specs.opening.Opening.{bare_objects, bare_world, opening_world}
-use Rattle.ix_model.specs.opening.Valid.{is_valid}
-use Rattle.ix_model.specs.laws.Clean.{IsClean}
-use Rattle.ix_model.specs.laws.Sound.{Sound}
-use Rattle.ix_model.specs.history.Events.{Event}
-use Rattle.ix_model.specs.declared.config.Config.{Config}
-use Rattle.ix_model.proofs.opening.Openings.{clean_opening}
-use Rattle.ix_model.proofs.sound.Soundly.{sound_step}
-use Rattle.ix_model.proofs.opening.Validity.{Valid, valid_parts}
-use Rattle.ix_model.proofs.opening.Bare.{bare_table}
-use Rattle.ix_model.proofs.opening.BareBuilt.{bare_built}
-use Rattle.ix_model.proofs.opening.OpenedWorlds.{WorldBuilt, lines_built}
-use Rattle.ix_model.proofs.opening.OpeningSound.{sound_built}
+use Rattle.ix_model.specs.{world.{World.World, Contents.holds_nothing}, history.{Step.{step_of, run}, Events.Event}, laws.{Clean.IsClean, Sound.Sound}}
+use Rattle.ix_model.specs.{opening.{Opening.{bare_objects, bare_world, opening_world}, Valid.is_valid}, declared.config.Config.Config}
+use Rattle.ix_model.proofs.{opening.Openings.clean_opening, opening.Validity.{Valid, valid_parts}, opening.Bare.bare_table, opening.BareBuilt.bare_built}
+use Rattle.ix_model.proofs.{opening.OpenedWorlds.{WorldBuilt, lines_built}, opening.OpeningSound.sound_built, sound.Soundly.sound_step}
 
 -- ---- the opening world
 pub bare_is_built : (c : Config) → Valid c → WorldBuilt c [] (bare_world c)

@@ -1,36 +1,21 @@
 -- What stands at a number after a call: two places for claims, empty where it is no pipe, and pipes' open entries at bottom.
-use Rattle.std.proofs.Common.{◌≡◌, ◌≤◌, ℕ, zero, suc, Bool, true, false, true≢false, not, List, length, length-set, Option, Some, None, is_none, refl, sym, ap, ◌∙◌, subst, arith, inl, inr, ◌-◌}
-use Rattle.std.specs.Option.{option_map_or}
-use Rattle.std.proofs.lemmas.Bool.{not-true}
+use Rattle.std.proofs.Common.{◌≡◌, ◌≤◌, ℕ, zero, suc, Bool, true, false, true≢false, not, List, length, length-set, Option, Some, None, is_none, refl, sym, ap}
+use Rattle.std.proofs.Common.{◌∙◌, subst, arith, inl, inr, ◌-◌}
+use Rattle.std.{specs.Option.option_map_or, proofs.lemmas.Bool.not-true}
 use Rattle.ix_label.specs.Category.{bottom}
-use Rattle.ix_model.specs.rows.OnPaths.{new_object}
-use Rattle.ix_model.specs.world.Numbers.{first_pipe}
-use Rattle.ix_model.specs.world.World.{Frame, Object, Process, Open, at, put, change, is_dir, is_pipe, no_claims}
+use Rattle.ix_model.specs.{rows.{OnPaths.new_object, Walks.OpenFile, Auditing.logged, OnProcesses.end_process, Table.{row, verdict}}, history.Events.Op}
+use Rattle.ix_model.specs.world.{Numbers.first_pipe, World.{Frame, Object, Process, Open, at, put, change, is_dir, is_pipe, no_claims}}
+use Rattle.ix_model.specs.{laws.Sound.{WithinLimits, OpensSound, ShapesSound}, declared.{config.FsSpec.FsSpec, reply.Reply.Reply, refusal.Refusal.Refusal}}
 use Rattle.ix_model.specs.rows.Rows.{◌>>◌, change_process, change_object, change_open, put_object, put_process, put_open, add_process, process, pass}
-use Rattle.ix_model.specs.rows.Walks.{OpenFile}
-use Rattle.ix_model.specs.rows.Auditing.{logged}
 use Rattle.ix_model.specs.rows.OnDescriptors.{LengthChecks, float_entry, read_fd, write_fd, seek_fd, pex, claimed, read_passed, write_passed}
-use Rattle.ix_model.specs.rows.OnProcesses.{end_process}
-use Rattle.ix_model.specs.rows.Table.{row, verdict}
-use Rattle.ix_model.specs.laws.Sound.{WithinLimits, OpensSound, ShapesSound}
-use Rattle.ix_model.specs.history.Events.{Op}
 use Rattle.ix_model.specs.history.Events as op
-use Rattle.ix_model.specs.declared.config.FsSpec.{FsSpec}
 use Rattle.ix_model.specs.declared.reply.Kind.TheVariants as kind
-use Rattle.ix_model.specs.declared.reply.Reply.{Reply}
 use Rattle.ix_model.specs.declared.reply.Reply.TheVariants as reply
-use Rattle.ix_model.specs.declared.refusal.Refusal.{Refusal}
-use Rattle.ix_model.proofs.tables.Finds.{at_put, at_change, passes_some}
-use Rattle.ix_model.proofs.tables.Inodes.{first_within}
-use Rattle.ix_model.proofs.words.Keeps.{Holds, keeps_claimed}
-use Rattle.ix_model.proofs.words.Ends.{Ends, kept_ends, ends_kept, ends_bind, ends_then, ends_pass, ends_need, ends_caller, ends_object}
-use Rattle.ix_model.proofs.words.Ends.{ends_opened, ends_change_object}
-use Rattle.ix_model.proofs.words.Looks.{ends_observe, ends_affect}
-use Rattle.ix_model.proofs.words.Transfers.{read_behind, ends_read, ends_read_behind, ends_write, ends_floated}
-use Rattle.ix_model.proofs.words.Lasts.{decided}
-use Rattle.ix_model.proofs.words.Standing.{behind_is}
-use Rattle.ix_model.proofs.words.Rowwise.{Change, Claiming, Moving, Words, kept_row}
-use Rattle.ix_model.proofs.frames.Frames.{FrameSound}
+use Rattle.ix_model.proofs.{tables.{Finds.{at_put, at_change, passes_some}, Inodes.first_within}, words.Keeps.{Holds, keeps_claimed}, words.Lasts.decided}
+use Rattle.ix_model.proofs.{words.Looks.{ends_observe, ends_affect}, words.Transfers.{read_behind, ends_read, ends_read_behind, ends_write, ends_floated}}
+use Rattle.ix_model.proofs.{words.Standing.behind_is, words.Rowwise.{Change, Claiming, Moving, Words, kept_row}, frames.Frames.FrameSound}
+use Rattle.ix_model.proofs.words.Ends.{Ends, kept_ends, ends_kept, ends_bind, ends_then, ends_pass, ends_need, ends_caller, ends_object, ends_opened}
+use Rattle.ix_model.proofs.words.Ends.{ends_change_object}
 
 -- ---- claims
 -- an object has two places for claims, which are empty where it is no pipe

@@ -1,17 +1,8 @@
 -- The step of every call leaves a sound world.
 use Rattle.std.proofs.Common.{ℕ, sym, subst}
-use Rattle.ix_model.specs.world.World.{World, Frame}
-use Rattle.ix_model.specs.history.Step.{step}
-use Rattle.ix_model.specs.rows.Telling.{told}
-use Rattle.ix_model.specs.laws.Sound.{ShapesSound, Sound}
-use Rattle.ix_model.specs.history.Events.{Op}
-use Rattle.ix_model.proofs.frames.Frames.{frame_of, whole_of}
-use Rattle.ix_model.proofs.sound.Following.{follows_decided}
-use Rattle.ix_model.proofs.words.Answered.{step_frame}
-use Rattle.ix_model.proofs.clean.Cleaning.{clean_step}
-use Rattle.ix_model.proofs.sound.Stepping.{measured_step}
-use Rattle.ix_model.proofs.sound.Holding.{Holds, holds_step}
-use Rattle.ix_model.proofs.sound.Shapes.{shapes_decided}
+use Rattle.ix_model.specs.{world.World.{World, Frame}, history.{Step.step, Events.Op}, rows.Telling.told, laws.Sound.{ShapesSound, Sound}}
+use Rattle.ix_model.proofs.{frames.Frames.{frame_of, whole_of}, words.Answered.step_frame, clean.Cleaning.clean_step}
+use Rattle.ix_model.proofs.sound.{Following.follows_decided, Stepping.measured_step, Holding.{Holds, holds_step}, Shapes.shapes_decided}
 
 pub sound_step : (w : World) (place pid : ℕ) (c : Op) → Sound w → Sound (step w place pid c).world
 sound_step w place pid c s =

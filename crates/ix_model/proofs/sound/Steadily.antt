@@ -1,13 +1,8 @@
 -- The rows that make and unmake nothing leave a sound frame.
 use Rattle.std.proofs.Common.{ℕ}
-use Rattle.ix_model.specs.world.Naming.{PathOf}
-use Rattle.ix_model.specs.world.World.{Frame, Object, Process}
-use Rattle.ix_model.specs.rows.Walks.{OpenFile, walked_to, object_at, opened}
-use Rattle.ix_model.specs.rows.OnPaths.{stat_at, list_at}
-use Rattle.ix_model.specs.rows.OnDescriptors.{LengthChecks, float_entry, read_fd, write_fd, cut_fd, seek_fd}
-use Rattle.ix_model.specs.rows.OnProcesses.{exec}
-use Rattle.ix_model.specs.rows.OnLabels.{label_of, self_label, freeze, freeze_self, drop_lic}
-use Rattle.ix_model.specs.declared.privs.PrivSet.{PrivSet}
+use Rattle.ix_model.specs.{world.{Naming.PathOf, World.{Frame, Object, Process}}, rows.Walks.{OpenFile, walked_to, object_at, opened}, rows.OnProcesses.exec}
+use Rattle.ix_model.specs.{rows.OnPaths.{stat_at, list_at}, rows.OnDescriptors.{LengthChecks, float_entry, read_fd, write_fd, cut_fd, seek_fd}}
+use Rattle.ix_model.specs.{rows.OnLabels.{label_of, self_label, freeze, freeze_self, drop_lic}, declared.privs.PrivSet.PrivSet}
 use Rattle.ix_model.proofs.words.Keeps.{Keeps, keeping}
 use Rattle.ix_model.proofs.frames.Frames.{Follows, follows_change_open, follows_change_object, follows_change_process, follows_observe, follows_affect}
 

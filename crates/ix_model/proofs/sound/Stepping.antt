@@ -1,35 +1,21 @@
 -- The step of every call leaves a sound frame, and lengths within their bounds.
 use Rattle.std.proofs.Common.{◌≡◌, ℕ, Bool, true, false, not, nat_le, List, length, take, Option, Some, None, refl, sym, ap, ◌∙◌, subst, if◌then◌else◌}
 use Rattle.std.proofs.lemmas.Bool.{leb-true, ltb-false, not-true}
-use Rattle.ix_model.proofs.words.Looks.{ends_float_entry}
-use Rattle.ix_model.specs.world.World.{Frame, Content, World, at, is_ended, is_pipe}
-use Rattle.ix_model.specs.rows.Walks.{OpenFile, behind}
-use Rattle.ix_model.specs.rows.OnDescriptors.{LengthChecks, seek_fd}
-use Rattle.ix_model.specs.rows.Table.{verdict, row}
-use Rattle.ix_model.specs.history.AuditLog.{is_answer}
-use Rattle.ix_model.specs.world.Contents.{carried, readable, after_read, after_write, after_cut, after_exit, emptied}
-use Rattle.ix_model.specs.history.Step.{plainly, read_answer, write_answer, cut_answer, seek_answer, stat_answer, exit_answer, wait_answer, pex_answer, answer, step}
-use Rattle.ix_model.specs.rows.Telling.{told, told_of_write, told_of_cut}
-use Rattle.ix_model.specs.laws.Clean.{IsClean}
-use Rattle.ix_model.specs.laws.Sound.{LengthsSound, Sound}
-use Rattle.ix_model.specs.history.Events.{Op}
+use Rattle.ix_model.proofs.{words.Looks.ends_float_entry, words.Ends.{Ends, Anything, ending}, words.Lasts.decided, words.Answered.passed}
+use Rattle.ix_model.proofs.{words.Fixed.{Fixed, fixed_decided}, words.Standing.{Standing, behind_is, stands}, clean.Cleaning.{wrote, CutFacts, was_cut}}
+use Rattle.ix_model.proofs.frames.{Floats.{Floats, floats_itself}, Floated.lengths_floated, Frames.{Follows, Measured, frame_of, measured_of}}
+use Rattle.ix_model.proofs.{sound.FloatingRows.{floats_read_fd, floats_write_fd, floats_cut_fd}, sound.Following.follows_decided}
+use Rattle.ix_model.proofs.sound.Carried.{lengths_carried, carried_floats}
+use Rattle.ix_model.proofs.sound.Lengths.{lengths_read, lengths_write, lengths_cut, lengths_seek, lengths_emptied}
+use Rattle.ix_model.specs.{world.World.{Frame, Content, World, at, is_ended, is_pipe}, rows.Walks.{OpenFile, behind}, rows.Table.{verdict, row}}
+use Rattle.ix_model.specs.{world.Contents.{carried, readable, after_read, after_write, after_cut, after_exit, emptied}, history.{AuditLog.is_answer, Events.Op}}
+use Rattle.ix_model.specs.{rows.OnDescriptors.{LengthChecks, seek_fd}, rows.Telling.{told, told_of_write, told_of_cut}, declared.reply.Reply.Reply}
+use Rattle.ix_model.specs.laws.{Clean.IsClean, Sound.{LengthsSound, Sound}}
+use Rattle.ix_model.specs.history.Step.{plainly, read_answer, write_answer, cut_answer, seek_answer, stat_answer, exit_answer, wait_answer, pex_answer, answer}
+use Rattle.ix_model.specs.history.Step.{step}
 use Rattle.ix_model.specs.history.Events as op
 use Rattle.ix_model.specs.declared.reply.Kind.TheVariants as kind
-use Rattle.ix_model.specs.declared.reply.Reply.{Reply}
 use Rattle.ix_model.specs.declared.reply.Reply.TheVariants as reply
-use Rattle.ix_model.proofs.words.Ends.{Ends, Anything, ending}
-use Rattle.ix_model.proofs.words.Lasts.{decided}
-use Rattle.ix_model.proofs.words.Answered.{passed}
-use Rattle.ix_model.proofs.clean.Cleaning.{wrote, CutFacts, was_cut}
-use Rattle.ix_model.proofs.frames.Floats.{Floats, floats_itself}
-use Rattle.ix_model.proofs.sound.FloatingRows.{floats_read_fd, floats_write_fd, floats_cut_fd}
-use Rattle.ix_model.proofs.frames.Floated.{lengths_floated}
-use Rattle.ix_model.proofs.frames.Frames.{Follows, Measured, frame_of, measured_of}
-use Rattle.ix_model.proofs.sound.Following.{follows_decided}
-use Rattle.ix_model.proofs.words.Fixed.{Fixed, fixed_decided}
-use Rattle.ix_model.proofs.sound.Carried.{lengths_carried, carried_floats}
-use Rattle.ix_model.proofs.words.Standing.{Standing, behind_is, stands}
-use Rattle.ix_model.proofs.sound.Lengths.{lengths_read, lengths_write, lengths_cut, lengths_seek, lengths_emptied}
 
 -- ---- answers, from a frame that follows
 module _ (w : World) (g : Frame) (fixed : Fixed w.frame g) (k : Follows w.frame g) (s : Sound w) where

@@ -1,32 +1,19 @@
 -- The rows that take a name away leave a sound frame.
-use Rattle.std.proofs.Common.{◌≡◌, ◌≢◌, ◌+◌, ◌==◌, ℕ, true, false, true≢false, not, List, [], find, option_map, length, Option, Some, None, if◌then◌else◌, refl, sym, ap, ◌∙◌, subst, arith, inl, inr}
-use Rattle.std.specs.Option.{option_map_or}
-use Rattle.std.specs.List.{list_any}
-use Rattle.std.proofs.lemmas.Bool.{not-true, eqb-true, eq-eqb, and_from}
-use Rattle.std.proofs.lemmas.Bool.Decides.{eqb_tells}
-use Rattle.std.proofs.lemmas.List.{nil_from_length, get_or-set_other}
+use Rattle.std.proofs.Common.{◌≡◌, ◌≢◌, ◌+◌, ◌==◌, ℕ, true, false, true≢false, not, List, [], find, option_map, length, Option, Some, None, if◌then◌else◌, refl}
+use Rattle.std.proofs.Common.{sym, ap, ◌∙◌, subst, arith, inl, inr}
+use Rattle.std.specs.{Option.option_map_or, List.list_any}
+use Rattle.std.proofs.lemmas.{Bool.{not-true, eqb-true, eq-eqb, and_from, Decides.eqb_tells}, List.{nil_from_length, get_or-set_other}}
 use Rattle.ix_label.specs.Category.{bottom}
-use Rattle.ix_model.specs.world.Naming.{PathOf, last_name, same_bytes}
-use Rattle.ix_model.specs.world.Directories.{without_name}
+use Rattle.ix_model.specs.{world.Naming.{PathOf, last_name, same_bytes}, world.Directories.without_name}
 use Rattle.ix_model.specs.world.World.{Frame, Object, Process, at, put, change, living, is_dir}
-use Rattle.ix_model.specs.rows.Walks.{Sought, child}
+use Rattle.ix_model.specs.rows.{Walks.{Sought, child}, Rows.observe, OnPaths.{is_home, unlink_at, remove_dir}}
 use Rattle.ix_model.specs.rows.Walks as sought
-use Rattle.ix_model.specs.rows.Rows.{observe}
-use Rattle.ix_model.specs.rows.OnPaths.{is_home, unlink_at, remove_dir}
-use Rattle.ix_model.proofs.tables.Tables.{back, seen_changed, seen_same}
-use Rattle.ix_model.proofs.tables.Finds.{no_any}
-use Rattle.ix_model.proofs.words.Living.{is_living, not_ended}
+use Rattle.ix_model.proofs.tables.{Tables.{back, seen_changed, seen_same}, Finds.no_any, SameKinds.{Kinds, kinds_change, kinds_gone}}
+use Rattle.ix_model.proofs.words.{Living.{is_living, not_ended}, Endings.ends_put_object, Walked.{Within, Leads, Along, within_on, leads_found_in}}
+use Rattle.ix_model.proofs.{frames.Floats.{Floats, object_but, floats_itself, floats_observe}, frames.Awaiting.awaiting, frames.Named.{unnamed, times_fewer}}
+use Rattle.ix_model.proofs.{frames.Frames.{FrameSound, Follows, follows_itself, follows_observe}, frames.Gone.{IsUnneeded, gone_sound, object_released}}
+use Rattle.ix_model.proofs.sound.{Logging.{Refused, Passed, holds_both}, Making.affect_on}
 use Rattle.ix_model.proofs.words.Ends.{Ends, ends_kept, ends_bind, ends_then, ends_pass, ends_frame, ends_need, ends_some, ends_object, ends_change_object}
-use Rattle.ix_model.proofs.words.Endings.{ends_put_object}
-use Rattle.ix_model.proofs.frames.Floats.{Floats, object_but, floats_itself, floats_observe}
-use Rattle.ix_model.proofs.tables.SameKinds.{Kinds, kinds_change, kinds_gone}
-use Rattle.ix_model.proofs.frames.Frames.{FrameSound, Follows, follows_itself, follows_observe}
-use Rattle.ix_model.proofs.sound.Logging.{Refused, Passed, holds_both}
-use Rattle.ix_model.proofs.words.Walked.{Within, Leads, Along, within_on, leads_found_in}
-use Rattle.ix_model.proofs.frames.Awaiting.{awaiting}
-use Rattle.ix_model.proofs.frames.Named.{unnamed, times_fewer}
-use Rattle.ix_model.proofs.frames.Gone.{IsUnneeded, gone_sound, object_released}
-use Rattle.ix_model.proofs.sound.Making.{affect_on}
 
 -- what was found stands in the directory that was looked into last
 inside_of : (f : Frame) (name : List ℕ) (o d : ℕ) (dir : Option ℕ) → dir ≡ Some d → Leads f name (sought.Found o dir) → Within f d name (Some o)

@@ -1,8 +1,6 @@
 -- Names that are told to be one are one.
-use Rattle.std.proofs.Common.{◌≡◌, ℕ, true, List, [], ◌∷◌, refl, sym}
+use Rattle.std.proofs.{Common.{◌≡◌, ℕ, true, List, [], ◌∷◌, refl, sym}, lemmas.{Bool.{and_parts, and_from}, Cmp.nat_list_eq_equiv}}
 use Rattle.std.specs.Cmp.Lexicographic.{same_text}
-use Rattle.std.proofs.lemmas.Bool.{and_parts, and_from}
-use Rattle.std.proofs.lemmas.Cmp.{nat_list_eq_equiv}
 use Rattle.ix_model.specs.world.Naming.{same_bytes, same_names}
 
 pub bytes_are : (a b : List ℕ) → same_bytes a b ≡ true → a ≡ b

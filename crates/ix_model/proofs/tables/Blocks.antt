@@ -1,9 +1,8 @@
 -- The blocks of the holdings that a test picks out.
-use Rattle.std.proofs.Common.{◌≡◌, ◌≢◌, ◌≤◌, ◌+◌, ◌==◌, ℕ, zero, suc, Bool, true, false, List, [], ◌∷◌, length, Option, Some, None, if◌then◌else◌, sym, ap, ◌∙◌, arith, refl, set}
-use Rattle.std.specs.Option.{option_map_or, option_and_then}
-use Rattle.std.proofs.lemmas.Bool.{eqb-true}
-use Rattle.ix_model.specs.world.World.{Frame, Object, Holding, at}
-use Rattle.ix_model.specs.rows.Telling.{blocks_for, blocks_where, lies_on, fs_of_object}
+use Rattle.std.proofs.Common.{◌≡◌, ◌≢◌, ◌≤◌, ◌+◌, ◌==◌, ℕ, zero, suc, Bool, true, false, List, [], ◌∷◌, length, Option, Some, None, if◌then◌else◌, sym, ap, ◌∙◌}
+use Rattle.std.proofs.Common.{arith, refl, set}
+use Rattle.std.{specs.Option.{option_map_or, option_and_then}, proofs.lemmas.Bool.eqb-true}
+use Rattle.ix_model.specs.{world.World.{Frame, Object, Holding, at}, rows.Telling.{blocks_for, blocks_where, lies_on, fs_of_object}}
 
 -- the sum looks at the test from n on
 pub blocks_from : (p q : ℕ → Bool) (n : ℕ) (hs : List Holding) → ((m : ℕ) → n ≤ m → p m ≡ q m) → blocks_where p n hs ≡ blocks_where q n hs

@@ -1,11 +1,8 @@
 -- What a put leaves at each number, where a test over a table passes, and sums over tables.
-use Rattle.std.proofs.Common.{◌≡◌, ◌≢◌, ◌<◌, ◌≤◌, ◌+◌, ℕ, zero, suc, Bool, true, false, true≢false, List, [], ◌∷◌, ◌++◌, map, length, sum, Option}
-use Rattle.std.proofs.Common.{Some, None, option_map, refl, sym, ap, ◌∙◌, arith, ◌⊎◌, inl, inr}
-use Rattle.std.specs.List.{list_any}
-use Rattle.std.proofs.lemmas.Bool.{or_cases, or_left, or_right, cases_lt}
-use Rattle.std.proofs.lemmas.Bool.Decides.{eqb_tells}
-use Rattle.std.proofs.lemmas.List.{get_or-set_other, get_or_past}
-use Rattle.std.proofs.lemmas.List.Sums.{sum-map, sum_by-set, sum_by-cons, get_or-le-sum_by}
+use Rattle.std.proofs.Common.{◌≡◌, ◌≢◌, ◌<◌, ◌≤◌, ◌+◌, ℕ, zero, suc, Bool, true, false, true≢false, List, [], ◌∷◌, ◌++◌, map, length, sum, Option, Some, None}
+use Rattle.std.proofs.Common.{option_map, refl, sym, ap, ◌∙◌, arith, ◌⊎◌, inl, inr}
+use Rattle.std.{specs.List.list_any, proofs.lemmas.Bool.{or_cases, or_left, or_right, cases_lt}, proofs.lemmas.Bool.Decides.eqb_tells}
+use Rattle.std.{proofs.lemmas.List.{get_or-set_other, get_or_past}, proofs.lemmas.List.Sums.{sum-map, sum_by-set, sum_by-cons, get_or-le-sum_by}}
 use Rattle.ix_model.specs.world.World.{at, put, change}
 
 -- ---- one put

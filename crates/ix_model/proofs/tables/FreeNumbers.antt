@@ -1,9 +1,7 @@
 -- Free inodes and pipes: nothing stands there, and they are of the table.
 use Rattle.std.proofs.Common.{◌≡◌, ◌<◌, ◌≤◌, ◌+◌, ℕ, List, take, drop, length, Option, Some, None, is_none, option_map, refl, sym, ap, ◌∙◌, arith}
-use Rattle.std.proofs.lemmas.List.{length-take, length-drop, get_or-take, get_or-drop}
-use Rattle.std.proofs.lemmas.List.Quantifiers.{position-Some}
-use Rattle.ix_model.specs.world.World.{fs_at, Frame, Object, at, lowest_free}
-use Rattle.ix_model.specs.world.Numbers.{first_inode, free_inode, first_pipe, free_pipe}
+use Rattle.std.proofs.lemmas.List.{length-take, length-drop, get_or-take, get_or-drop, Quantifiers.position-Some}
+use Rattle.ix_model.specs.world.{World.{fs_at, Frame, Object, at, lowest_free}, Numbers.{first_inode, free_inode, first_pipe, free_pipe}}
 use Rattle.ix_model.proofs.tables.Tables.{none_is}
 
 -- the lowest free number of a table is one of its numbers

@@ -1,15 +1,10 @@
 -- The numbers of a file system's inodes, how many of them are taken, and the lowest that is free.
-use Rattle.std.proofs.Common.{◌≡◌, ◌≢◌, ◌<◌, ◌≤◌, ◌+◌, ℕ, zero, suc, Bool, true, false, List, [], ◌∷◌, length, map, take, drop, Option, Some, None}
-use Rattle.std.proofs.Common.{is_some, is_none, cond, refl, ap, ◌∙◌, subst, arith, inl, inr}
+use Rattle.std.proofs.Common.{◌≡◌, ◌≢◌, ◌<◌, ◌≤◌, ◌+◌, ℕ, zero, suc, Bool, true, false, List, [], ◌∷◌, length, map, take, drop, Option, Some, None, is_some, ap}
+use Rattle.std.proofs.Common.{is_none, cond, refl, ◌∙◌, subst, arith, inl, inr}
 use Rattle.std.specs.List.{position_from}
 use Rattle.std.proofs.Math.Seq.{drop-cons}
-use Rattle.std.proofs.lemmas.Bool.{cases_lt, cases_order}
-use Rattle.std.proofs.lemmas.Bool.Decides.{eqb_tells}
-use Rattle.std.proofs.lemmas.List.Sums.{sum_by-cons}
-use Rattle.std.proofs.lemmas.Iterator.Adapters.{position_from-zero}
-use Rattle.ix_model.specs.world.World.{fs_at, at, lowest_free}
-use Rattle.ix_model.specs.world.Numbers.{first_inode}
-use Rattle.ix_model.specs.declared.config.FsSpec.{FsSpec}
+use Rattle.std.proofs.lemmas.{Bool.{cases_lt, cases_order, Decides.eqb_tells}, List.Sums.sum_by-cons, Iterator.Adapters.position_from-zero}
+use Rattle.ix_model.specs.{world.{World.{fs_at, at, lowest_free}, Numbers.first_inode}, declared.config.FsSpec.FsSpec}
 
 -- ---- where they lie
 pub first-cons : (s : FsSpec) (fss : List FsSpec) (k : ℕ) → first_inode (s ∷ fss) (suc k) ≡ s.inodes + first_inode fss k

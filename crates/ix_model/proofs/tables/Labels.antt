@@ -1,10 +1,8 @@
 -- Labels below their ceilings: what each change of a table leaves.
 use Rattle.std.proofs.Common.{◌≡◌, ℕ, true, Option, Some, ◌++◌, [], ◌∷◌, sym, ◌∙◌, subst, inl, inr}
 use Rattle.ix_label.specs.Category.{Categories, join, leq}
-use Rattle.ix_model.specs.world.World.{Frame, Object, Process, at, put, change, living, ceiling_of}
-use Rattle.ix_model.specs.laws.Sound.{LabelsBelow}
-use Rattle.ix_model.proofs.tables.Finds.{at_put, at_change, at_push}
-use Rattle.ix_model.proofs.words.Living.{is_living}
+use Rattle.ix_model.specs.{world.World.{Frame, Object, Process, at, put, change, living, ceiling_of}, laws.Sound.LabelsBelow}
+use Rattle.ix_model.proofs.{tables.Finds.{at_put, at_change, at_push}, words.Living.is_living}
 
 abbrev pub object_fits : Frame → Object → Type 0
 object_fits f x = leq x.label (ceiling_of f.fss x) ≡ true

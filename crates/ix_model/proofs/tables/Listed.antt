@@ -1,15 +1,10 @@
 -- The names of a directory as a list: one more at the end, and one taken out.
-use Rattle.std.proofs.Common.{◌≡◌, ◌≤◌, ◌+◌, ◌==◌, ℕ, Bool, true, false, true≢false, not, ◌||◌, List, [], ◌∷◌, ◌++◌, map, filter, length, count_by}
-use Rattle.std.proofs.Common.{find, cond, Some, None, option_map, if◌then◌else◌, refl, sym, ap, ◌∙◌, arith}
+use Rattle.std.proofs.Common.{◌≡◌, ◌≤◌, ◌+◌, ◌==◌, ℕ, Bool, true, false, true≢false, not, ◌||◌, List, [], ◌∷◌, ◌++◌, map, filter, length, count_by, find, cond}
+use Rattle.std.proofs.Common.{Some, None, option_map, if◌then◌else◌, refl, sym, ap, ◌∙◌, arith}
 use Rattle.std.specs.List.{list_any}
-use Rattle.std.proofs.lemmas.Bool.{and_parts, and_from, or_parts, not-true, not_from_false, false_from_ne_true}
-use Rattle.std.proofs.lemmas.List.{map-append}
-use Rattle.std.proofs.lemmas.List.Folds.{list_any-append}
-use Rattle.std.proofs.lemmas.List.Sums.{sum_by_push, length-filter, count_by-le-length}
-use Rattle.ix_model.specs.world.Naming.{same_bytes}
-use Rattle.ix_model.specs.opening.Valid.{all_differ}
-use Rattle.ix_model.proofs.tables.Alike.{bytes_are, bytes_itself}
-use Rattle.ix_model.proofs.words.There.{counted}
+use Rattle.std.proofs.{lemmas.Bool.{and_parts, and_from, or_parts, not-true, not_from_false, false_from_ne_true}, lemmas.List.map-append}
+use Rattle.std.proofs.{lemmas.List.Folds.list_any-append, lemmas.List.Sums.{sum_by_push, length-filter, count_by-le-length}}
+use Rattle.ix_model.{specs.{world.Naming.same_bytes, opening.Valid.all_differ}, proofs.{tables.Alike.{bytes_are, bytes_itself}, words.There.counted}}
 
 abbrev pub Names : Type 0
 Names = List (List ℕ × ℕ)

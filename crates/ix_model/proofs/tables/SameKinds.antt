@@ -1,9 +1,7 @@
 -- Of an object that stands in two tables: its file system, and whether it is a pipe or a directory.
 use Rattle.std.proofs.Common.{◌≡◌, ℕ, List, Option, Some, None, refl, sym, ap, ◌∙◌, subst, inl, inr}
 use Rattle.ix_model.specs.world.World.{Object, at, put, change, is_dir, is_pipe}
-use Rattle.ix_model.proofs.tables.Tables.{SameBut, back}
-use Rattle.ix_model.proofs.tables.Finds.{at_put, at_change}
-use Rattle.ix_model.proofs.frames.Floats.{object_but}
+use Rattle.ix_model.proofs.{tables.{Tables.{SameBut, back}, Finds.{at_put, at_change}}, frames.Floats.object_but}
 
 -- an object is a pipe, a directory or neither as another is, and on the same file system
 pub record SameKind (x y : Object) : Type 0 where

@@ -1,9 +1,6 @@
 -- Names in their cells.
 use Rattle.std.proofs.Common.{◌≡◌, ℕ, ◌<◌, ◌≤◌, List, [], ◌∷◌, ◌++◌, length, take, drop, replicate, true, false, refl}
-use Rattle.std.proofs.Math.Seq.{take-append_seam}
-use Rattle.std.proofs.lemmas.List.{drop-replicate}
-use Rattle.std.specs.List.{list_all}
-use Rattle.std.proofs.lemmas.Bool.{lt-ltb, le-leb}
+use Rattle.std.{proofs.{Math.Seq.take-append_seam, lemmas.{List.drop-replicate, Bool.{lt-ltb, le-leb}}}, specs.List.list_all}
 use Rattle.ix_model.specs.world.Naming.{is_name, may_stand_in_name, same_bytes, IsNameInside}
 
 pub cells : (bytes : List ℕ) → length bytes ≤ 28 → IsNameInside (bytes ++ drop (length bytes) (replicate 28 0)) (length bytes)

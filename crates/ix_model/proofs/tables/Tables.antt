@@ -1,8 +1,7 @@
 -- Tables: what is at a number after a change, and tables that are one but for some parts of what stands in them.
-use Rattle.std.proofs.Common.{◌≡◌, ℕ, zero, suc, Bool, true, false, List, [], ◌∷◌, map, length, Option, Some, None, is_none, option_map, refl, sym, ap, ◌∙◌, ◌||◌}
-use Rattle.std.specs.List.{list_any}
-use Rattle.std.proofs.Math.ListN.{get_or-map}
-use Rattle.std.proofs.lemmas.List.{length-map}
+use Rattle.std.proofs.Common.{◌≡◌, ℕ, zero, suc, Bool, true, false, List, [], ◌∷◌, map, length, Option, Some, None, is_none, option_map, refl, sym, ap, ◌∙◌}
+use Rattle.std.proofs.Common.{◌||◌}
+use Rattle.std.{specs.List.list_any, proofs.{Math.ListN.get_or-map, lemmas.List.length-map}}
 use Rattle.ix_model.specs.world.World.{at, put, change}
 
 -- ---- what stands

@@ -1,13 +1,9 @@
 -- Texts of names, joined and compared.
-use Rattle.std.proofs.Common.{◌≡◌, ℕ, suc, ◌+◌, ◌*◌, ◌-◌, ◌≤◌, ◌<◌, ◌==◌, Bool, true, false, not, ◌&&◌, nat_eq, nat_lt, nat_le, List, [], ◌∷◌, ◌++◌}
-use Rattle.std.proofs.Common.{length, take, map, inl, inr, refl, sym, ap, ◌∙◌, arith, length-append, Bor, Option, Some, None}
-use Rattle.std.specs.Option.{option_map_or}
-use Rattle.std.specs.List.{list_all, slice_get, sum, sum_by}
-use Rattle.std.proofs.lemmas.Bool.{cases_Bool, le-leb, leb-true}
-use Rattle.std.proofs.lemmas.Bool.Decides.{nat_tests}
-use Rattle.std.proofs.lemmas.List.{take-append-le, take_all}
-use Rattle.std.proofs.lemmas.List.Folds.{list_all-append}
-use Rattle.std.proofs.lemmas.List.Sums.{sum-map, sum_by-append}
+use Rattle.std.proofs.Common.{◌≡◌, ℕ, suc, ◌+◌, ◌*◌, ◌-◌, ◌≤◌, ◌<◌, ◌==◌, Bool, true, false, not, ◌&&◌, nat_eq, nat_lt, nat_le, List, [], ◌∷◌, ◌++◌, length, ap}
+use Rattle.std.proofs.Common.{take, map, inl, inr, refl, sym, ◌∙◌, arith, length-append, Bor, Option, Some, None}
+use Rattle.std.specs.{Option.option_map_or, List.{list_all, slice_get, sum, sum_by}}
+use Rattle.std.proofs.{lemmas.Bool.{cases_Bool, le-leb, leb-true}, lemmas.Bool.Decides.nat_tests, lemmas.List.{take-append-le, take_all}}
+use Rattle.std.proofs.{lemmas.List.Folds.list_all-append, lemmas.List.Sums.{sum-map, sum_by-append}}
 use Rattle.ix_model.specs.world.Naming.{is_name, may_stand_in_name, same_bytes, same_names}
 use Rattle.ix_model.specs.world.Texts.{with_front, between_slashes, names_in, is_path_text, with_name}
 

@@ -1,14 +1,9 @@
 -- Reading a text, piece by piece.
-use Rattle.std.proofs.Common.{◌≡◌, ℕ, zero, suc, ◌+◌, ◌-◌, ◌≤◌, ◌<◌, ◌==◌, Bool, true, false, ◌&&◌, nat_le, List, [], ◌∷◌, ◌++◌, length, take, drop}
-use Rattle.std.proofs.Common.{get_or, refl, sym, ap, ◌∙◌, arith, drop-cons, Some, None, slice_get}
-use Rattle.std.specs.List.{list_all}
-use Rattle.std.proofs.lemmas.Bool.{eqb-true, le-leb, lt-leb}
-use Rattle.std.proofs.lemmas.List.{take-append-drop, drop_all}
-use Rattle.std.specs.Prelude.{Option, is_some, MatchOption}
-use Rattle.std.specs.Option.{option_map}
-use Rattle.ix_model.specs.declared.name_ref.NameRef.{NameRef}
-use Rattle.ix_model.specs.world.Naming.{is_name}
-use Rattle.ix_model.specs.world.Texts.{between_slashes, is_path_text}
+use Rattle.std.proofs.Common.{◌≡◌, ℕ, zero, suc, ◌+◌, ◌-◌, ◌≤◌, ◌<◌, ◌==◌, Bool, true, false, ◌&&◌, nat_le, List, [], ◌∷◌, ◌++◌, length, take, drop, get_or, ap}
+use Rattle.std.proofs.Common.{refl, sym, ◌∙◌, arith, drop-cons, Some, None, slice_get}
+use Rattle.std.specs.{List.list_all, Prelude.{Option, is_some, MatchOption}, Option.option_map}
+use Rattle.std.proofs.lemmas.{Bool.{eqb-true, le-leb, lt-leb}, List.{take-append-drop, drop_all}}
+use Rattle.ix_model.specs.{declared.name_ref.NameRef.NameRef, world.{Naming.is_name, Texts.{between_slashes, is_path_text}}}
 use Rattle.ix_model.proofs.texts.Joining.{slash_append}
 
 -- what is still to be read, after so many names

@@ -1,32 +1,18 @@
 -- Who exercises a privilege was entitled to it in the frame before.
 use Rattle.std.specs.Option.{option_map_or}
-use Rattle.std.proofs.Common.{◌≡◌, ℕ, true, false, not, true≢false, ◌&&◌, ◌||◌, Option, Some, sym, ap, ◌∙◌}
-use Rattle.std.proofs.lemmas.Bool.{and_parts, and_from}
+use Rattle.std.proofs.{Common.{◌≡◌, ℕ, true, false, not, true≢false, ◌&&◌, ◌||◌, Option, Some, sym, ap, ◌∙◌}, lemmas.Bool.{and_parts, and_from}}
 use Rattle.ix_label.specs.Category.{Categories, bottom, join, leq}
-use Rattle.ix_model.specs.world.Naming.{PathOf}
-use Rattle.ix_model.specs.world.Privs.{has_all}
-use Rattle.ix_model.specs.world.World.{Frame, World, Object, Process, at, living}
-use Rattle.ix_model.specs.rows.Rows.{affect}
-use Rattle.ix_model.specs.rows.Walks.{Sought, walked_to, object_at}
+use Rattle.ix_model.specs.{world.{Naming.PathOf, Privs.has_all, World.{Frame, World, Object, Process, at, living}}, history.Step.{step, plainly, answer}}
+use Rattle.ix_model.specs.rows.{Rows.affect, Walks.{Sought, walked_to, object_at}, Auditing.{exercise, entitled, log_has_room}, Table.row, Telling.told}
+use Rattle.ix_model.specs.{history.AuditLog.{object_of_path, label_at, of_process, exercises, is_answer, is_licensed}, history.Events.{Op, Event}}
+use Rattle.ix_model.specs.{laws.{Looked.along, Privileged.{privilege_of, is_entitled}}, declared.{privs.PrivSet.PrivSet, reply.Reply.Reply}}
 use Rattle.ix_model.specs.rows.Walks as sought
-use Rattle.ix_model.specs.rows.Auditing.{exercise, entitled, log_has_room}
-use Rattle.ix_model.specs.rows.OnLabels.{needs_to_set_ceilings, allowed, movable, set_label, set_self, thaw, thaw_self, set_priv, grant_lic, set_ceiling, read_log}
-use Rattle.ix_model.specs.rows.Table.{row}
-use Rattle.ix_model.specs.rows.Telling.{told}
-use Rattle.ix_model.specs.history.Step.{step, plainly, answer}
-use Rattle.ix_model.specs.history.AuditLog.{object_of_path, label_at, of_process, exercises, is_answer, is_licensed}
-use Rattle.ix_model.specs.laws.Looked.{along}
-use Rattle.ix_model.specs.laws.Privileged.{privilege_of, is_entitled}
-use Rattle.ix_model.specs.history.Events.{Op, Event}
+use Rattle.ix_model.specs.rows.OnLabels.{needs_to_set_ceilings, allowed, movable, set_label, set_self, thaw, thaw_self, set_priv, grant_lic, set_ceiling}
+use Rattle.ix_model.specs.rows.OnLabels.{read_log}
 use Rattle.ix_model.specs.history.Events as op
-use Rattle.ix_model.specs.declared.privs.PrivSet.{PrivSet}
-use Rattle.ix_model.specs.declared.reply.Reply.{Reply}
-use Rattle.ix_model.proofs.words.Living.{is_living}
-use Rattle.ix_model.proofs.words.Ends.{Ends, Anything, ending, ends_bind, ends_then, ends_caller, ends_need}
-use Rattle.ix_model.proofs.words.RowEnds.{ends_logged, ends_log_has_room, ends_movable}
-use Rattle.ix_model.proofs.words.Looks.{ends_touch}
+use Rattle.ix_model.proofs.{words.Living.is_living, words.Ends.{Ends, Anything, ending, ends_bind, ends_then, ends_caller, ends_need}, words.Looks.ends_touch}
+use Rattle.ix_model.proofs.{words.RowEnds.{ends_logged, ends_log_has_room, ends_movable}, words.Answered.passed}
 use Rattle.ix_model.proofs.refused.Seeing.{Seen, seen_nothing, lived_before, ends_seen_walk}
-use Rattle.ix_model.proofs.words.Answered.{passed}
 
 -- where a call exercises a privilege its caller is entitled to it
 pub record Entitles (f : Frame) (pid : ℕ) (c : Op) : Type 0 where

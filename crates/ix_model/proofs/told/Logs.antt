@@ -1,42 +1,26 @@
 -- The log grows by the lines of licensed entries.
-use Rattle.std.proofs.Common.{◌≡◌, ℕ, suc, Bool, true, false, not, ◌&&◌, List, [], ◌∷◌, ◌++◌, Option, Some, refl, sym, ap, ◌∙◌, if◌then◌else◌, append-nil, append_assoc, option_map}
-use Rattle.std.specs.Option.{option_map_or}
-use Rattle.std.specs.List.{list_all}
-use Rattle.ix_label.specs.Category.{Categories, join, leq, same, bottom}
-use Rattle.ix_label.specs.Lattice.{same-decides, join-bottom_right}
-use Rattle.ix_model.specs.world.Naming.{PathOf}
-use Rattle.ix_model.specs.world.Privs.{either_of}
-use Rattle.ix_model.specs.rows.Refusals.{keeps_label}
-use Rattle.ix_model.specs.world.World.{World, Frame, Object, Process, at, change, living, lives}
-use Rattle.ix_model.specs.rows.Outcomes.{Outcome, Refuse, Pass}
+use Rattle.std.proofs.Common.{◌≡◌, ℕ, suc, Bool, true, false, not, ◌&&◌, List, [], ◌∷◌, ◌++◌, Option, Some, refl, sym, ap, ◌∙◌, if◌then◌else◌, append-nil}
+use Rattle.std.proofs.Common.{append_assoc, option_map}
+use Rattle.std.specs.{Option.option_map_or, List.list_all}
+use Rattle.ix_label.specs.{Category.{Categories, join, leq, same, bottom}, Lattice.{same-decides, join-bottom_right}}
+use Rattle.ix_model.specs.{world.{Naming.PathOf, Privs.either_of, World.{World, Frame, Object, Process, at, change, living, lives}}, rows.Refusals.keeps_label}
+use Rattle.ix_model.specs.{rows.Outcomes.{Outcome, Refuse, Pass}, rows.Walks.{Sought, walk, join_all, walked_to, object_at}, rows.Auditing.audit_line}
+use Rattle.ix_model.specs.{rows.OnDescriptors.LengthChecks, rows.OnProcesses.end_process, rows.Table.{Decision, row, settled, verdict}, rows.Telling.told}
+use Rattle.ix_model.specs.history.{Step.{plainly, answer, step, step_of, run}, Events.{Op, Event}}
+use Rattle.ix_model.specs.declared.{privs.PrivSet.PrivSet, audit.{Act.Act, AuditLine.AuditLine}, reply.Reply.Reply}
 use Rattle.ix_model.specs.rows.Rows.{change_object, change_process, put_object, put_open, put_process, add_process, affect, change_open}
-use Rattle.ix_model.specs.rows.Walks.{Sought, walk, join_all, walked_to, object_at}
 use Rattle.ix_model.specs.rows.Walks as sought
-use Rattle.ix_model.specs.rows.Auditing.{audit_line}
-use Rattle.ix_model.specs.rows.OnDescriptors.{LengthChecks}
-use Rattle.ix_model.specs.rows.OnProcesses.{end_process}
 use Rattle.ix_model.specs.rows.OnLabels.{needs_to_set_ceilings, set_label, set_self, thaw, thaw_self, set_priv, grant_lic, set_ceiling, read_log}
-use Rattle.ix_model.specs.rows.Table.{Decision, row, settled, verdict}
-use Rattle.ix_model.specs.rows.Telling.{told}
-use Rattle.ix_model.specs.history.Step.{plainly, answer, step, step_of, run}
-use Rattle.ix_model.specs.history.AuditLog.{object_of_path, label_at, of_process, exercises, is_answer, is_licensed, line_on_object, line_on_process, line_of_act, lines_added, audit_log}
-use Rattle.ix_model.specs.history.Events.{Op, Event}
+use Rattle.ix_model.specs.history.AuditLog.{object_of_path, label_at, of_process, exercises, is_answer, is_licensed, line_on_object, line_on_process, audit_log}
+use Rattle.ix_model.specs.history.AuditLog.{line_of_act, lines_added}
 use Rattle.ix_model.specs.history.Events as op
-use Rattle.ix_model.specs.declared.privs.PrivSet.{PrivSet}
-use Rattle.ix_model.specs.declared.audit.Act.{Act}
 use Rattle.ix_model.specs.declared.audit.Act.TheVariants as act
-use Rattle.ix_model.specs.declared.audit.AuditLine.{AuditLine}
 use Rattle.ix_model.specs.declared.refusal.Refusal.TheVariants as refusal
-use Rattle.ix_model.specs.declared.reply.Reply.{Reply}
 use Rattle.ix_model.specs.declared.reply.Reply.TheVariants as reply
-use Rattle.ix_model.proofs.tables.Tables.{at_changed}
-use Rattle.ix_model.proofs.words.Keeps.{Holds}
-use Rattle.ix_model.proofs.words.Ends.{Ends, Anything, ending, ends_bind, ends_then, ends_pass, ends_frame, ends_caller, ends_there, ends_kept, ends_more}
-use Rattle.ix_model.proofs.words.RowEnds.{endings}
-use Rattle.ix_model.proofs.words.Living.{is_living}
+use Rattle.ix_model.proofs.{tables.Tables.at_changed, words.Keeps.Holds, words.RowEnds.endings, words.Living.is_living, words.Answered.step_frame}
 use Rattle.ix_model.proofs.words.Rowwise.{Change, Logging, Words, changes_of, kept_row}
 use Rattle.ix_model.proofs.refused.Refusing.{Relabelled, Relabels, relabelled_itself, relabelled_observe, refusing_row}
-use Rattle.ix_model.proofs.words.Answered.{step_frame}
+use Rattle.ix_model.proofs.words.Ends.{Ends, Anything, ending, ends_bind, ends_then, ends_pass, ends_frame, ends_caller, ends_there, ends_kept, ends_more}
 
 -- ---- what an entry adds
 -- the lines that a call adds, where it is answered

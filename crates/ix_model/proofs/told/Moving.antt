@@ -1,47 +1,29 @@
 -- What calls make of the privileges of processes and objects.
-use Rattle.std.specs.Option.{option_map_or}
-use Rattle.std.proofs.Common.{◌≡◌, ◌≢◌, ◌==◌, ℕ, Bool, true, false, true≢false, List, [], ◌∷◌, ◌++◌, Option, Some, None, is_some, option_map, refl, sym, ap, ◌∙◌, subst, arith, inl, inr, if◌then◌else◌}
-use Rattle.std.proofs.lemmas.Bool.{eq-eqb}
-use Rattle.std.proofs.lemmas.Bool.Decides.{eqb_tells}
+use Rattle.std.{specs.Option.option_map_or, proofs.lemmas.Bool.{eq-eqb, Decides.eqb_tells}}
+use Rattle.std.proofs.Common.{◌≡◌, ◌≢◌, ◌==◌, ℕ, Bool, true, false, true≢false, List, [], ◌∷◌, ◌++◌, Option, Some, None, is_some, option_map, refl, sym, ap}
+use Rattle.std.proofs.Common.{◌∙◌, subst, arith, inl, inr, if◌then◌else◌}
 use Rattle.ix_label.specs.Category.{Categories, bottom, join}
-use Rattle.ix_model.specs.world.Naming.{PathOf}
-use Rattle.ix_model.specs.world.Privs.{either_of, without, to_grant}
-use Rattle.ix_model.specs.rows.Refusals.{keeps_label}
-use Rattle.ix_model.specs.world.World.{Frame, World, Object, Process, at, change, lives}
-use Rattle.ix_model.specs.rows.Outcomes.{Outcome, Refuse, Pass}
-use Rattle.ix_model.specs.rows.Rows.{affect}
-use Rattle.ix_model.specs.rows.Walks.{OpenFile, behind, object_at}
-use Rattle.ix_model.specs.rows.OnPaths.{create_at, make_dir}
-use Rattle.ix_model.specs.rows.OnDescriptors.{LengthChecks}
-use Rattle.ix_model.specs.rows.OnProcesses.{kept_fds, fork, exec}
-use Rattle.ix_model.specs.rows.OnLabels.{set_priv, drop_lic, grant_lic}
-use Rattle.ix_model.specs.rows.Table.{Decision, row, settled, verdict}
-use Rattle.ix_model.specs.rows.Telling.{told}
-use Rattle.ix_model.specs.history.Step.{step, answer, plainly, read_answer, write_answer, cut_answer, seek_answer, stat_answer, exit_answer, wait_answer, pex_answer}
-use Rattle.ix_model.specs.history.AuditLog.{object_of_path, is_answer}
+use Rattle.ix_model.specs.world.{Naming.PathOf, Privs.{either_of, without, to_grant}, World.{Frame, World, Object, Process, at, change, lives}}
+use Rattle.ix_model.specs.{rows.Refusals.keeps_label, rows.Outcomes.{Outcome, Refuse, Pass}, rows.Rows.affect, rows.Walks.{OpenFile, behind, object_at}}
+use Rattle.ix_model.specs.{rows.OnPaths.{create_at, make_dir}, rows.OnDescriptors.LengthChecks, rows.OnProcesses.{kept_fds, fork, exec}, rows.Telling.told}
+use Rattle.ix_model.specs.{rows.OnLabels.{set_priv, drop_lic, grant_lic}, rows.Table.{Decision, row, settled, verdict}}
+use Rattle.ix_model.specs.{history.{AuditLog.{object_of_path, is_answer}, Events.Op}, declared.{call.Keep.Keep, privs.PrivSet.PrivSet, reply.Reply.Reply}}
+use Rattle.ix_model.specs.history.Step.{step, answer, plainly, read_answer, write_answer, cut_answer, seek_answer, stat_answer, exit_answer, wait_answer}
+use Rattle.ix_model.specs.history.Step.{pex_answer}
 use Rattle.ix_model.specs.laws.Privileged.{Privileges, Carried, privileges, carried_by, carried_at, carries_none, privileges_after, carried_after, PrivilegesAs}
-use Rattle.ix_model.specs.history.Events.{Op}
 use Rattle.ix_model.specs.history.Events as op
-use Rattle.ix_model.specs.declared.call.Keep.{Keep}
-use Rattle.ix_model.specs.declared.privs.PrivSet.{PrivSet}
 use Rattle.ix_model.specs.declared.reply.Kind.TheVariants as kind
-use Rattle.ix_model.specs.declared.reply.Reply.{Reply}
 use Rattle.ix_model.specs.declared.reply.Reply.TheVariants as reply
 use Rattle.ix_model.specs.declared.refusal.Refusal.TheVariants as refusal
-use Rattle.ix_model.proofs.tables.Tables.{at_changed}
-use Rattle.ix_model.proofs.tables.Finds.{at_change}
-use Rattle.ix_model.proofs.words.Living.{is_living}
-use Rattle.ix_model.proofs.words.Keeps.{Keeps}
-use Rattle.ix_model.proofs.words.Ends.{Ends, Anything, ends_bind, ends_then, ends_caller, ends_object, ends_need, ends_frame, ends_pass, ends_there, ends_kept, ends_change_caller, ends_change_object}
-use Rattle.ix_model.proofs.words.Endings.{ends_add_process}
-use Rattle.ix_model.proofs.words.RowEnds.{ends_exercise, ends_logged}
-use Rattle.ix_model.proofs.refused.Seeing.{Seen, seen_nothing, ends_seen, ends_seen_walk}
-use Rattle.ix_model.proofs.refused.Refusing.{Relabelled, relabelled_itself, refusing_row}
-use Rattle.ix_model.proofs.words.Answered.{step_frame}
-use Rattle.ix_model.proofs.told.Unmoved.{CallersOwn, Unmoved, unmoved_itself, kept_change, kept_push, u_affect, u_make, u_link_at, u_unlink_at}
-use Rattle.ix_model.proofs.told.Unmoved.{u_remove_dir, u_open_at, u_change_dir, u_stat_at, u_list_at, u_read_fd, u_write_fd, u_cut_fd, u_seek_fd}
-use Rattle.ix_model.proofs.told.Unmoved.{u_dup_fd, u_close_fd, u_make_pipe, u_pex, u_unpex, u_exit, u_wait_child, u_label_of, u_self_label}
-use Rattle.ix_model.proofs.told.Unmoved.{u_set_label, u_set_self, u_freeze, u_freeze_self, u_thaw, u_thaw_self, u_set_ceiling, u_read_log}
+use Rattle.ix_model.proofs.tables.{Tables.at_changed, Finds.at_change}
+use Rattle.ix_model.proofs.words.{Living.is_living, Keeps.Keeps, Endings.ends_add_process, RowEnds.{ends_exercise, ends_logged}, Answered.step_frame}
+use Rattle.ix_model.proofs.refused.{Seeing.{Seen, seen_nothing, ends_seen, ends_seen_walk}, Refusing.{Relabelled, relabelled_itself, refusing_row}}
+use Rattle.ix_model.proofs.words.Ends.{Ends, Anything, ends_bind, ends_then, ends_caller, ends_object, ends_need, ends_frame, ends_pass, ends_there, ends_kept}
+use Rattle.ix_model.proofs.words.Ends.{ends_change_caller, ends_change_object}
+use Rattle.ix_model.proofs.told.Unmoved.{CallersOwn, Unmoved, unmoved_itself, kept_change, kept_push, u_affect, u_make, u_link_at, u_unlink_at, u_remove_dir}
+use Rattle.ix_model.proofs.told.Unmoved.{u_open_at, u_change_dir, u_stat_at, u_list_at, u_read_fd, u_write_fd, u_cut_fd, u_seek_fd, u_dup_fd, u_close_fd, u_pex}
+use Rattle.ix_model.proofs.told.Unmoved.{u_make_pipe, u_unpex, u_exit, u_wait_child, u_label_of, u_self_label, u_set_label, u_set_self, u_freeze, u_freeze_self}
+use Rattle.ix_model.proofs.told.Unmoved.{u_thaw, u_thaw_self, u_set_ceiling, u_read_log}
 
 module _ (f : Frame) (pid : ℕ) where
   pub Moves : Op → Frame → Type 0

@@ -1,40 +1,25 @@
 -- Every reply to a call fits it: the row passes what the table says, and the content fills in no more than that.
 use Rattle.std.proofs.Common.{◌≡◌, ◌≤◌, ℕ, Bool, true, false, List, length, take, length-set, Option, Some, None, nat_le, arith, if◌then◌else◌}
-use Rattle.std.proofs.lemmas.Bool.{leb-true}
-use Rattle.std.proofs.lemmas.List.{length-take}
+use Rattle.std.proofs.lemmas.{Bool.leb-true, List.length-take}
 use Rattle.ix_label.specs.Category.{Categories}
-use Rattle.ix_model.specs.world.Naming.{PathOf}
-use Rattle.ix_model.specs.world.World.{World, Frame, Process, at, put, living, lives, lowest_free}
-use Rattle.ix_model.specs.rows.Outcomes.{Outcome, Refuse, Pass}
-use Rattle.ix_model.specs.rows.Rows.{observe}
-use Rattle.ix_model.specs.rows.Walks.{Sought, OpenFile, behind, walked_to, object_at, spot_at, missing}
+use Rattle.ix_model.specs.{world.{Naming.PathOf, World.{World, Frame, Process, at, put, living, lives, lowest_free}, Contents.readable}, rows.Rows.observe}
+use Rattle.ix_model.specs.{rows.Outcomes.{Outcome, Refuse, Pass}, rows.Walks.{Sought, OpenFile, behind, walked_to, object_at, spot_at, missing}}
+use Rattle.ix_model.specs.{rows.OnProcesses.{fork, exec, exit, wait_child}, rows.Table.{Decision, row, settled, verdict}, rows.Telling.told, laws.Sound.Sound}
+use Rattle.ix_model.specs.history.{Systems.{AreRead, IsClaim, FitsCall}, Events.Op}
+use Rattle.ix_model.specs.declared.{call.{Keep.Keep, Mode.Mode}, privs.PrivSet.PrivSet, reply.Reply.Reply, refusal.Refusal.Refusal}
 use Rattle.ix_model.specs.rows.OnPaths.{make, create_at, make_dir, open_at, link_at, unlink_at, remove_dir, change_dir, stat_at, list_at}
 use Rattle.ix_model.specs.rows.OnDescriptors.{LengthChecks, read_fd, write_fd, cut_fd, seek_fd, dup_fd, close_fd, make_pipe, claimed, pex, unpex}
-use Rattle.ix_model.specs.rows.OnProcesses.{fork, exec, exit, wait_child}
-use Rattle.ix_model.specs.rows.OnLabels.{label_of, self_label, set_label, set_self, freeze, freeze_self, thaw, thaw_self, set_priv, drop_lic, grant_lic, set_ceiling, read_log}
-use Rattle.ix_model.specs.rows.Table.{Decision, row, settled, verdict}
-use Rattle.ix_model.specs.rows.Telling.{told}
-use Rattle.ix_model.specs.world.Contents.{readable}
-use Rattle.ix_model.specs.history.Step.{plainly, read_answer, write_answer, cut_answer, seek_answer, stat_answer, exit_answer, wait_answer, pex_answer, answer, step}
-use Rattle.ix_model.specs.history.Systems.{AreRead, IsClaim, FitsCall}
-use Rattle.ix_model.specs.laws.Sound.{Sound}
-use Rattle.ix_model.specs.history.Events.{Op}
+use Rattle.ix_model.specs.rows.OnLabels.{label_of, self_label, set_label, set_self, freeze, freeze_self, thaw, thaw_self, set_priv, drop_lic, grant_lic}
+use Rattle.ix_model.specs.rows.OnLabels.{set_ceiling, read_log}
+use Rattle.ix_model.specs.history.Step.{plainly, read_answer, write_answer, cut_answer, seek_answer, stat_answer, exit_answer, wait_answer, pex_answer, answer}
+use Rattle.ix_model.specs.history.Step.{step}
 use Rattle.ix_model.specs.history.Events as op
-use Rattle.ix_model.specs.declared.call.Keep.{Keep}
-use Rattle.ix_model.specs.declared.call.Mode.{Mode}
-use Rattle.ix_model.specs.declared.privs.PrivSet.{PrivSet}
 use Rattle.ix_model.specs.declared.reply.Kind.TheVariants as kind
-use Rattle.ix_model.specs.declared.reply.Reply.{Reply}
 use Rattle.ix_model.specs.declared.reply.Reply.TheVariants as reply
-use Rattle.ix_model.specs.declared.refusal.Refusal.{Refusal}
 use Rattle.ix_model.specs.declared.refusal.Refusal.TheVariants as refusal
-use Rattle.ix_model.proofs.tables.FreeNumbers.{lowest_free_is}
-use Rattle.ix_model.proofs.words.Living.{is_living}
-use Rattle.ix_model.proofs.words.Ends.{Ends, Anything, ending, ends_kept}
-use Rattle.ix_model.proofs.words.RowEnds.{endings, ends_let_go_object, ends_let_go, ends_let_go_all}
-use Rattle.ix_model.proofs.words.Looks.{ends_touch, ends_float_entry}
-use Rattle.ix_model.proofs.frames.Frames.{FrameSound, Follows, frame_of, follows_itself, follows_observe}
-use Rattle.ix_model.proofs.sound.Steadily.{follows_walked_to}
+use Rattle.ix_model.proofs.{tables.FreeNumbers.lowest_free_is, words.Living.is_living, words.Ends.{Ends, Anything, ending, ends_kept}}
+use Rattle.ix_model.proofs.{words.RowEnds.{endings, ends_let_go_object, ends_let_go, ends_let_go_all}, words.Looks.{ends_touch, ends_float_entry}}
+use Rattle.ix_model.proofs.{frames.Frames.{FrameSound, Follows, frame_of, follows_itself, follows_observe}, sound.Steadily.follows_walked_to}
 
 -- ---- what a row passes
 -- a read's row passes what the content fills in, and lets no greater count through

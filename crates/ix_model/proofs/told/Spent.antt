@@ -1,22 +1,12 @@
 -- A pid is used once.
-use Rattle.std.proofs.Common.{◌≡◌, ℕ, suc, Bool, true, false, not, List, [], ◌∷◌, length, Option, Some, None, is_none, is_some, refl, ap, ◌∙◌, arith, length-set, length-append, if◌then◌else◌}
-use Rattle.std.specs.Option.{option_map_or, option_and_then}
-use Rattle.std.proofs.Math.ListN.{get_or-append}
-use Rattle.ix_model.specs.world.World.{World, Frame, Process, at}
-use Rattle.ix_model.specs.rows.Rows.{change_object, change_process, put_object, put_open, put_process, add_process, change_open}
-use Rattle.ix_model.specs.rows.Auditing.{logged}
-use Rattle.ix_model.specs.rows.OnProcesses.{remains, end_process}
-use Rattle.ix_model.specs.rows.OnDescriptors.{LengthChecks}
-use Rattle.ix_model.specs.rows.Table.{verdict}
-use Rattle.ix_model.specs.rows.Telling.{told}
-use Rattle.ix_model.specs.history.Step.{step, step_of, run}
-use Rattle.ix_model.specs.history.Events.{Op, Event}
-use Rattle.ix_model.specs.laws.Laws.{PidsSpent}
+use Rattle.std.proofs.Common.{◌≡◌, ℕ, suc, Bool, true, false, not, List, [], ◌∷◌, length, Option, Some, None, is_none, is_some, refl, ap, ◌∙◌, arith}
+use Rattle.std.proofs.Common.{length-set, length-append, if◌then◌else◌}
+use Rattle.std.{specs.Option.{option_map_or, option_and_then}, proofs.Math.ListN.get_or-append}
+use Rattle.ix_model.specs.{world.World.{World, Frame, Process, at}, rows.Auditing.logged, rows.OnProcesses.{remains, end_process}, rows.Table.verdict}
+use Rattle.ix_model.specs.{rows.Rows.{change_object, change_process, put_object, put_open, put_process, add_process, change_open}, rows.Telling.told}
+use Rattle.ix_model.specs.{rows.OnDescriptors.LengthChecks, history.{Step.{step, step_of, run}, Events.{Op, Event}}, laws.Laws.PidsSpent}
 use Rattle.ix_model.proofs.tables.Tables.{none_is, seen_changed, seen_put}
-use Rattle.ix_model.proofs.words.Keeps.{Holds, Keeps}
-use Rattle.ix_model.proofs.words.Rowwise.{Words, all, bears_all, changes_of, kept_row}
-use Rattle.ix_model.proofs.words.Lasts.{decided}
-use Rattle.ix_model.proofs.words.Answered.{step_frame}
+use Rattle.ix_model.proofs.words.{Keeps.{Holds, Keeps}, Rowwise.{Words, all, bears_all, changes_of, kept_row}, Lasts.decided, Answered.step_frame}
 
 -- ---- the words
 -- whether a record is of a living process

@@ -1,43 +1,25 @@
 -- A call changes few labels.
-use Rattle.std.proofs.Common.{◌≡◌, ◌≢◌, ◌≤◌, ◌<◌, ◌==◌, ℕ, zero, suc, Bool, true, false, List, [], ◌∷◌, ◌++◌, length, Option, Some, None, is_some}
-use Rattle.std.proofs.Common.{option_map, refl, sym, ap, ◌∙◌, arith, length-set, length-append, inl, inr, true≢false}
-use Rattle.std.specs.List.{list_all}
-use Rattle.std.proofs.lemmas.Bool.{eqb-false}
-use Rattle.std.proofs.lemmas.Bool.Decides.{eqb_tells}
-use Rattle.std.proofs.Math.ListN.{get_or-append}
-use Rattle.std.proofs.lemmas.List.{get_or-set_other}
+use Rattle.std.proofs.Common.{◌≡◌, ◌≢◌, ◌≤◌, ◌<◌, ◌==◌, ℕ, zero, suc, Bool, true, false, List, [], ◌∷◌, ◌++◌, length, Option, Some, None, is_some, option_map}
+use Rattle.std.proofs.Common.{refl, sym, ap, ◌∙◌, arith, length-set, length-append, inl, inr, true≢false}
+use Rattle.std.{specs.List.list_all, proofs.{lemmas.{Bool.{eqb-false, Decides.eqb_tells}, List.get_or-set_other}, Math.ListN.get_or-append}}
 use Rattle.ix_label.specs.Category.{Categories}
-use Rattle.ix_model.specs.world.Naming.{PathOf}
-use Rattle.ix_model.specs.world.Numbers.{free_inode}
-use Rattle.ix_model.specs.world.World.{World, Frame, Object, Process, at, put, change, Open}
-use Rattle.ix_model.specs.rows.Outcomes.{Row}
-use Rattle.ix_model.specs.rows.Rows.{◌>>=◌, ◌>>◌, some, only_if, frame, change_object, change_process, put_object, put_open, put_process, add_process, observe, affect, change_open}
-use Rattle.ix_model.specs.rows.Walks.{walked_to, object_at, spot_at, missing, opened, OpenFile}
-use Rattle.ix_model.specs.rows.Lifetimes.{let_go_object}
-use Rattle.ix_model.specs.rows.Auditing.{logged}
-use Rattle.ix_model.specs.rows.OnPaths.{new_object, make, create_at, make_dir, link_at, unlink_at, remove_dir}
-use Rattle.ix_model.specs.rows.OnDescriptors.{LengthChecks, write_fd, cut_fd, float_entry}
-use Rattle.ix_model.specs.rows.OnProcesses.{end_process}
-use Rattle.ix_model.specs.rows.OnLabels.{set_label, freeze, set_priv}
-use Rattle.ix_model.specs.rows.Table.{row, verdict}
-use Rattle.ix_model.specs.rows.Telling.{told}
-use Rattle.ix_model.specs.history.Step.{step}
-use Rattle.ix_model.specs.laws.Laws.{LabelsStay}
-use Rattle.ix_model.specs.history.Events.{Op}
+use Rattle.ix_model.specs.{world.{Naming.PathOf, Numbers.free_inode, World.{World, Frame, Object, Process, at, put, change, Open}}, rows.Outcomes.Row}
+use Rattle.ix_model.specs.{rows.Walks.{walked_to, object_at, spot_at, missing, opened, OpenFile}, rows.Lifetimes.let_go_object, rows.Auditing.logged}
+use Rattle.ix_model.specs.{rows.OnPaths.{new_object, make, create_at, make_dir, link_at, unlink_at, remove_dir}, rows.OnProcesses.end_process}
+use Rattle.ix_model.specs.{rows.OnDescriptors.{LengthChecks, write_fd, cut_fd, float_entry}, rows.OnLabels.{set_label, freeze, set_priv}, rows.Telling.told}
+use Rattle.ix_model.specs.{rows.Table.{row, verdict}, history.{Step.step, Events.Op}, laws.Laws.LabelsStay}
+use Rattle.ix_model.specs.declared.{privs.PrivSet.PrivSet, audit.AuditLine.AuditLine, refusal.Refusal.Refusal, reply.Kind.Kind}
+use Rattle.ix_model.specs.rows.Rows.{◌>>=◌, ◌>>◌, some, only_if, frame, change_object, change_process, put_object, put_open, put_process, add_process, observe}
+use Rattle.ix_model.specs.rows.Rows.{affect, change_open}
 use Rattle.ix_model.specs.history.Events as op
-use Rattle.ix_model.specs.declared.privs.PrivSet.{PrivSet}
-use Rattle.ix_model.specs.declared.audit.AuditLine.{AuditLine}
-use Rattle.ix_model.specs.declared.refusal.Refusal.{Refusal}
-use Rattle.ix_model.specs.declared.reply.Kind.{Kind}
 use Rattle.ix_model.specs.declared.reply.Kind.TheVariants as kind
-use Rattle.ix_model.proofs.tables.Tables.{seen_changed}
+use Rattle.ix_model.proofs.{tables.{Tables.seen_changed, FreeNumbers.{free_inode_is, free_pipe_is}}, words.Answered.step_frame}
 use Rattle.ix_model.proofs.words.Keeps.{Holds, Keeps, keeping, keeping_tests, keeps_only_if}
-use Rattle.ix_model.proofs.tables.FreeNumbers.{free_inode_is, free_pipe_is}
 use Rattle.ix_model.proofs.words.Lasts.{Lasting, lasting_itself, lasting_change, lasting_put, decided}
-use Rattle.ix_model.proofs.words.Rowwise.{Change, Relabelling, Making, LettingGo, Words, changes_of, object_core, kept_observe, kept_walked_to}
-use Rattle.ix_model.proofs.words.Rowwise.{kept_found, kept_found_in, kept_missing, kept_opened, kept_row}
-use Rattle.ix_model.proofs.words.Turns.{Turns, holds_more, turns_bind_frame, turns_bind_some, turns_bind_first, turns_then_first, turns_then_last, turns_only_if}
-use Rattle.ix_model.proofs.words.Answered.{step_frame}
+use Rattle.ix_model.proofs.words.Rowwise.{Change, Relabelling, Making, LettingGo, Words, changes_of, object_core, kept_observe, kept_walked_to, kept_found}
+use Rattle.ix_model.proofs.words.Rowwise.{kept_found_in, kept_missing, kept_opened, kept_row}
+use Rattle.ix_model.proofs.words.Turns.{Turns, holds_more, turns_bind_frame, turns_bind_some, turns_bind_first, turns_then_first, turns_then_last}
+use Rattle.ix_model.proofs.words.Turns.{turns_only_if}
 
 -- ---- tables
 -- what stands in both has the same in both, but at the numbers of the exception

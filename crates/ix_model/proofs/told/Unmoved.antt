@@ -1,30 +1,20 @@
 -- The privileges of processes and objects: what rows leave of them that change none.
 use Rattle.std.specs.Option.{option_and_then}
-use Rattle.std.proofs.Common.{◌≡◌, ◌≤◌, ℕ, Bool, true, false, true≢false, List, [], ◌∷◌, ◌++◌, length, Option, Some, None, is_some, option_map, refl}
-use Rattle.std.proofs.Common.{sym, ap, ◌∙◌, subst, arith, inl, inr, if◌then◌else◌}
+use Rattle.std.proofs.Common.{◌≡◌, ◌≤◌, ℕ, Bool, true, false, true≢false, List, [], ◌∷◌, ◌++◌, length, Option, Some, None, is_some, option_map, refl, sym, ap}
+use Rattle.std.proofs.Common.{◌∙◌, subst, arith, inl, inr, if◌then◌else◌}
 use Rattle.ix_label.specs.Category.{Categories}
-use Rattle.ix_model.specs.world.Naming.{PathOf}
-use Rattle.ix_model.specs.world.Numbers.{free_inode, free_pipe}
-use Rattle.ix_model.specs.world.World.{Frame, Object, Process, Open, at, put, change}
+use Rattle.ix_model.specs.{world.{Naming.PathOf, Numbers.{free_inode, free_pipe}, World.{Frame, Object, Process, Open, at, put, change}}, rows.Auditing.logged}
 use Rattle.ix_model.specs.rows.Rows.{change_object, change_process, put_object, put_process, put_open, change_open, observe, affect}
-use Rattle.ix_model.specs.rows.Walks.{OpenFile, walked_to, object_at, spot_at, missing, opened}
-use Rattle.ix_model.specs.rows.Lifetimes.{let_go_object, let_go, let_go_all}
-use Rattle.ix_model.specs.rows.Auditing.{logged}
+use Rattle.ix_model.specs.{rows.Walks.{OpenFile, walked_to, object_at, spot_at, missing, opened}, rows.Lifetimes.{let_go_object, let_go, let_go_all}}
 use Rattle.ix_model.specs.rows.OnPaths.{new_object, make, open_at, link_at, unlink_at, remove_dir, change_dir, stat_at, list_at}
-use Rattle.ix_model.specs.rows.OnDescriptors.{LengthChecks, float_entry, read_fd, write_fd, cut_fd, seek_fd, dup_fd, close_fd, make_pipe, pex, unpex}
-use Rattle.ix_model.specs.rows.OnProcesses.{remains, end_process, exit, wait_child}
-use Rattle.ix_model.specs.rows.OnLabels.{label_of, self_label, set_label, set_self, freeze, freeze_self, thaw, thaw_self, set_ceiling, read_log}
+use Rattle.ix_model.specs.{rows.OnProcesses.{remains, end_process, exit, wait_child}, declared.{call.Mode.Mode, audit.AuditLine.AuditLine, reply.Kind.Kind}}
 use Rattle.ix_model.specs.laws.Privileged.{Privileges, Carried, privileges, carried_by, carries_none}
-use Rattle.ix_model.specs.declared.call.Mode.{Mode}
-use Rattle.ix_model.specs.declared.audit.AuditLine.{AuditLine}
-use Rattle.ix_model.specs.declared.reply.Kind.{Kind}
+use Rattle.ix_model.specs.rows.OnDescriptors.{LengthChecks, float_entry, read_fd, write_fd, cut_fd, seek_fd, dup_fd, close_fd, make_pipe, pex, unpex}
+use Rattle.ix_model.specs.rows.OnLabels.{label_of, self_label, set_label, set_self, freeze, freeze_self, thaw, thaw_self, set_ceiling, read_log}
 use Rattle.ix_model.specs.declared.reply.Kind.TheVariants as kind
-use Rattle.ix_model.proofs.tables.Finds.{at_put, at_push, at_change, in_table}
-use Rattle.ix_model.proofs.tables.FreeNumbers.{free_inode_is, free_pipe_is}
-use Rattle.ix_model.proofs.words.Lasts.{Lasting, lasting_itself, lasting_change, lasting_put}
-use Rattle.ix_model.proofs.words.LetGo.{LetsGo, keeps_let_go_object, keeps_let_go, keeps_let_go_all}
-use Rattle.ix_model.proofs.words.Keeps.{Holds, Keeps, keeping, keeping_tests}
-use Rattle.ix_model.proofs.words.Rowwise.{keeps_bind_frame, keeps_bind_some}
+use Rattle.ix_model.proofs.tables.{Finds.{at_put, at_push, at_change, in_table}, FreeNumbers.{free_inode_is, free_pipe_is}}
+use Rattle.ix_model.proofs.{words.Lasts.{Lasting, lasting_itself, lasting_change, lasting_put}, words.Keeps.{Holds, Keeps, keeping, keeping_tests}}
+use Rattle.ix_model.proofs.{words.LetGo.{LetsGo, keeps_let_go_object, keeps_let_go, keeps_let_go_all}, words.Rowwise.{keeps_bind_frame, keeps_bind_some}}
 
 -- ---- tables
 -- what stands in both has the same, and what is new has what a new one may have

@@ -1,10 +1,6 @@
 -- No history changes the limits, the file systems, or how many numbers of objects and open entries there are.
 use Rattle.std.proofs.Common.{ℕ, suc, List, [], ◌∷◌, refl, ◌∙◌}
-use Rattle.ix_model.specs.world.World.{World}
-use Rattle.ix_model.specs.history.Step.{step_of, run}
-use Rattle.ix_model.specs.laws.CallLaws.{LimitsStay}
-use Rattle.ix_model.specs.history.Events.{Event}
-use Rattle.ix_model.proofs.words.Fixed.{fixed_step}
+use Rattle.ix_model.{specs.{world.World.World, history.{Step.{step_of, run}, Events.Event}, laws.CallLaws.LimitsStay}, proofs.words.Fixed.fixed_step}
 
 pub limits_stay : (w : World) (place : ℕ) (h : List Event) → LimitsStay w.frame (run w place h).frame
 limits_stay w place [] = record { limits = refl; fss = refl; objects = refl; opens = refl }

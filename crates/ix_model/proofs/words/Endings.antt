@@ -1,10 +1,8 @@
 -- What is known where the words end that make and unmake.
 use Rattle.std.proofs.Common.{◌≡◌, ℕ, Option, Some, [], ◌∷◌, ◌++◌}
-use Rattle.ix_model.specs.world.World.{Frame, Object, Process, at, put}
-use Rattle.ix_model.specs.rows.Rows.{put_object, put_process, add_process, record_of}
-use Rattle.ix_model.specs.declared.refusal.Refusal.{Refusal}
+use Rattle.ix_model.{specs.world.World.{Frame, Object, Process, at, put}, specs.rows.Rows.{put_object, put_process, add_process, record_of}}
+use Rattle.ix_model.{specs.declared.refusal.Refusal.Refusal, proofs.words.Ends.{Ends, ends_some}}
 use Rattle.ix_model.specs.declared.refusal.Refusal.TheVariants as refusal
-use Rattle.ix_model.proofs.words.Ends.{Ends, ends_some}
 
 pub ends_put_object : (o : ℕ) (x : Option Object) (f : Frame) (P : Refusal → Frame → Type 0) (Q : Unit {0} → Frame → Type 0)
     → Q tt (record f { objects = put f.objects o x }) → Ends (put_object o x f) P Q

@@ -1,13 +1,11 @@
 -- What is known where a row ends: P of a refusal and its frame, Q of what it passes and its frame.
 use Rattle.std.proofs.Common.{ℕ, ◌≡◌, Bool, true, false, Option, Some, None, refl, subst}
-use Rattle.ix_model.specs.world.World.{Frame, Object, Process, Open, at, put, change, living}
-use Rattle.ix_model.specs.rows.Outcomes.{Row, Outcome, Refuse, Pass}
-use Rattle.ix_model.specs.rows.Rows.{◌>>=◌, ◌>>◌, on_pass, pass, refuse, need, some, only_if, frame, process, object, change_object, change_process, put_open, change_open}
-use Rattle.ix_model.specs.rows.Walks.{Sought, OpenFile, found_object, behind, opened}
+use Rattle.ix_model.{specs.world.World.{Frame, Object, Process, Open, at, put, change, living}, specs.rows.Outcomes.{Row, Outcome, Refuse, Pass}}
+use Rattle.ix_model.{specs.rows.Walks.{Sought, OpenFile, found_object, behind, opened}, specs.declared.refusal.Refusal.Refusal, proofs.words.Keeps.Holds}
+use Rattle.ix_model.specs.rows.Rows.{◌>>=◌, ◌>>◌, on_pass, pass, refuse, need, some, only_if, frame, process, object, change_object, change_process, put_open}
+use Rattle.ix_model.specs.rows.Rows.{change_open}
 use Rattle.ix_model.specs.rows.Walks as sought
-use Rattle.ix_model.specs.declared.refusal.Refusal.{Refusal}
 use Rattle.ix_model.specs.declared.refusal.Refusal.TheVariants as refusal
-use Rattle.ix_model.proofs.words.Keeps.{Holds}
 
 unfoldable pub Ends : {A : Type 0} → Outcome A → (Refusal → Frame → Type 0) → (A → Frame → Type 0) → Type 0
 Ends (Refuse r g) P Q = P r g

@@ -1,19 +1,9 @@
 -- What no call changes: the limits, the file systems, and the lengths of the objects' and the open entries' tables.
 use Rattle.std.proofs.Common.{◌≡◌, ℕ, Option, Some, None, refl, sym, subst, ◌∙◌, length, length-set}
-use Rattle.ix_model.specs.world.World.{World, Frame, Object, Process, Open}
-use Rattle.ix_model.specs.rows.Rows.{change_object, change_process, put_object, put_open, put_process, add_process, change_open}
-use Rattle.ix_model.specs.rows.Auditing.{logged}
-use Rattle.ix_model.specs.rows.OnProcesses.{end_process}
-use Rattle.ix_model.specs.rows.OnDescriptors.{LengthChecks}
-use Rattle.ix_model.specs.rows.Table.{verdict}
-use Rattle.ix_model.specs.rows.Telling.{told}
-use Rattle.ix_model.specs.history.Step.{step}
-use Rattle.ix_model.specs.history.Events.{Op}
-use Rattle.ix_model.specs.declared.audit.AuditLine.{AuditLine}
-use Rattle.ix_model.proofs.words.Keeps.{Holds, Keeps}
-use Rattle.ix_model.proofs.words.Rowwise.{Words, changes_of, kept_row, all, bears_all}
-use Rattle.ix_model.proofs.words.Lasts.{decided}
-use Rattle.ix_model.proofs.words.Answered.{step_frame}
+use Rattle.ix_model.specs.{world.World.{World, Frame, Object, Process, Open}, rows.Auditing.logged, rows.OnProcesses.end_process, rows.Table.verdict}
+use Rattle.ix_model.specs.{rows.Rows.{change_object, change_process, put_object, put_open, put_process, add_process, change_open}, rows.Telling.told}
+use Rattle.ix_model.specs.{rows.OnDescriptors.LengthChecks, history.{Step.step, Events.Op}, declared.audit.AuditLine.AuditLine}
+use Rattle.ix_model.proofs.words.{Keeps.{Holds, Keeps}, Rowwise.{Words, changes_of, kept_row, all, bears_all}, Lasts.decided, Answered.step_frame}
 
 pub record Fixed (f g : Frame) : Type 0 where
   pub limits : g.limits ≡ f.limits

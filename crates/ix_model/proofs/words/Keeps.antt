@@ -1,16 +1,11 @@
 -- A row keeps what each of its words keeps.
 use Rattle.std.proofs.Common.{ℕ, Bool, true, false, Option, Some, None}
 use Rattle.ix_label.specs.Category.{Categories}
-use Rattle.ix_model.specs.world.World.{Frame, Object, at, living}
-use Rattle.ix_model.specs.rows.Outcomes.{Row, Outcome, Refuse, Pass}
+use Rattle.ix_model.specs.{world.World.{Frame, Object, at, living}, rows.Outcomes.{Row, Outcome, Refuse, Pass}, rows.OnLabels.{allowed, movable}}
+use Rattle.ix_model.specs.{rows.Walks.{Sought, found_object, found_spot, vacant}, rows.Auditing.{entitled, log_has_room, exercise}, rows.OnDescriptors.claimed}
+use Rattle.ix_model.specs.declared.{privs.PrivSet.PrivSet, refusal.Refusal.Refusal}
 use Rattle.ix_model.specs.rows.Rows.{◌>>=◌, ◌>>◌, on_pass, pass, refuse, need, some, only_if, frame, process, object, record_of}
-use Rattle.ix_model.specs.rows.Walks.{Sought, found_object, found_spot, vacant}
-use Rattle.ix_model.specs.rows.Auditing.{entitled, log_has_room, exercise}
-use Rattle.ix_model.specs.rows.OnLabels.{allowed, movable}
-use Rattle.ix_model.specs.rows.OnDescriptors.{claimed}
-use Rattle.ix_model.specs.declared.privs.PrivSet.{PrivSet}
 use Rattle.ix_model.specs.rows.Walks as sought
-use Rattle.ix_model.specs.declared.refusal.Refusal.{Refusal}
 
 -- R holds of the frame that the outcome has, passed or refused
 unfoldable pub Holds : {A : Type 0} → Outcome A → (Frame → Type 0) → Type 0

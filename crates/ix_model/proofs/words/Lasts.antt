@@ -2,21 +2,13 @@
 use Rattle.std.proofs.Common.{ℕ, zero, suc, ◌≡◌, Bool, true, false, List, [], ◌∷◌, Option, Some, is_some, refl, ap, ◌∙◌, length, length-set, if◌then◌else◌}
 use Rattle.std.specs.List.{list_all}
 use Rattle.ix_label.specs.Category.{Categories}
-use Rattle.ix_model.specs.world.World.{Frame, Object, Process, Open, at, put, change, lives, is_ended}
-use Rattle.ix_model.specs.rows.Outcomes.{Outcome, Refuse, Pass}
-use Rattle.ix_model.specs.rows.Rows.{put_open, put_object, change_object, change_process, change_open}
-use Rattle.ix_model.specs.rows.Auditing.{logged}
-use Rattle.ix_model.specs.rows.Refusals.{keeps_label}
-use Rattle.ix_model.specs.rows.OnDescriptors.{LengthChecks}
-use Rattle.ix_model.specs.rows.Table.{Decision, row, settled, verdict}
-use Rattle.ix_model.specs.history.Events.{Op}
-use Rattle.ix_model.specs.declared.audit.AuditLine.{AuditLine}
-use Rattle.ix_model.specs.declared.reply.Reply.{Reply}
+use Rattle.ix_model.specs.{world.World.{Frame, Object, Process, Open, at, put, change, lives, is_ended}, rows.Outcomes.{Outcome, Refuse, Pass}}
+use Rattle.ix_model.specs.{rows.Rows.{put_open, put_object, change_object, change_process, change_open}, rows.Auditing.logged, rows.Refusals.keeps_label}
+use Rattle.ix_model.specs.{rows.OnDescriptors.LengthChecks, rows.Table.{Decision, row, settled, verdict}, history.Events.Op}
+use Rattle.ix_model.specs.declared.{audit.AuditLine.AuditLine, reply.Reply.Reply}
 use Rattle.ix_model.specs.declared.reply.Reply.TheVariants as reply
 use Rattle.ix_model.specs.declared.refusal.Refusal.TheVariants as refusal
-use Rattle.ix_model.proofs.tables.Tables.{seen_changed}
-use Rattle.ix_model.proofs.words.Keeps.{Holds, Keeps}
-use Rattle.ix_model.proofs.words.Rowwise.{Change, LettingGo, Forking, Ending, Words, changes_of, kept_row}
+use Rattle.ix_model.proofs.{tables.Tables.seen_changed, words.{Keeps.{Holds, Keeps}, Rowwise.{Change, LettingGo, Forking, Ending, Words, changes_of, kept_row}}}
 
 -- what stands in the first table stands in the second
 pub record Lasting {A : Type 0} (t u : List (Option A)) : Type 0 where

@@ -1,12 +1,8 @@
 -- What lets go of descriptors keeps what its words keep.
-use Rattle.std.proofs.Common.{ℕ, List, [], ◌∷◌, Option, Some, None}
-use Rattle.std.specs.List.{range_with_len}
-use Rattle.std.specs.Option.{option_map_or}
-use Rattle.ix_model.specs.world.World.{Frame, put}
-use Rattle.ix_model.specs.rows.Rows.{pass, change_object, change_process, put_object, put_open}
-use Rattle.ix_model.specs.rows.Walks.{OpenFile, behind}
-use Rattle.ix_model.specs.rows.Lifetimes.{let_go_object, let_go_open, let_go_claim, let_go, let_go_if_held, let_go_each, let_go_all, has_lost}
+use Rattle.std.{proofs.Common.{ℕ, List, [], ◌∷◌, Option, Some, None}, specs.{List.range_with_len, Option.option_map_or}}
+use Rattle.ix_model.specs.{world.World.{Frame, put}, rows.{Rows.{pass, change_object, change_process, put_object, put_open}, Walks.{OpenFile, behind}}}
 use Rattle.ix_model.proofs.words.Keeps.{Keeps, keeps_then, keeps_pass, keeps_only_if}
+use Rattle.ix_model.specs.rows.Lifetimes.{let_go_object, let_go_open, let_go_claim, let_go, let_go_if_held, let_go_each, let_go_all, has_lost}
 
 -- the words: a descriptor is free, a claim ends, and an open entry and an object are gone
 pub record LetsGo (R : Frame → Type 0) (pid : ℕ) : Type 0 where

@@ -1,12 +1,10 @@
 -- What the two rules of floating come to: a refusal that changes nothing, nothing to do, or a label joined that may be.
 use Rattle.std.proofs.Common.{◌≡◌, ℕ, true, Some}
 use Rattle.ix_label.specs.Category.{Categories, join, leq}
-use Rattle.ix_model.specs.world.World.{Frame, Object, Process, at, change, living, ceiling_of, Open}
-use Rattle.ix_model.specs.rows.Walks.{OpenFile}
-use Rattle.ix_model.specs.rows.OnDescriptors.{float_entry}
-use Rattle.ix_model.specs.rows.Rows.{observe, affect}
-use Rattle.ix_model.specs.declared.refusal.Refusal.{Refusal}
-use Rattle.ix_model.proofs.words.Ends.{Ends, ending, ends_bind, ends_then, ends_caller, ends_object, ends_frame, ends_only_if, ends_need, ends_change_object, ends_change_open}
+use Rattle.ix_model.specs.{world.World.{Frame, Object, Process, at, change, living, ceiling_of, Open}, declared.refusal.Refusal.Refusal}
+use Rattle.ix_model.specs.rows.{Walks.OpenFile, OnDescriptors.float_entry, Rows.{observe, affect}}
+use Rattle.ix_model.proofs.words.Ends.{Ends, ending, ends_bind, ends_then, ends_caller, ends_object, ends_frame, ends_only_if, ends_need, ends_change_object}
+use Rattle.ix_model.proofs.words.Ends.{ends_change_open}
 
 pub ends_observe : (pid : ℕ) (seen : Categories) (f : Frame) (P : Refusal → Frame → Type 0) (Q : Unit {0} → Frame → Type 0) → ((r : Refusal) → P r f) → Q tt f
     → ((p : Process) → living (at f.processes pid) ≡ Some p → leq (join p.label seen) p.ceiling ≡ true

@@ -1,20 +1,14 @@
 -- Where the other words end: those that test, those that change something, and those that let go, which refuse nothing.
 use Rattle.std.proofs.Common.{◌≡◌, ◌++◌, ℕ, List, [], ◌∷◌, Option, Some, None, refl, Bool}
-use Rattle.std.specs.Option.{option_map_or, option_and_then}
-use Rattle.std.specs.List.{range_with_len}
+use Rattle.std.specs.{Option.{option_map_or, option_and_then}, List.range_with_len}
 use Rattle.ix_label.specs.Category.{Categories}
-use Rattle.ix_model.specs.world.World.{Frame, Object, at, put}
-use Rattle.ix_model.specs.rows.Outcomes.{Row}
-use Rattle.ix_model.specs.rows.Rows.{◌>>=◌, ◌>>◌, pass, only_if, process, record_of, change_object, change_process, put_object, put_open, put_process, add_process}
-use Rattle.ix_model.specs.rows.Walks.{Spot, Sought, OpenFile, behind, found_spot, vacant}
+use Rattle.ix_model.specs.{world.World.{Frame, Object, at, put}, rows.Outcomes.Row, rows.Walks.{Spot, Sought, OpenFile, behind, found_spot, vacant}}
+use Rattle.ix_model.specs.{rows.Auditing.{entitled, log_has_room, exercise, logged}, rows.OnProcesses.{remains, end_process}, rows.OnLabels.{allowed, movable}}
+use Rattle.ix_model.specs.declared.{privs.PrivSet.PrivSet, audit.AuditLine.AuditLine, refusal.Refusal.Refusal}
+use Rattle.ix_model.specs.rows.Rows.{◌>>=◌, ◌>>◌, pass, only_if, process, record_of, change_object, change_process, put_object, put_open, put_process}
+use Rattle.ix_model.specs.rows.Rows.{add_process}
 use Rattle.ix_model.specs.rows.Walks as sought
 use Rattle.ix_model.specs.rows.Lifetimes.{let_go_object, let_go_open, let_go_claim, let_go, let_go_if_held, let_go_each, let_go_all, has_lost}
-use Rattle.ix_model.specs.rows.Auditing.{entitled, log_has_room, exercise, logged}
-use Rattle.ix_model.specs.rows.OnProcesses.{remains, end_process}
-use Rattle.ix_model.specs.rows.OnLabels.{allowed, movable}
-use Rattle.ix_model.specs.declared.privs.PrivSet.{PrivSet}
-use Rattle.ix_model.specs.declared.audit.AuditLine.{AuditLine}
-use Rattle.ix_model.specs.declared.refusal.Refusal.{Refusal}
 use Rattle.ix_model.specs.declared.refusal.Refusal.TheVariants as refusal
 use Rattle.ix_model.proofs.words.Keeps.{Keeps, keeps_entitled, keeps_log_has_room, keeps_exercise, keeps_allowed, keeps_movable}
 use Rattle.ix_model.proofs.words.Ends.{Ends, ending, ends_kept, ends_then, ends_only_if, ends_pass}

@@ -1,36 +1,21 @@
 -- What every word that changes something keeps, every row keeps.
 use Rattle.std.proofs.Common.{ℕ, ◌≡◌, ◌&&◌, Bool, true, false, List, [], ◌∷◌, Option, Some, None, is_some, refl, sym, ap, ◌∙◌, true≢false, not, inl, inr}
-use Rattle.std.specs.List.{list_all}
-use Rattle.std.proofs.lemmas.Bool.{and_parts}
-use Rattle.std.proofs.lemmas.Bool.Decides.{eqb_tells}
-use Rattle.std.proofs.lemmas.List.{get_or-set_same, get_or-set_other}
-use Rattle.ix_label.specs.Category.{Categories, bottom, join, leq}
-use Rattle.ix_label.specs.Lattice.{leq-join_left}
-use Rattle.ix_model.specs.world.Naming.{PathOf}
-use Rattle.ix_model.specs.world.Privs.{no_privileges}
-use Rattle.ix_model.specs.world.Numbers.{free_inode, free_pipe}
-use Rattle.ix_model.specs.world.World.{Frame, Object, Process, Open, at, put, lowest_free, no_claims, is_pipe}
-use Rattle.ix_model.specs.rows.Outcomes.{Row}
-use Rattle.ix_model.specs.rows.Rows.{◌>>=◌, some, frame, pass, put_open, change_open, put_object, put_process, add_process, change_object, change_process, observe, affect}
-use Rattle.ix_model.specs.rows.Walks.{OpenFile, walked_to, object_at, spot_at, missing, opened}
-use Rattle.ix_model.specs.rows.Lifetimes.{let_go_object, let_go, let_go_all}
-use Rattle.ix_model.specs.rows.Auditing.{logged}
+use Rattle.std.{specs.List.list_all, proofs.lemmas.{Bool.{and_parts, Decides.eqb_tells}, List.{get_or-set_same, get_or-set_other}}}
+use Rattle.ix_label.specs.{Category.{Categories, bottom, join, leq}, Lattice.leq-join_left}
+use Rattle.ix_model.specs.{world.Naming.PathOf, world.Privs.no_privileges, world.Numbers.{free_inode, free_pipe}, rows.Outcomes.Row, rows.Auditing.logged}
+use Rattle.ix_model.specs.{world.World.{Frame, Object, Process, Open, at, put, lowest_free, no_claims, is_pipe}, rows.Table.row, history.Events.Op}
+use Rattle.ix_model.specs.{rows.Walks.{OpenFile, walked_to, object_at, spot_at, missing, opened}, rows.Lifetimes.{let_go_object, let_go, let_go_all}}
+use Rattle.ix_model.specs.{rows.OnProcesses.{end_process, fork, exec, exit, wait_child}, declared.call.Keep.Keep, declared.call.Mode.Mode}
+use Rattle.ix_model.specs.{declared.privs.PrivSet.PrivSet, declared.audit.AuditLine.AuditLine, declared.refusal.Refusal.Refusal, declared.reply.Kind.Kind}
+use Rattle.ix_model.specs.rows.Rows.{◌>>=◌, some, frame, pass, put_open, change_open, put_object, put_process, add_process, change_object, change_process}
+use Rattle.ix_model.specs.rows.Rows.{observe, affect}
 use Rattle.ix_model.specs.rows.OnPaths.{new_object, make, create_at, make_dir, open_at, link_at, unlink_at, remove_dir, change_dir, stat_at, list_at}
 use Rattle.ix_model.specs.rows.OnDescriptors.{LengthChecks, float_entry, read_fd, write_fd, cut_fd, seek_fd, dup_fd, close_fd, make_pipe, pex, unpex}
-use Rattle.ix_model.specs.rows.OnProcesses.{end_process, fork, exec, exit, wait_child}
-use Rattle.ix_model.specs.rows.OnLabels.{label_of, self_label, set_label, set_self, freeze, freeze_self, thaw, thaw_self, set_priv, drop_lic, grant_lic, set_ceiling, read_log}
-use Rattle.ix_model.specs.rows.Table.{row}
-use Rattle.ix_model.specs.history.Events.{Op}
+use Rattle.ix_model.specs.rows.OnLabels.{label_of, self_label, set_label, set_self, freeze, freeze_self, thaw, thaw_self, set_priv, drop_lic, grant_lic}
+use Rattle.ix_model.specs.rows.OnLabels.{set_ceiling, read_log}
 use Rattle.ix_model.specs.history.Events as op
-use Rattle.ix_model.specs.declared.call.Keep.{Keep}
-use Rattle.ix_model.specs.declared.call.Mode.{Mode}
-use Rattle.ix_model.specs.declared.privs.PrivSet.{PrivSet}
-use Rattle.ix_model.specs.declared.audit.AuditLine.{AuditLine}
-use Rattle.ix_model.specs.declared.refusal.Refusal.{Refusal}
-use Rattle.ix_model.specs.declared.reply.Kind.{Kind}
 use Rattle.ix_model.specs.declared.reply.Kind.TheVariants as kind
-use Rattle.ix_model.proofs.tables.FreeNumbers.{lowest_free_is}
-use Rattle.ix_model.proofs.words.LetGo.{LetsGo, keeps_let_go_object, keeps_let_go, keeps_let_go_all}
+use Rattle.ix_model.proofs.{tables.FreeNumbers.lowest_free_is, words.LetGo.{LetsGo, keeps_let_go_object, keeps_let_go, keeps_let_go_all}}
 use Rattle.ix_model.proofs.words.Keeps.{Holds, Keeps, keeping, keeping_tests, keeps_only_if}
 
 -- ---- what calls do

@@ -1,11 +1,7 @@
 -- Runs of histories, one entry longer.
 use Rattle.std.proofs.Common.{◌≡◌, ℕ, suc, ◌+◌, List, [], ◌∷◌, ◌++◌, length, refl, ap, ◌∙◌, arith}
-use Rattle.ix_model.specs.world.World.{World}
-use Rattle.ix_model.specs.opening.Opening.{opening_world}
-use Rattle.ix_model.specs.history.Step.{step_of, run}
-use Rattle.ix_model.specs.history.Events.{Event}
-use Rattle.ix_model.specs.history.History.{History, world_of, next, with_entry}
-use Rattle.ix_model.specs.declared.config.Config.{Config}
+use Rattle.ix_model.specs.{world.World.World, opening.Opening.opening_world, declared.config.Config.Config}
+use Rattle.ix_model.specs.history.{Step.{step_of, run}, Events.Event, History.{History, world_of, next, with_entry}}
 
 run-push : (w : World) (place : ℕ) (events : List Event) (e : Event) → run w place (events ++ e ∷ []) ≡ (step_of (run w place events) (length events + place) e).world
 run-push w place [] e = ap (λ n. (step_of w n e).world) (let z : place ≡ 0 + place = omega arith in z)

@@ -1,16 +1,9 @@
 -- What a seat has made of a history, one entry later; and how a seat goes on.
-use Rattle.std.proofs.Common.{◌≡◌, ℕ, suc, ◌+◌, ◌==◌, ◌&&◌, Bool, true, List, [], ◌∷◌, ◌++◌, length, refl, sym, ap, ◌∙◌, arith, append-nil, append_assoc, if◌then◌else◌}
-use Rattle.std.specs.List.{filter}
-use Rattle.std.proofs.lemmas.Bool.{and_from, eq-eqb}
-use Rattle.std.proofs.lemmas.List.Elements.{filter-append}
-use Rattle.std.proofs.lemmas.List.Folds.{list_all-append}
-use Rattle.ix_model.specs.world.World.{World}
-use Rattle.ix_model.specs.opening.Opening.{opening_world}
-use Rattle.ix_model.specs.history.Step.{step_of, run}
-use Rattle.ix_model.specs.history.Events.{Event}
-use Rattle.ix_model.specs.history.History.{History, world_of, next, with_entry}
-use Rattle.ix_model.specs.history.Made.{Made}
-use Rattle.ix_model.specs.history.Seats.{made_of, replied, made_by, GoesOn}
+use Rattle.std.proofs.Common.{◌≡◌, ℕ, suc, ◌+◌, ◌==◌, ◌&&◌, Bool, true, List, [], ◌∷◌, ◌++◌, length, refl, sym, ap, ◌∙◌, arith, append-nil, append_assoc}
+use Rattle.std.proofs.Common.{if◌then◌else◌}
+use Rattle.std.{specs.List.filter, proofs.lemmas.{Bool.{and_from, eq-eqb}, List.{Elements.filter-append, Folds.list_all-append}}}
+use Rattle.ix_model.specs.{world.World.World, opening.Opening.opening_world, history.Step.{step_of, run}, history.Events.Event, history.Made.Made}
+use Rattle.ix_model.specs.{history.History.{History, world_of, next, with_entry}, history.Seats.{made_of, replied, made_by, GoesOn}}
 
 -- ---- what was made
 -- the entry that comes last is answered by the world to which the others lead

@@ -1,11 +1,8 @@
 -- What stands behind a descriptor in a sound world: an open entry, and an object that is no directory.
 use Rattle.std.proofs.Common.{◌≡◌, ◌==◌, ℕ, Bool, true, false, not, ◌&&◌, ◌||◌, Option, Some, None, option_map, refl, sym, ap, ◌∙◌}
-use Rattle.std.specs.Option.{option_map_or}
-use Rattle.std.proofs.lemmas.Bool.{eqb-true}
-use Rattle.ix_model.specs.world.World.{Frame, Object, Process, Open, at, living, is_dir, is_pipe}
+use Rattle.std.{specs.Option.option_map_or, proofs.lemmas.Bool.eqb-true}
+use Rattle.ix_model.specs.{world.{World.{Frame, Object, Process, Open, at, living, is_dir, is_pipe}, Contents.on_pipe}, laws.Sound.OpensSound}
 use Rattle.ix_model.specs.rows.Walks.{OpenFile, behind, behind_of, entry_at}
-use Rattle.ix_model.specs.world.Contents.{on_pipe}
-use Rattle.ix_model.specs.laws.Sound.{OpensSound}
 
 entry_is : (f : Frame) (d : Option ℕ) (e : OpenFile) → entry_at f d ≡ Some e → at f.opens e.id ≡ Some e.entry
 entry_is f None e h = cc

@@ -1,18 +1,13 @@
 -- What `found` finds in a sound world is there.
-use Rattle.std.proofs.Common.{◌≡◌, ◌<◌, ◌+◌, ◌==◌, ℕ, Bool, true, false, not, List, [], ◌∷◌, count_by, find, cond, Option, Some, None, is_some}
-use Rattle.std.proofs.Common.{option_map, unwrap_or, if◌then◌else◌, refl, sym, ap, ◌∙◌, arith}
-use Rattle.std.specs.Option.{option_map_or}
-use Rattle.std.proofs.lemmas.Bool.{eq-eqb}
-use Rattle.std.proofs.lemmas.List.Sums.{sum_by-cons}
-use Rattle.ix_model.specs.world.Naming.{PathOf, same_bytes}
-use Rattle.ix_model.specs.world.World.{Frame, World, Object, Process, at, is_dir, is_pipe}
+use Rattle.std.proofs.Common.{◌≡◌, ◌<◌, ◌+◌, ◌==◌, ℕ, Bool, true, false, not, List, [], ◌∷◌, count_by, find, cond, Option, Some, None, is_some, option_map, sym}
+use Rattle.std.proofs.Common.{unwrap_or, if◌then◌else◌, refl, ap, ◌∙◌, arith}
+use Rattle.std.{specs.Option.option_map_or, proofs.lemmas.{Bool.eq-eqb, List.Sums.sum_by-cons}}
+use Rattle.ix_model.specs.world.{Naming.{PathOf, same_bytes}, World.{Frame, World, Object, Process, at, is_dir, is_pipe}}
 use Rattle.ix_model.specs.rows.Walks.{behind, node, child, lacking, looking_into, walk_from, walk, walked_to, object_at}
+use Rattle.ix_model.specs.laws.{Sound.{NamesSound, Sound}, Laws.ObjectsThere}
 use Rattle.ix_model.specs.rows.Walks as sought
-use Rattle.ix_model.specs.laws.Sound.{NamesSound, Sound}
-use Rattle.ix_model.specs.laws.Laws.{ObjectsThere}
 use Rattle.ix_model.proofs.words.Ends.{known_passed, Ends, Anything, ends_bind, ends_then, ends_caller, ends_frame, ends_pass, ends_there}
-use Rattle.ix_model.proofs.words.Looks.{ends_observe}
-use Rattle.ix_model.proofs.words.Standing.{behind_is, stands}
+use Rattle.ix_model.proofs.words.{Looks.ends_observe, Standing.{behind_is, stands}}
 
 -- ---- children
 pub counted : (o : ℕ) (e : List ℕ × ℕ) (es : List (List ℕ × ℕ)) → count_by (λ n. n.1 == o) (e ∷ es) ≡ cond {A = ℕ} (e.1 == o) 1 0 + count_by (λ n. n.1 == o) es

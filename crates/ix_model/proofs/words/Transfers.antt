@@ -1,19 +1,12 @@
 -- The rows of a read and of a write, walked once: what is known where they look, affect and float, and where they end.
 use Rattle.std.proofs.Common.{◌≡◌, ◌-◌, ◌&&◌, ℕ, true, false, not, Option, Some, option_map, refl, sym, ap, ◌∙◌, subst, inl, inr}
 use Rattle.std.proofs.lemmas.Bool.{not-false}
-use Rattle.ix_label.specs.Category.{Categories, join, leq}
-use Rattle.ix_label.specs.Lattice.{same-decides, leq-join_right}
-use Rattle.ix_model.specs.world.World.{Frame, Object, Process, at, change, living, is_pipe, held}
-use Rattle.ix_model.specs.rows.Outcomes.{Row}
-use Rattle.ix_model.specs.rows.Rows.{◌>>=◌, ◌>>◌, pass, need, frame, process, observe, affect}
-use Rattle.ix_model.specs.rows.Walks.{OpenFile, behind}
+use Rattle.ix_label.specs.{Category.{Categories, join, leq}, Lattice.{same-decides, leq-join_right}}
+use Rattle.ix_model.specs.{world.World.{Frame, Object, Process, at, change, living, is_pipe, held}, rows.Outcomes.Row, rows.Walks.{OpenFile, behind}}
+use Rattle.ix_model.specs.{rows.Rows.{◌>>=◌, ◌>>◌, pass, need, frame, process, observe, affect}, declared.{refusal.Refusal.Refusal, reply.Reply.Reply}}
 use Rattle.ix_model.specs.rows.OnDescriptors.{LengthChecks, float_entry, read_fd, write_fd, read_passed, write_passed}
-use Rattle.ix_model.specs.declared.refusal.Refusal.{Refusal}
 use Rattle.ix_model.specs.declared.refusal.Refusal.TheVariants as refusal
-use Rattle.ix_model.specs.declared.reply.Reply.{Reply}
-use Rattle.ix_model.proofs.tables.Tables.{at_changed}
-use Rattle.ix_model.proofs.tables.Finds.{at_change}
-use Rattle.ix_model.proofs.words.Living.{is_living, not_ended, lives_as}
+use Rattle.ix_model.proofs.{tables.{Tables.at_changed, Finds.at_change}, words.Living.{is_living, not_ended, lives_as}}
 use Rattle.ix_model.proofs.words.Ends.{Ends, Anything, ends_bind, ends_then, ends_pass, ends_frame, ends_need, ends_only_if, ends_caller, ends_object}
 use Rattle.ix_model.proofs.words.Ends.{ends_opened, ends_change_object, ends_change_caller, ends_change_open}
 

@@ -1,10 +1,7 @@
 -- Rows that keep one thing up to a word, and another from there on.
 use Rattle.std.proofs.Common.{◌≡◌, Bool, true, false, Option, Some, None, refl}
-use Rattle.ix_model.specs.world.World.{Frame}
-use Rattle.ix_model.specs.rows.Outcomes.{Outcome, Row, Refuse, Pass}
-use Rattle.ix_model.specs.rows.Rows.{◌>>=◌, ◌>>◌, on_pass, pass, refuse, some, only_if, frame}
-use Rattle.ix_model.specs.declared.refusal.Refusal.{Refusal}
-use Rattle.ix_model.proofs.words.Keeps.{Holds, Keeps}
+use Rattle.ix_model.{specs.world.World.Frame, specs.rows.Outcomes.{Outcome, Row, Refuse, Pass}, specs.declared.refusal.Refusal.Refusal}
+use Rattle.ix_model.{specs.rows.Rows.{◌>>=◌, ◌>>◌, on_pass, pass, refuse, some, only_if, frame}, proofs.words.Keeps.{Holds, Keeps}}
 
 -- from a frame of which R holds, the row comes to one of which S holds
 pub record Turns {A : Type 0} (R S : Frame → Type 0) (m : Row A) : Type 0 where

@@ -1,20 +1,15 @@
 -- Where a walk leads: the directory that was looked into last, and what it has under the last name.
-use Rattle.std.proofs.Common.{◌≡◌, ◌-◌, ℕ, suc, Bool, true, false, true≢false, List, [], ◌∷◌, length, Option, Some, None, unwrap_or, if◌then◌else◌, refl, sym, ap, ◌∙◌, subst, arith, get_or}
+use Rattle.std.proofs.Common.{◌≡◌, ◌-◌, ℕ, suc, Bool, true, false, true≢false, List, [], ◌∷◌, length, Option, Some, None, unwrap_or, if◌then◌else◌, refl, sym}
+use Rattle.std.proofs.Common.{ap, ◌∙◌, subst, arith, get_or}
 use Rattle.std.specs.Option.{option_map_or}
-use Rattle.ix_model.specs.world.Naming.{PathOf, last_name}
-use Rattle.ix_model.specs.world.World.{Frame, Object, Process, at, is_dir}
-use Rattle.ix_model.specs.rows.Outcomes.{Row}
-use Rattle.ix_model.specs.rows.Rows.{observe}
-use Rattle.ix_model.specs.rows.Walks.{Spot, Sought, node, child, lacking, looking_into, walk_from, walk, join_all, walked_to, found_object, found_spot, vacant, object_at, spot_at, missing}
-use Rattle.ix_model.specs.rows.Walks as sought
+use Rattle.ix_model.specs.{world.{Naming.{PathOf, last_name}, World.{Frame, Object, Process, at, is_dir}}, rows.{Outcomes.Row, Rows.observe}}
 use Rattle.ix_model.specs.declared.refusal.Refusal.{Refusal}
-use Rattle.ix_model.proofs.tables.Tables.{SameBut, back, seen_same}
-use Rattle.ix_model.proofs.words.Keeps.{Keeps}
+use Rattle.ix_model.specs.rows.Walks.{Spot, Sought, node, child, lacking, looking_into, walk_from, walk, join_all, walked_to, found_object, found_spot, vacant}
+use Rattle.ix_model.specs.rows.Walks.{object_at, spot_at, missing}
+use Rattle.ix_model.specs.rows.Walks as sought
+use Rattle.ix_model.proofs.{tables.Tables.{SameBut, back, seen_same}, words.Keeps.Keeps, words.RowEnds.{ends_spot, ends_vacant}, sound.Logging.holds_both}
 use Rattle.ix_model.proofs.words.Ends.{Ends, ends_kept, ends_bind, ends_then, ends_pass, ends_frame, ends_caller, ends_there}
-use Rattle.ix_model.proofs.words.RowEnds.{ends_spot, ends_vacant}
-use Rattle.ix_model.proofs.frames.Floats.{Floats, object_but, floats_itself, floats_observe}
-use Rattle.ix_model.proofs.frames.Frames.{Follows, follows_observe}
-use Rattle.ix_model.proofs.sound.Logging.{holds_both}
+use Rattle.ix_model.proofs.frames.{Floats.{Floats, object_but, floats_itself, floats_observe}, Frames.{Follows, follows_observe}}
 
 -- ---- a name in a directory
 -- under that name the directory has that object, or none

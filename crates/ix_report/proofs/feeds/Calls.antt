@@ -1,31 +1,19 @@
 -- Calls and replies are written without a line feed.
-use Rattle.std.proofs.Common.{◌≡◌, ℕ, ◌==◌, Bool, true, false, not, List, [], ◌∷◌, refl}
-use Rattle.std.specs.Prelude.{codes, bit_and}
-use Rattle.std.specs.List.{flat_map}
-use Rattle.std.proofs.lemmas.List.Folds.{list_all-append}
+use Rattle.std.proofs.{Common.{◌≡◌, ℕ, ◌==◌, Bool, true, false, not, List, [], ◌∷◌, refl}, lemmas.List.Folds.list_all-append}
+use Rattle.std.specs.{Prelude.{codes, bit_and}, List.flat_map}
 use Rattle.ix_label.specs.declared.form.Form.{Form}
-use Rattle.ix_model.specs.history.Events.{Op}
-use Rattle.ix_model.specs.history.Events as op
-use Rattle.ix_model.specs.world.Privs.{is_empty}
-use Rattle.ix_model.specs.declared.audit.Act.{Act}
-use Rattle.ix_model.specs.declared.audit.Act.TheVariants as act
-use Rattle.ix_model.specs.declared.audit.AuditLine.{AuditLine}
-use Rattle.ix_model.specs.declared.call.Keep.{Keep}
-use Rattle.ix_model.specs.declared.call.Keep.TheVariants as keep
-use Rattle.ix_model.specs.declared.call.Mode.{Mode}
-use Rattle.ix_model.specs.declared.call.Mode.TheVariants as mode
-use Rattle.ix_model.specs.declared.privs.PrivSet.{PrivSet}
-use Rattle.ix_model.specs.declared.refusal.Refusal.{Refusal}
-use Rattle.ix_model.specs.declared.refusal.Refusal.TheVariants as refusal
-use Rattle.ix_model.specs.declared.reply.Kind.{Kind}
-use Rattle.ix_model.specs.declared.reply.Kind.TheVariants as kind
+use Rattle.ix_model.specs.{history.Events.Op, world.Privs.is_empty, declared.audit.Act.Act, declared.audit.AuditLine.AuditLine, declared.call.Keep.Keep}
+use Rattle.ix_model.specs.{declared.call.Mode.Mode, declared.privs.PrivSet.PrivSet, declared.refusal.Refusal.Refusal, declared.reply.Kind.Kind}
 use Rattle.ix_model.specs.declared.reply.Reply.{Reply}
+use Rattle.ix_model.specs.history.Events as op
+use Rattle.ix_model.specs.declared.audit.Act.TheVariants as act
+use Rattle.ix_model.specs.declared.call.Keep.TheVariants as keep
+use Rattle.ix_model.specs.declared.call.Mode.TheVariants as mode
+use Rattle.ix_model.specs.declared.refusal.Refusal.TheVariants as refusal
+use Rattle.ix_model.specs.declared.reply.Kind.TheVariants as kind
 use Rattle.ix_model.specs.declared.reply.Reply.TheVariants as reply
 use Rattle.ix_text.specs.Spellings.{letter_in, letters, mode_text, privs_text, state_text}
-use Rattle.ix_report.specs.CallText.{call_text}
-use Rattle.ix_report.specs.Feeds.{has_no_feed}
-use Rattle.ix_report.specs.RefusalText.{refusal_text}
-use Rattle.ix_report.specs.ReplyText.{audit_text, reply_text}
+use Rattle.ix_report.specs.{CallText.call_text, Feeds.has_no_feed, RefusalText.refusal_text, ReplyText.{audit_text, reply_text}}
 use Rattle.ix_report.specs.Words.{act_text, keep_text, kind_text, life_text}
 use Rattle.ix_report.proofs.feeds.Plain.{decimal_plain, either, hex_plain, label_plain, name_plain, path_plain}
 

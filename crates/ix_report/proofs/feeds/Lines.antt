@@ -1,22 +1,11 @@
 -- Each line of a report has one line feed, at its end.
-use Rattle.std.proofs.Common.{◌≡◌, ℕ, ◌++◌, true, List, Option, Some, None, refl}
-use Rattle.std.specs.Prelude.{codes}
-use Rattle.std.specs.Fmt.{decimal}
-use Rattle.std.proofs.lemmas.List.Folds.{list_all-append}
-use Rattle.ix_label.specs.Category.{Categories}
-use Rattle.ix_label.specs.declared.form.Form.{Form}
-use Rattle.ix_label.specs.declared.form.Form.TheVariants.{One, Two}
-use Rattle.ix_label.specs.Spelling.{spelling}
-use Rattle.ix_model.specs.history.Events.{Event}
-use Rattle.ix_model.specs.declared.reply.Reply.{Reply}
+use Rattle.std.{proofs.{Common.{◌≡◌, ℕ, ◌++◌, true, List, Option, Some, None, refl}, lemmas.List.Folds.list_all-append}, specs.{Prelude.codes, Fmt.decimal}}
+use Rattle.ix_label.specs.{Category.Categories, declared.form.Form.{Form, TheVariants.{One, Two}}, Spelling.spelling}
+use Rattle.ix_model.specs.{history.Events.Event, declared.reply.Reply.Reply}
 use Rattle.ix_text.specs.Spellings.{state_text}
-use Rattle.ix_report.specs.CallText.{call_text}
-use Rattle.ix_report.specs.Feeds.{EndsOnce, LinesEndOnce, has_no_feed}
+use Rattle.ix_report.specs.{CallText.call_text, Feeds.{EndsOnce, LinesEndOnce, has_no_feed}, ReplyText.{audit_text, reply_text}, Words.{kind_text, life_text}}
 use Rattle.ix_report.specs.LineText.{audit_line, entry_line, head_line, object_line, process_line, seen_text, tail_line}
-use Rattle.ix_report.specs.ReplyText.{audit_text, reply_text}
-use Rattle.ix_report.specs.Words.{kind_text, life_text}
-use Rattle.ix_report.proofs.feeds.Plain.{decimal_plain, label_plain}
-use Rattle.ix_report.proofs.feeds.Calls.{audit_plain, call_plain, kind_plain, life_plain, reply_plain, state_plain}
+use Rattle.ix_report.proofs.feeds.{Plain.{decimal_plain, label_plain}, Calls.{audit_plain, call_plain, kind_plain, life_plain, reply_plain, state_plain}}
 
 seen_plain : (form : Form) (label : Option Categories) → has_no_feed (seen_text form label) ≡ true
 seen_plain form None = refl

@@ -1,19 +1,12 @@
 -- Numbers, labels, sets of privileges, names and bytes are spelled without a line feed.
 use Rattle.std.proofs.Common.{◌≡◌, ℕ, zero, suc, ◌/◌, ◌%◌, ◌==◌, Bool, true, false, not, cond, List, [], ◌∷◌, ◌++◌, map, refl, ◌∙◌, arith, if◌then◌else◌}
-use Rattle.std.specs.Prelude.{codes}
-use Rattle.std.specs.List.{flat_map, join_with_byte}
-use Rattle.std.specs.Fmt.{decimal, digits, digits_onto, digit_glyph}
-use Rattle.std.proofs.lemmas.Bool.{and_from}
-use Rattle.std.proofs.lemmas.List.Folds.{list_all-append}
-use Rattle.ix_label.specs.declared.form.Form.{Form}
-use Rattle.ix_label.specs.Category.{Categories, bottom, same}
-use Rattle.ix_label.specs.Forms.{all_of}
+use Rattle.std.specs.{Prelude.codes, List.{flat_map, join_with_byte}, Fmt.{decimal, digits, digits_onto, digit_glyph}}
+use Rattle.std.proofs.lemmas.{Bool.and_from, List.Folds.list_all-append}
+use Rattle.ix_label.specs.{declared.form.Form.Form, Category.{Categories, bottom, same}, Forms.all_of}
 use Rattle.ix_label.specs.Spelling.{comma, dash, item, items, runs, spelling, star}
 use Rattle.ix_model.specs.world.Naming.{PathOf}
 use Rattle.ix_text.specs.Spellings.{further, hex_digit, hex_pair}
-use Rattle.ix_report.specs.Feeds.{has_no_feed}
-use Rattle.ix_report.specs.Hex.{hex}
-use Rattle.ix_report.specs.Names.{name_byte, name_text, names_text, path_text, relative_text, stands}
+use Rattle.ix_report.specs.{Feeds.has_no_feed, Hex.hex, Names.{name_byte, name_text, names_text, path_text, relative_text, stands}}
 
 -- ---- texts of parts
 pub one_then : (x y : List ℕ) → has_no_feed x ≡ true → has_no_feed y ≡ true → has_no_feed (x ++ y) ≡ true

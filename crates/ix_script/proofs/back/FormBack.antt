@@ -1,40 +1,24 @@
 -- The canonical text of a line of each form.
 use Rattle.std.proofs.Common.{◌≡◌, ℕ, true, ◌==◌, List, [], ◌∷◌, ◌++◌, length, Some, None, ◌⊎◌, inl, inr, refl, sym, ap, ◌∙◌, arith}
-use Rattle.std.specs.Prelude.{codes}
-use Rattle.std.specs.List.{list_all}
-use Rattle.std.specs.Option.{option_or, option_map_or}
-use Rattle.std.proofs.lemmas.Bool.{eqb-true}
+use Rattle.std.{specs.{Prelude.codes, List.list_all, Option.{option_or, option_map_or}}, proofs.lemmas.Bool.eqb-true}
 use Rattle.ix_model.specs.opening.Valid.{is_within}
 use Rattle.ix_label.specs.declared.form.Form as spelled
-use Rattle.ix_script.specs.lines.Before.{form_told}
-use Rattle.ix_script.specs.texts.Cutting.{words_of, word_at}
-use Rattle.ix_text.specs.Labels.{label_in}
-use Rattle.ix_script.specs.texts.Words.{made_path_of, state_of, fd_of}
-use Rattle.ix_text.specs.Names.{name_of}
-use Rattle.ix_text.specs.Privs.{privs_of}
-use Rattle.ix_script.specs.texts.Payloads.{payload_of}
-use Rattle.ix_script.specs.lines.Kinds.{Place, places_fault}
-use Rattle.ix_script.specs.lines.Kinds as kind
-use Rattle.ix_script.specs.lines.Forms.{has_right_count, places}
-use Rattle.ix_script.specs.lines.Said.{payload_within, said}
+use Rattle.ix_script.specs.{lines.Before.form_told, lines.Kinds.{Place, places_fault}, lines.Forms.{has_right_count, places}, lines.Said.{payload_within, said}}
 use Rattle.ix_script.specs.lines.Faults.{line_fault, text_fault, body_fault, stand_fault, names_fault, said_fault, form_fault}
-use Rattle.ix_text.specs.Spellings.{joined}
-use Rattle.ix_script.specs.texts.Spellings.{payload_text}
-use Rattle.ix_script.specs.scripts.Canonical.{line_words, line_text, may_be_respelled}
-use Rattle.ix_script.specs.declared.line.Line.{Line}
+use Rattle.ix_script.specs.texts.{Cutting.{words_of, word_at}, Words.{made_path_of, state_of, fd_of}, Payloads.payload_of, Spellings.payload_text}
+use Rattle.ix_script.specs.{scripts.Canonical.{line_words, line_text, may_be_respelled}, declared.{line.Line.Line, form.Form.Form}}
+use Rattle.ix_text.specs.{Labels.label_in, Names.name_of, Privs.privs_of, Spellings.joined}
+use Rattle.ix_script.specs.lines.Kinds as kind
 use Rattle.ix_script.specs.declared.line.Line.TheVariants as line
-use Rattle.ix_script.specs.declared.form.Form.{Form}
 use Rattle.ix_script.specs.declared.form.Form.TheVariants as form
-use Rattle.ix_script.proofs.reader.Told.{neither}
+use Rattle.ix_script.proofs.{reader.Told.neither, lines.{FirstWords.form_word, Faultless.{text_parts, payload_alike}}, texts.Cuts.words_joined}
 use Rattle.ix_script.proofs.back.OneSpelling.{name_spelled, label_spelled, privs_spelled, made_path_spelled, state_spelled, fd_spelled}
-use Rattle.ix_script.proofs.lines.FirstWords.{form_word}
 use Rattle.ix_script.proofs.lines.FormWords.{words_from, exactly, same, no_tail, of_3, of_6, limit_again, fs_again, proc_again, dir_again, lane_again}
-use Rattle.ix_script.proofs.lines.FormWords.{open_again, dup_again, pipe_again, link_again, list_again, copy_again, setlabel_again, setpriv_again}
-use Rattle.ix_script.proofs.lines.FormWords.{fork_again, exit_again, setself_again, droplic_again, grant_again, ceiling_again, readlog_again}
-use Rattle.ix_script.proofs.lines.FormWords.{login_again, phase_again, plain_again, on_path_again, on_fd_again, counted_again}
-use Rattle.ix_script.proofs.texts.Cuts.{words_joined}
-use Rattle.ix_script.proofs.lines.Faultless.{text_parts, payload_alike}
-use Rattle.ix_script.proofs.back.LineBack.{Respelled, Formed, right_count, front_of, write_several, file_several, fitting, last_printable, file_begins, write_begins, payload_back}
+use Rattle.ix_script.proofs.lines.FormWords.{open_again, dup_again, pipe_again, link_again, list_again, copy_again, setlabel_again, setpriv_again, fork_again}
+use Rattle.ix_script.proofs.lines.FormWords.{exit_again, setself_again, droplic_again, grant_again, ceiling_again, readlog_again, login_again, phase_again}
+use Rattle.ix_script.proofs.lines.FormWords.{plain_again, on_path_again, on_fd_again, counted_again}
+use Rattle.ix_script.proofs.back.LineBack.{Respelled, Formed, right_count, front_of, write_several, file_several, fitting, last_printable, file_begins}
+use Rattle.ix_script.proofs.back.LineBack.{write_begins, payload_back}
 
 -- the text of a line without a fault is printable
 printable_line : (before : List Line) (text : List ℕ) → line_fault before text ≡ None → list_all (is_within 32 126) text ≡ true

@@ -1,16 +1,11 @@
 -- Pairs of hexadecimal digits, as they are written and read.
-use Rattle.std.proofs.Common.{◌≡◌, ℕ, ◌+◌, ◌*◌, ◌/◌, ◌%◌, ◌-◌, ◌<◌, ◌≤◌, Bool, true, false, not, ◌&&◌, ◌==◌, cond, List, [], ◌∷◌, length, Option, Some, None, inl, inr, refl, ap, subst, arith}
-use Rattle.std.specs.List.{list_all, flat_map}
-use Rattle.std.specs.Option.{option_map_or}
-use Rattle.std.proofs.lemmas.Bool.{agree_below_at, eqb-true, false≢true}
-use Rattle.std.proofs.lemmas.Bool.Decides.{nat_tests}
-use Rattle.std.proofs.lemmas.Option.{none-some, cond_some}
+use Rattle.std.proofs.Common.{◌≡◌, ℕ, ◌+◌, ◌*◌, ◌/◌, ◌%◌, ◌-◌, ◌<◌, ◌≤◌, Bool, true, false, not, ◌&&◌, ◌==◌, cond, List, [], ◌∷◌, length, Option, Some, None}
+use Rattle.std.proofs.Common.{inl, inr, refl, ap, subst, arith}
+use Rattle.std.specs.{List.{list_all, flat_map}, Option.option_map_or}
+use Rattle.std.proofs.lemmas.{Bool.{agree_below_at, eqb-true, false≢true, Decides.nat_tests}, Option.{none-some, cond_some}}
 use Rattle.ix_model.specs.opening.Valid.{is_within}
-use Rattle.ix_text.specs.Bytes.{is_digit}
-use Rattle.ix_script.specs.texts.Payloads.{◌>>=◌, after_bytes, digit_of, pair_of, pairs_of}
-use Rattle.ix_text.specs.Spellings.{hex_digit, hex_pair}
-use Rattle.ix_text.proofs.Tests.{join_tests}
-use Rattle.ix_script.proofs.reader.Told.{bound, mapped, chosen}
+use Rattle.ix_text.{specs.{Bytes.is_digit, Spellings.{hex_digit, hex_pair}}, proofs.Tests.join_tests}
+use Rattle.ix_script.{specs.texts.Payloads.{◌>>=◌, after_bytes, digit_of, pair_of, pairs_of}, proofs.reader.Told.{bound, mapped, chosen}}
 
 -- a byte that may stand in a word outside quotes
 abbrev pub is_tame : ℕ → Bool

@@ -1,41 +1,21 @@
 -- The canonical text of a line that was read is read as the same line, has no fault, and is no longer.
-use Rattle.std.proofs.Common.{◌≡◌, ℕ, ◌^◌, ◌<◌, ◌≤◌, true, false, not, nat_le, List, [], ◌∷◌, ◌++◌, length, take, Some, None, inl, inr, refl, sym, ap, ◌∙◌, subst, arith}
+use Rattle.std.proofs.Common.{◌≡◌, ℕ, ◌^◌, ◌<◌, ◌≤◌, true, false, not, nat_le, List, [], ◌∷◌, ◌++◌, length, take, Some, None, inl, inr, refl, sym, ap, ◌∙◌}
+use Rattle.std.proofs.Common.{subst, arith}
 use Rattle.std.proofs.Math.Seq.{take-append_seam}
-use Rattle.std.specs.Prelude.{codes, if◌then◌else◌}
-use Rattle.std.specs.List.{list_all}
-use Rattle.std.specs.Option.{option_or, option_map_or}
-use Rattle.std.proofs.lemmas.Bool.{cases_Bool, false≢true, not-false, leb-true}
-use Rattle.std.proofs.lemmas.List.{length-append}
-use Rattle.std.proofs.lemmas.List.Folds.{list_all-append}
-use Rattle.std.proofs.lemmas.Option.{cond_some}
-use Rattle.ix_model.specs.world.Naming.{same_bytes}
-use Rattle.ix_model.specs.opening.Valid.{is_within}
+use Rattle.std.proofs.lemmas.{Bool.{cases_Bool, false≢true, not-false, leb-true}, List.{length-append, Folds.list_all-append}, Option.cond_some}
+use Rattle.std.specs.{Prelude.{codes, if◌then◌else◌}, List.list_all, Option.{option_or, option_map_or}}
+use Rattle.ix_model.specs.{world.Naming.same_bytes, opening.Valid.is_within}
 use Rattle.ix_label.specs.declared.form.Form as spelled
-use Rattle.ix_script.specs.lines.Before.{form_told}
-use Rattle.ix_script.specs.texts.Cutting.{is_skipped, is_policy_line, pieces, words_of, word_at}
-use Rattle.ix_text.specs.Bytes.{is_empty, begins}
-use Rattle.ix_script.specs.texts.Payloads.{◌>>=◌, payload_of}
-use Rattle.ix_script.specs.lines.Kinds.{places_fault}
+use Rattle.ix_script.specs.lines.{Before.form_told, Kinds.places_fault, Rules.{is_late, is_outside}, Said.{payload_within, said, version_of, line_of}}
+use Rattle.ix_script.specs.texts.{Cutting.{is_skipped, is_policy_line, pieces, words_of, word_at}, Payloads.{◌>>=◌, payload_of}, Spellings.payload_text}
+use Rattle.ix_script.specs.{scripts.Canonical.{line_words, line_text, has_one_spelling, may_be_respelled}, declared.{line.Line.Line, form.Form.Form}}
+use Rattle.ix_text.{specs.{Bytes.{is_empty, begins}, Spellings.{further, joined}}, proofs.Tests.{both as both_true, join_tests}}
 use Rattle.ix_script.specs.lines.Forms.{form_of, frame_form, group_form, plain_of, on_path_of, on_fd_of, counted_of, file_form, has_right_count, places}
-use Rattle.ix_script.specs.lines.Rules.{is_late, is_outside}
-use Rattle.ix_script.specs.lines.Said.{payload_within, said, version_of, line_of}
 use Rattle.ix_script.specs.lines.Faults.{text_fault, words_fault, stand_fault, names_fault, said_fault, form_fault, command_fault, line_fault, body_fault}
-use Rattle.ix_text.specs.Spellings.{further, joined}
-use Rattle.ix_script.specs.texts.Spellings.{payload_text}
-use Rattle.ix_script.specs.scripts.Canonical.{line_words, line_text, has_one_spelling, may_be_respelled}
-use Rattle.ix_script.specs.declared.line.Line.{Line}
-use Rattle.ix_script.specs.declared.form.Form.{Form}
 use Rattle.ix_script.specs.declared.form.Form.TheVariants as form
 use Rattle.ix_script.specs.declared.words.Spot.TheVariants as spot
-use Rattle.ix_text.proofs.Tests.{both as both_true}
-use Rattle.ix_text.proofs.Tests.{join_tests}
-use Rattle.ix_script.proofs.reader.Told.{bound, neither, neither_from}
-use Rattle.ix_script.proofs.lines.FirstWords.{form_word}
-use Rattle.ix_script.proofs.texts.Cuts.{words_joined, words_some, cut_again}
-use Rattle.ix_script.proofs.back.PayloadBack.{Spells}
-use Rattle.ix_script.proofs.back.QuotesBack.{payload_spells}
-use Rattle.ix_script.proofs.back.Shorter.{payload_longer}
-use Rattle.ix_script.proofs.lines.Faultless.{one_kept, text_parts, text_from, words_again}
+use Rattle.ix_script.proofs.{reader.Told.{bound, neither, neither_from}, lines.{FirstWords.form_word, Faultless.{one_kept, text_parts, text_from, words_again}}}
+use Rattle.ix_script.proofs.{texts.Cuts.{words_joined, words_some, cut_again}, back.{PayloadBack.Spells, QuotesBack.payload_spells, Shorter.payload_longer}}
 
 -- a text that stands for another
 pub record Back (before : List Line) (text again : List ℕ) (l : Line) : Type 0 where

@@ -1,36 +1,20 @@
 -- The line of the lane that comes next breaks no rule.
-use Rattle.std.proofs.Common.{◌≡◌, ℕ, zero, suc, ◌+◌, true, false, not, ◌&&◌, List, [], ◌∷◌, ◌++◌, length, nat_le, take, drop, Some, None, inl, inr, refl, sym, ap, ◌∙◌, subst, arith}
-use Rattle.std.specs.Prelude.{codes}
-use Rattle.std.specs.List.{list_all}
-use Rattle.std.proofs.lemmas.Bool.{cases_Bool}
-use Rattle.std.proofs.lemmas.List.{append-nil, take-append-drop}
-use Rattle.std.proofs.lemmas.List.Folds.{list_any_at}
-use Rattle.std.proofs.lemmas.Option.{same_Some}
+use Rattle.std.proofs.Common.{◌≡◌, ℕ, zero, suc, ◌+◌, true, false, not, ◌&&◌, List, [], ◌∷◌, ◌++◌, length, nat_le, take, drop, Some, None, inl, inr, refl, sym}
+use Rattle.std.proofs.Common.{ap, ◌∙◌, subst, arith}
+use Rattle.std.{specs.{Prelude.codes, List.list_all}, proofs.lemmas.{Bool.cases_Bool, List.{append-nil, take-append-drop, Folds.list_any_at}, Option.same_Some}}
 use Rattle.ix_model.specs.world.Naming.{same_bytes}
-use Rattle.ix_text.specs.Bytes.{is_empty, begins_with, is_letter}
-use Rattle.ix_text.specs.Names.{is_script_name, may_stand_in_script_name, is_reserved, name_of}
+use Rattle.ix_text.specs.{Bytes.{is_empty, begins_with, is_letter}, Names.{is_script_name, may_stand_in_script_name, is_reserved, name_of}}
 use Rattle.ix_text.proofs.Tests.{both, list_all_weaker}
-use Rattle.ix_script.specs.texts.Cutting.{pieces, words_of, is_open, is_policy_line}
-use Rattle.ix_script.specs.lines.Before.{form_told, in_body, is_known, phase_lanes, lanes_after, lanes_of}
-use Rattle.ix_script.specs.lines.Forms.{form_of, frame_form}
-use Rattle.ix_script.specs.lines.Kinds.{first_broken, places_fault}
-use Rattle.ix_script.specs.lines.Rules.{has_empty_word, has_open_quote}
+use Rattle.ix_script.specs.{texts.Cutting.{pieces, words_of, is_open, is_policy_line}, lines.Forms.{form_of, frame_form}, lines.Said.line_of}
+use Rattle.ix_script.specs.{lines.Before.{form_told, in_body, is_known, phase_lanes, lanes_after, lanes_of}, lines.Kinds.{first_broken, places_fault}}
+use Rattle.ix_script.specs.{lines.Rules.{has_empty_word, has_open_quote}, scripts.Schedule.{SeatsDiffer, seat_from}}
+use Rattle.ix_script.specs.{reader.{Readers.LineRight, Told.{DraftTold, IsNextLane}}, declared.{body.Body.Body, draft.Draft.Draft, line.Line.Line}}
 use Rattle.ix_script.specs.lines.Faults.{text_fault, words_fault, stand_fault, names_fault, said_fault, form_fault, command_fault, line_fault}
-use Rattle.ix_script.specs.lines.Said.{line_of}
-use Rattle.ix_script.specs.scripts.Schedule.{SeatsDiffer, seat_from}
-use Rattle.ix_script.specs.reader.Readers.{LineRight}
-use Rattle.ix_script.specs.reader.Told.{DraftTold, IsNextLane}
-use Rattle.ix_script.specs.declared.body.Body.{Body}
-use Rattle.ix_script.specs.declared.draft.Draft.{Draft}
 use Rattle.ix_script.specs.declared.form.Form.TheVariants as form
-use Rattle.ix_script.specs.declared.line.Line.{Line}
 use Rattle.ix_script.specs.declared.line.Line.TheVariants as line
 use Rattle.ix_script.specs.declared.words.Spot.TheVariants as spot
-use Rattle.ix_script.proofs.lines.Deciding.{by_words, said_by_form}
-use Rattle.ix_script.proofs.reader.PhaseLanes.{ComesNext, comes_next}
-use Rattle.ix_script.proofs.reader.Seats.{seats_differ}
-use Rattle.ix_script.proofs.back.HexBack.{is_tame}
-use Rattle.ix_script.proofs.back.PayloadBack.{tame_whole, tame_closed}
+use Rattle.ix_script.proofs.{lines.Deciding.{by_words, said_by_form}, reader.{PhaseLanes.{ComesNext, comes_next}, Seats.seats_differ}}
+use Rattle.ix_script.proofs.back.{HexBack.is_tame, PayloadBack.{tame_whole, tame_closed}}
 
 -- ---- a name is one word
 tame_byte : (b : ℕ) → may_stand_in_script_name b ≡ true → is_tame b ≡ true

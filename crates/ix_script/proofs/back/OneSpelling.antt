@@ -1,38 +1,22 @@
 -- A word that is read has one spelling: that of what was read.
-use Rattle.std.proofs.Common.{◌≡◌, ℕ, ◌+◌, ◌^◌, ◌<◌, ◌≤◌, Bool, true, false, not, ◌&&◌, ◌||◌, ◌==◌, nat_le, cond, List, [], ◌∷◌, ◌++◌, length, get_or}
-use Rattle.std.proofs.Common.{map, drop, Option, Some, None, inl, inr, refl, sym, ap, ◌∙◌, option_map, IsSome, subst, arith}
-use Rattle.std.specs.Prelude.{codes}
-use Rattle.std.specs.List.{list_all, flat_map}
-use Rattle.std.specs.Fmt.{decimal}
-use Rattle.std.specs.Cmp.Lexicographic.{same_text}
-use Rattle.std.proofs.lemmas.Bool.{cases_Bool, leb-true, le-leb, eqb-true, false≢true, not-true}
-use Rattle.std.proofs.lemmas.Fmt.{decimal-digits_value}
-use Rattle.std.proofs.lemmas.List.Folds.{list_all-append, list_all-map}
-use Rattle.std.proofs.lemmas.Option.{cond_some, none-some}
+use Rattle.std.proofs.Common.{◌≡◌, ℕ, ◌+◌, ◌^◌, ◌<◌, ◌≤◌, Bool, true, false, not, ◌&&◌, ◌||◌, ◌==◌, nat_le, cond, List, [], ◌∷◌, ◌++◌, length, get_or, map, inl}
+use Rattle.std.proofs.Common.{drop, Option, Some, None, inr, refl, sym, ap, ◌∙◌, option_map, IsSome, subst, arith}
+use Rattle.std.specs.{Prelude.codes, List.{list_all, flat_map}, Fmt.decimal, Cmp.Lexicographic.same_text}
+use Rattle.std.proofs.{lemmas.Bool.{cases_Bool, leb-true, le-leb, eqb-true, false≢true, not-true}, lemmas.Fmt.decimal-digits_value}
+use Rattle.std.proofs.{lemmas.List.Folds.{list_all-append, list_all-map}, lemmas.Option.{cond_some, none-some}}
 use Rattle.std.proofs.lemmas.Str.Parse.{IsDigitsTest, IsNumeralModel, numerals_by_fold}
-use Rattle.ix_label.specs.declared.form.Form.{Form}
-use Rattle.ix_label.specs.Forms.{greatest}
-use Rattle.ix_label.specs.Category.{Categories}
-use Rattle.ix_label.specs.Spelling.{spelling}
-use Rattle.ix_model.specs.world.Naming.{PathOf, same_bytes}
-use Rattle.ix_model.specs.declared.call.Mode.{Mode}
+use Rattle.ix_label.specs.{declared.form.Form.Form, Forms.greatest, Category.Categories, Spelling.spelling}
+use Rattle.ix_model.specs.{world.{Naming.{PathOf, same_bytes}, Texts.{with_front, between_slashes, names_in}}, declared.{call.Mode.Mode, privs.PrivSet.PrivSet}}
 use Rattle.ix_model.specs.declared.call.Mode.TheVariants as mode
-use Rattle.ix_model.specs.declared.privs.PrivSet.{PrivSet}
-use Rattle.ix_model.specs.world.Texts.{with_front, between_slashes, names_in}
 use Rattle.ix_model.proofs.texts.Joining.{some_piece}
-use Rattle.ix_text.specs.Bytes.{begins, is_empty, is_digit, begins_with}
-use Rattle.ix_text.specs.Labels.{label_in, labels_below, is_spelled}
-use Rattle.ix_text.specs.Spellings.{letters, joined, letter_in, privs_text, mode_text, state_text}
-use Rattle.ix_script.specs.texts.Words.{is_numeral, value, value_from, number_of, is_path_word, path_in, path_of, made_path_of, mode_of, state_of, what_of, numbered, named, fd_of, keep_of}
-use Rattle.ix_text.specs.Names.{is_script_name, name_of}
-use Rattle.ix_text.specs.Privs.{bits_from, privs_of}
-use Rattle.ix_script.specs.lines.Before.{what_text}
-use Rattle.ix_script.specs.texts.Spellings.{path_text, fd_text, keep_text}
-use Rattle.ix_script.specs.declared.line.What.{What}
+use Rattle.ix_text.specs.{Bytes.{begins, is_empty, is_digit, begins_with}, Labels.{label_in, labels_below, is_spelled}, Names.{is_script_name, name_of}}
+use Rattle.ix_text.specs.{Spellings.{letters, joined, letter_in, privs_text, mode_text, state_text}, Privs.{bits_from, privs_of}}
+use Rattle.ix_script.specs.texts.Words.{is_numeral, value, value_from, number_of, is_path_word, path_in, path_of, made_path_of, mode_of, state_of, what_of}
+use Rattle.ix_script.specs.texts.Words.{numbered, named, fd_of, keep_of}
+use Rattle.ix_script.specs.{lines.Before.what_text, texts.Spellings.{path_text, fd_text, keep_text}}
+use Rattle.ix_script.specs.declared.line.{What.What, FdWord.FdWord, KeepWord.KeepWord}
 use Rattle.ix_script.specs.declared.line.What.TheVariants as what
-use Rattle.ix_script.specs.declared.line.FdWord.{FdWord}
 use Rattle.ix_script.specs.declared.line.FdWord.TheVariants as fd
-use Rattle.ix_script.specs.declared.line.KeepWord.{KeepWord}
 use Rattle.ix_script.specs.declared.line.KeepWord.TheVariants as keep
 use Rattle.ix_text.proofs.Tests.{both, join_tests}
 use Rattle.ix_script.proofs.reader.Told.{mapped, chosen, either, found}

@@ -1,24 +1,16 @@
 -- The shortest spelling of a payload is a word that is read back.
-use Rattle.std.proofs.Common.{◌≡◌, ℕ, ◌+◌, ◌^◌, ◌<◌, true, false, not, ◌&&◌, ◌||◌, ◌==◌, nat_lt, List, [], ◌∷◌, ◌++◌, length, get_or, take, drop, replicate, Some, inl, inr, refl, ap, ◌∙◌, arith}
-use Rattle.std.specs.List.{list_all, flat_map, position, position_or_len}
-use Rattle.std.specs.Fmt.{decimal}
-use Rattle.std.proofs.lemmas.Bool.{cases_Bool, ne_eqb, ltb-true, ltb-false, lt-ltb, not_from_false, not-true, or_right}
-use Rattle.std.proofs.lemmas.Bool.Decides.{nat_tests}
-use Rattle.std.proofs.lemmas.Fmt.{digits_decimal, digits_value-decimal, decimal_nonempty, first_decimal, decimal_digit}
-use Rattle.std.proofs.lemmas.List.{length-append}
-use Rattle.std.proofs.lemmas.List.Folds.{list_all-append}
-use Rattle.std.proofs.Math.Seq.{take-append_seam, drop-append-add}
+use Rattle.std.proofs.Common.{◌≡◌, ℕ, ◌+◌, ◌^◌, ◌<◌, true, false, not, ◌&&◌, ◌||◌, ◌==◌, nat_lt, List, [], ◌∷◌, ◌++◌, length, get_or, take, drop, replicate, ap}
+use Rattle.std.proofs.Common.{Some, inl, inr, refl, ◌∙◌, arith}
+use Rattle.std.specs.{List.{list_all, flat_map, position, position_or_len}, Fmt.decimal}
+use Rattle.std.proofs.{lemmas.Bool.{cases_Bool, ne_eqb, ltb-true, ltb-false, lt-ltb, not_from_false, not-true, or_right}, lemmas.Bool.Decides.nat_tests}
+use Rattle.std.proofs.{lemmas.Fmt.{digits_decimal, digits_value-decimal, decimal_nonempty, first_decimal, decimal_digit}, lemmas.List.length-append}
+use Rattle.std.proofs.{lemmas.List.Folds.list_all-append, Math.Seq.{take-append_seam, drop-append-add}}
 use Rattle.ix_model.specs.opening.Valid.{is_within}
-use Rattle.ix_script.specs.texts.Cutting.{pieces, is_open}
-use Rattle.ix_text.specs.Bytes.{begins, is_empty, is_digit, begins_with}
-use Rattle.ix_script.specs.texts.Words.{is_numeral, value}
-use Rattle.ix_script.specs.texts.Payloads.{◌>>=◌, times_from, times_of, payload_of}
-use Rattle.ix_text.specs.Spellings.{hex_pair}
+use Rattle.ix_script.specs.{texts.Cutting.{pieces, is_open}, texts.Words.{is_numeral, value}, texts.Payloads.{◌>>=◌, times_from, times_of, payload_of}}
 use Rattle.ix_script.specs.texts.Spellings.{pairs_text, times_text}
+use Rattle.ix_text.{specs.{Bytes.{begins, is_empty, is_digit, begins_with}, Spellings.hex_pair}, proofs.Tests.{both, join_tests, list_all_weaker}}
 use Rattle.ix_script.specs.declared.words.Spot.TheVariants as spot
-use Rattle.ix_text.proofs.Tests.{both, join_tests, list_all_weaker}
-use Rattle.ix_script.proofs.back.OneSpelling.{numerals}
-use Rattle.ix_script.proofs.back.HexBack.{is_tame, Small, pair_back, pairs_back, pairs_tame}
+use Rattle.ix_script.proofs.back.{OneSpelling.numerals, HexBack.{is_tame, Small, pair_back, pairs_back, pairs_tame}}
 
 -- a word that is read as these bytes, and is one word
 pub record Spells (bytes word : List ℕ) : Type 0 where

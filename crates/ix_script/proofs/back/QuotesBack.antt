@@ -1,22 +1,16 @@
 -- A payload in quotes is read back, and so is its shortest spelling.
-use Rattle.std.proofs.Common.{◌≡◌, ℕ, ◌+◌, ◌*◌, ◌/◌, ◌%◌, ◌^◌, ◌<◌, true, false, not, ◌&&◌, ◌||◌, ◌==◌, nat_lt, List, [], ◌∷◌, ◌++◌, length}
-use Rattle.std.proofs.Common.{replicate, Option, Some, None, inl, inr, refl, sym, ap, ◌∙◌, subst, arith}
-use Rattle.std.specs.List.{list_all, flat_map}
-use Rattle.std.specs.Option.{option_map_or}
-use Rattle.std.proofs.lemmas.Bool.{cases_Bool, eqb-true, and_right, not-true, or_cases, or_right}
-use Rattle.std.proofs.lemmas.Bool.Decides.{nat_tests}
-use Rattle.std.proofs.lemmas.List.{append_assoc}
+use Rattle.std.proofs.Common.{◌≡◌, ℕ, ◌+◌, ◌*◌, ◌/◌, ◌%◌, ◌^◌, ◌<◌, true, false, not, ◌&&◌, ◌||◌, ◌==◌, nat_lt, List, [], ◌∷◌, ◌++◌, length, replicate, Option}
+use Rattle.std.proofs.Common.{Some, None, inl, inr, refl, sym, ap, ◌∙◌, subst, arith}
+use Rattle.std.specs.{List.{list_all, flat_map}, Option.option_map_or}
+use Rattle.std.proofs.{lemmas.Bool.{cases_Bool, eqb-true, and_right, not-true, or_cases, or_right}, lemmas.Bool.Decides.nat_tests, lemmas.List.append_assoc}
 use Rattle.std.proofs.lemmas.Option.{cond_some, none-some}
 use Rattle.ix_model.specs.opening.Valid.{is_within}
-use Rattle.ix_script.specs.texts.Cutting.{pieces, is_closed}
-use Rattle.ix_script.specs.texts.Payloads.{escaped_byte, quoted_from, payload_of, pair_of, escape_step}
-use Rattle.ix_text.specs.Spellings.{hex_digit}
+use Rattle.ix_script.specs.texts.{Cutting.{pieces, is_closed}, Payloads.{escaped_byte, quoted_from, payload_of, pair_of, escape_step}}
+use Rattle.ix_script.proofs.back.{HexBack.{Small, digit_back, digit_tame, digit_inside}, PayloadBack.{Spells, tame_parts, pairs_spell, times_spell}}
+use Rattle.ix_text.{specs.Spellings.hex_digit, proofs.Tests.{both, join_tests}}
 use Rattle.ix_script.specs.texts.Spellings.{pairs_text, times_text, stands_quoted, quoted_byte, quoted_text, once, times_texts, shortest, payload_text}
 use Rattle.ix_script.specs.declared.words.Spot.TheVariants as spot
 use Rattle.ix_script.specs.declared.payload.Escape.TheVariants as escape
-use Rattle.ix_text.proofs.Tests.{both, join_tests}
-use Rattle.ix_script.proofs.back.HexBack.{Small, digit_back, digit_tame, digit_inside}
-use Rattle.ix_script.proofs.back.PayloadBack.{Spells, tame_parts, pairs_spell, times_spell}
 
 -- what stands after the first quote, up to the last
 record InQuotes (bytes text : List ℕ) : Type 0 where

@@ -1,49 +1,26 @@
 -- The text of a line, where it has a payload and where it has none.
-use Rattle.std.proofs.Common.{◌≡◌, ℕ, ◌+◌, ◌-◌, ◌≤◌, ◌==◌, nat_le, Bool, true, false, not, ◌&&◌, ◌⊎◌, drop, List, [], ◌∷◌, ◌++◌, length, take, Option}
-use Rattle.std.proofs.Common.{Some, None, option_map, codes, if◌then◌else◌, inl, inr, refl, sym, ap, ◌∙◌, subst, arith, length-append, append_assoc}
-use Rattle.std.proofs.lemmas.Bool.{eqb-true, le-leb, leb-true}
-use Rattle.std.proofs.lemmas.List.{append-nil, take_at, take-append-drop}
+use Rattle.std.proofs.Common.{◌≡◌, ℕ, ◌+◌, ◌-◌, ◌≤◌, ◌==◌, nat_le, Bool, true, false, not, ◌&&◌, ◌⊎◌, drop, List, [], ◌∷◌, ◌++◌, length, take, Option, Some, ap}
+use Rattle.std.proofs.Common.{None, option_map, codes, if◌then◌else◌, inl, inr, refl, sym, ◌∙◌, subst, arith, length-append, append_assoc}
+use Rattle.std.proofs.lemmas.{Bool.{eqb-true, le-leb, leb-true}, List.{append-nil, take_at, take-append-drop}, Option.cond_some}
 use Rattle.std.specs.Cmp.Lexicographic.{same_text}
-use Rattle.ix_model.specs.world.Naming.{same_bytes}
-use Rattle.std.proofs.lemmas.Option.{cond_some}
+use Rattle.ix_model.specs.world.Naming.{same_bytes, PathOf}
 use Rattle.ix_label.specs.declared.form.Form as spelled
-use Rattle.ix_text.specs.Labels.{label_in}
-use Rattle.ix_text.specs.Names.{name_of}
-use Rattle.ix_text.specs.Privs.{privs_of}
-use Rattle.ix_text.specs.Bytes.{is_empty}
-use Rattle.ix_text.specs.Spellings.{further, joined}
-use Rattle.ix_script.specs.texts.Cutting.{words_of, word_at, is_skipped, is_policy_line}
-use Rattle.ix_script.specs.texts.Payloads.{payload_of}
-use Rattle.ix_script.specs.texts.Spellings.{payload_text}
-use Rattle.ix_script.specs.texts.Words.{made_path_of, state_of, fd_of}
-use Rattle.ix_script.specs.lines.Before.{form_told}
-use Rattle.ix_script.specs.lines.Forms.{form_of}
+use Rattle.ix_text.specs.{Labels.label_in, Names.name_of, Privs.privs_of, Bytes.is_empty, Spellings.{further, joined}}
+use Rattle.ix_script.specs.{texts.Cutting.{words_of, word_at, is_skipped, is_policy_line}, texts.Payloads.payload_of, texts.Spellings.payload_text}
+use Rattle.ix_script.specs.{texts.Words.{made_path_of, state_of, fd_of}, lines.{Before.form_told, Forms.form_of}, reader.Placing.payload_place}
+use Rattle.ix_script.specs.scripts.{Canonical.{line_words, line_text, has_one_spelling, may_be_respelled}, Packed.{IsLine, line_in}}
+use Rattle.ix_script.specs.declared.{line.{Line.Line, FdWord.FdWord}, form.{Form.Form, Plain.Plain, OnPath.OnPath, OnFd.OnFd, Counted.Counted}}
 use Rattle.ix_script.specs.lines.Said.{within, payload_within, said, version_of, line_of, plain_line, path_line, fd_line, counted_line}
-use Rattle.ix_script.specs.scripts.Canonical.{line_words, line_text, has_one_spelling, may_be_respelled}
-use Rattle.ix_script.specs.scripts.Packed.{IsLine, line_in}
-use Rattle.ix_script.specs.reader.Placing.{payload_place}
-use Rattle.ix_script.specs.declared.line.Line.{Line}
 use Rattle.ix_script.specs.declared.line.Line.TheVariants as line
-use Rattle.ix_script.specs.declared.line.FdWord.{FdWord}
-use Rattle.ix_script.specs.declared.form.Form.{Form}
 use Rattle.ix_script.specs.declared.form.Form.TheVariants as form
-use Rattle.ix_script.specs.declared.form.Plain.{Plain}
 use Rattle.ix_script.specs.declared.form.Plain.TheVariants as plain
-use Rattle.ix_script.specs.declared.form.OnPath.{OnPath}
 use Rattle.ix_script.specs.declared.form.OnPath.TheVariants as on_path
-use Rattle.ix_script.specs.declared.form.OnFd.{OnFd}
 use Rattle.ix_script.specs.declared.form.OnFd.TheVariants as on_fd
-use Rattle.ix_script.specs.declared.form.Counted.{Counted}
 use Rattle.ix_script.specs.declared.form.Counted.TheVariants as counted
-use Rattle.ix_model.specs.world.Naming.{PathOf}
-use Rattle.ix_script.proofs.lines.Deciding.{no_version, said_is}
-use Rattle.ix_script.proofs.lines.FirstWords.{form_spelled}
-use Rattle.ix_script.proofs.lines.FormWords.{words_from, exactly, same, no_tail, of_3, of_6}
-use Rattle.ix_script.proofs.texts.Cuts.{words_joined}
-use Rattle.ix_script.proofs.reader.Told.{mapped, bound}
-use Rattle.ix_script.proofs.back.LineBack.{Formed, right_count}
+use Rattle.ix_script.proofs.lines.{Deciding.{no_version, said_is}, FirstWords.form_spelled, FormWords.{words_from, exactly, same, no_tail, of_3, of_6}}
+use Rattle.ix_script.proofs.{texts.Cuts.words_joined, reader.Told.{mapped, bound}}
+use Rattle.ix_script.proofs.back.{LineBack.{Formed, right_count}, TextBack.{later_of, some_text, command_sound, command_parts, body_sound, own_text}}
 use Rattle.ix_script.proofs.back.OneSpelling.{name_spelled, label_spelled, privs_spelled, made_path_spelled, state_spelled, fd_spelled}
-use Rattle.ix_script.proofs.back.TextBack.{later_of, some_text, command_sound, command_parts, body_sound, own_text}
 
 -- ---- no payload
 made_plain : {X : Type 0} (g : X → Line) (m : Option X) (l : Line) → ((x : X) → may_be_respelled (g x) ≡ false) → option_map g m ≡ Some l → may_be_respelled l ≡ false

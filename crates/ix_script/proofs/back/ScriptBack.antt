@@ -1,30 +1,17 @@
 -- The canonical text of a script is read back.
-use Rattle.std.proofs.Common.{◌≡◌, ℕ, suc, ◌+◌, ◌<◌, ◌≤◌, Bool, true, not, ◌==◌, List, [], ◌∷◌, ◌++◌, length, map, Option, Some, None, inl, inr, refl, sym, ap, ◌∙◌, subst, arith}
-use Rattle.std.specs.Prelude.{unwrap_or}
-use Rattle.std.specs.List.{list_all, flat_map}
-use Rattle.std.proofs.lemmas.Bool.{cases_Bool, le-ltb, not-true}
-use Rattle.std.proofs.lemmas.List.{append_assoc, length-append}
-use Rattle.std.proofs.lemmas.Option.{none-some, same_Some}
-use Rattle.std.proofs.lemmas.Bool.Decides.{nat_tests}
-use Rattle.ix_model.specs.opening.Valid.{is_within}
-use Rattle.ix_label.specs.declared.form.Form.{Form}
-use Rattle.ix_label.specs.declared.form.Form.TheVariants.{One}
-use Rattle.ix_model.specs.world.Texts.{with_front}
-use Rattle.ix_script.specs.texts.Lines.{cut, lines_of}
-use Rattle.ix_script.specs.lines.Before.{form_by, form_told}
-use Rattle.ix_script.specs.lines.Said.{both, version_of, line_of}
+use Rattle.std.proofs.Common.{◌≡◌, ℕ, suc, ◌+◌, ◌<◌, ◌≤◌, Bool, true, not, ◌==◌, List, [], ◌∷◌, ◌++◌, length, map, Option, Some, None, inl, inr, refl, sym, ap}
+use Rattle.std.proofs.Common.{◌∙◌, subst, arith}
+use Rattle.std.specs.{Prelude.unwrap_or, List.{list_all, flat_map}}
+use Rattle.std.proofs.lemmas.{Bool.{cases_Bool, le-ltb, not-true, Decides.nat_tests}, List.{append_assoc, length-append}, Option.{none-some, same_Some}}
+use Rattle.ix_model.specs.{opening.Valid.is_within, world.Texts.with_front}
+use Rattle.ix_label.specs.declared.form.Form.{Form, TheVariants.One}
+use Rattle.ix_script.specs.{texts.Lines.{cut, lines_of}, lines.Before.{form_by, form_told}, lines.Said.{both, version_of, line_of}, declared.line.Line.Line}
 use Rattle.ix_script.specs.lines.Faults.{or_next, text_fault, body_fault, line_fault, fault_from, fault_of}
-use Rattle.ix_script.specs.scripts.Scripts.{form_in, lines_said, script_of}
-use Rattle.ix_script.specs.scripts.Canonical.{line_text, canonical_in, canonical}
-use Rattle.ix_script.specs.declared.line.Line.{Line}
+use Rattle.ix_script.specs.scripts.{Scripts.{form_in, lines_said, script_of}, Canonical.{line_text, canonical_in, canonical}}
 use Rattle.ix_script.specs.declared.line.Line.TheVariants as line
-use Rattle.ix_text.proofs.Tests.{both as both_true}
-use Rattle.ix_text.proofs.Tests.{join_tests, list_all_weaker}
-use Rattle.ix_script.proofs.reader.Told.{mapped, paired, neither}
-use Rattle.ix_script.proofs.lines.Faultless.{text_parts}
-use Rattle.ix_script.proofs.lines.Deciding.{version_is, version_said, first_version, first_faultless}
-use Rattle.ix_script.proofs.lines.EachLine.{no_fault_from, read_parts, first_told}
-use Rattle.ix_script.proofs.back.TextBack.{version_spelled, line_back}
+use Rattle.ix_text.proofs.Tests.{both as both_true, join_tests, list_all_weaker}
+use Rattle.ix_script.proofs.{reader.Told.{mapped, paired, neither}, lines.Faultless.text_parts, lines.EachLine.{no_fault_from, read_parts, first_told}}
+use Rattle.ix_script.proofs.{lines.Deciding.{version_is, version_said, first_version, first_faultless}, back.TextBack.{version_spelled, line_back}}
 
 -- ---- texts with a line feed after each
 -- how many bytes they are

@@ -1,27 +1,18 @@
 -- No spelling of a payload is shorter than the shortest.
-use Rattle.std.proofs.Common.{◌≡◌, ℕ, zero, suc, ◌+◌, ◌^◌, ◌<◌, ◌≤◌, true, false, ◌||◌, ◌==◌, nat_lt, nat_le, cond, List, [], ◌∷◌, ◌++◌, length}
-use Rattle.std.proofs.Common.{get_or, take, drop, replicate, Option, Some, None, inl, inr, refl, sym, ap, ◌∙◌, option_map, subst, arith}
-use Rattle.std.specs.Prelude.{if◌then◌else◌}
-use Rattle.std.specs.List.{list_all, flat_map, position, position_or_len}
-use Rattle.std.specs.Fmt.{decimal}
-use Rattle.std.proofs.lemmas.Bool.{cases_Bool, eqb-true, ltb-true, ltb-false, leb-true, eq-eqb, or_cases}
-use Rattle.std.proofs.lemmas.List.{length-append, length-replicate}
-use Rattle.std.proofs.lemmas.List.Sums.{split_at_first}
-use Rattle.std.proofs.lemmas.Option.{cond_some, none-some, same_Some}
+use Rattle.std.proofs.Common.{◌≡◌, ℕ, zero, suc, ◌+◌, ◌^◌, ◌<◌, ◌≤◌, true, false, ◌||◌, ◌==◌, nat_lt, nat_le, cond, List, [], ◌∷◌, ◌++◌, length, get_or, take}
+use Rattle.std.proofs.Common.{drop, replicate, Option, Some, None, inl, inr, refl, sym, ap, ◌∙◌, option_map, subst, arith}
+use Rattle.std.specs.{Prelude.{if◌then◌else◌}, List.{list_all, flat_map, position, position_or_len}, Fmt.decimal}
+use Rattle.std.proofs.{lemmas.Bool.{cases_Bool, eqb-true, ltb-true, ltb-false, leb-true, eq-eqb, or_cases}, lemmas.List.{length-append, length-replicate}}
+use Rattle.std.proofs.{lemmas.List.Sums.split_at_first, lemmas.Option.{cond_some, none-some, same_Some}}
 use Rattle.ix_model.specs.opening.Valid.{is_within}
-use Rattle.ix_text.specs.Bytes.{begins, is_empty}
-use Rattle.ix_script.specs.texts.Words.{is_numeral, value}
-use Rattle.ix_script.specs.texts.Payloads.{◌>>=◌, after_bytes, pair_of, pairs_of, escaped_byte, escape_step, ends, bytes_of, quoted_from, two_digits, times_from, times_of, payload_of}
-use Rattle.ix_script.specs.lines.Said.{payload_within}
-use Rattle.ix_text.specs.Spellings.{hex_pair}
+use Rattle.ix_text.{specs.{Bytes.{begins, is_empty}, Spellings.hex_pair}, proofs.Tests.{both, join_tests}}
+use Rattle.ix_script.specs.{texts.Words.{is_numeral, value}, lines.Said.payload_within, declared.payload.Escape.Escape}
+use Rattle.ix_script.specs.texts.Payloads.{◌>>=◌, after_bytes, pair_of, pairs_of, escaped_byte, escape_step, ends, bytes_of, quoted_from, two_digits, times_of}
+use Rattle.ix_script.specs.texts.Payloads.{times_from, payload_of}
 use Rattle.ix_script.specs.texts.Spellings.{pairs_text, times_text, stands_quoted, quoted_byte, quoted_text, once, times_texts, shortest, payload_text}
-use Rattle.ix_script.specs.declared.payload.Escape.{Escape}
 use Rattle.ix_script.specs.declared.payload.Escape.TheVariants as escape
-use Rattle.ix_text.proofs.Tests.{both, join_tests}
 use Rattle.ix_script.proofs.reader.Told.{bound, mapped, chosen, either}
-use Rattle.ix_script.proofs.back.OneSpelling.{decimal_of_value, begun}
-use Rattle.ix_script.proofs.back.HexBack.{Small, pair_small, pairs_long}
-use Rattle.ix_script.proofs.back.Shortest.{length-pairs}
+use Rattle.ix_script.proofs.back.{OneSpelling.{decimal_of_value, begun}, HexBack.{Small, pair_small, pairs_long}, Shortest.length-pairs}
 
 -- ---- the first of the shortest
 le_first : (text : List ℕ) (others : List (List ℕ)) → length (shortest text others) ≤ length text

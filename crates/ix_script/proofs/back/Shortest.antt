@@ -1,11 +1,8 @@
 -- The shortest spelling of a payload, by the lengths of its spellings.
-use Rattle.std.proofs.Common.{◌≡◌, ℕ, zero, suc, ◌+◌, ◌*◌, ◌<◌, ◌≤◌, ◌==◌, Bool, true, false, ◌&&◌, ◌||◌, cond, codes, replicate, ap, List, [], ◌∷◌}
-use Rattle.std.proofs.Common.{◌++◌, length, drop, get_or, Some, None, refl, sym, ◌∙◌, arith}
-use Rattle.std.specs.Prelude.{if◌then◌else◌}
-use Rattle.std.specs.List.{flat_map, list_all}
-use Rattle.std.specs.Fmt.{decimal}
-use Rattle.std.proofs.lemmas.Bool.{lt-ltb, le-ltb, eq-eqb}
-use Rattle.std.proofs.lemmas.List.{at_drop_more, length-append, length-replicate}
+use Rattle.std.proofs.Common.{◌≡◌, ℕ, zero, suc, ◌+◌, ◌*◌, ◌<◌, ◌≤◌, ◌==◌, Bool, true, false, ◌&&◌, ◌||◌, cond, codes, replicate, ap, List, [], ◌∷◌, ◌++◌, drop}
+use Rattle.std.proofs.Common.{length, get_or, Some, None, refl, sym, ◌∙◌, arith}
+use Rattle.std.specs.{Prelude.{if◌then◌else◌}, List.{flat_map, list_all}, Fmt.decimal}
+use Rattle.std.proofs.lemmas.{Bool.{lt-ltb, le-ltb, eq-eqb}, List.{at_drop_more, length-append, length-replicate}}
 use Rattle.ix_text.specs.Spellings.{hex_pair}
 use Rattle.ix_script.specs.texts.Spellings.{pairs_text, times_text, stands_quoted, quoted_byte, quoted_text, once, shortest, payload_text}
 

@@ -1,31 +1,21 @@
 -- The canonical text of any line.
-use Rattle.std.proofs.Common.{◌≡◌, ℕ, Bool, true, false, cond, List, [], ◌∷◌, ◌++◌, take, drop, Option, Some, None, option_map, ◌⊎◌, inl, inr, refl, sym, ap, ◌∙◌, subst, arith}
-use Rattle.std.specs.Prelude.{codes}
-use Rattle.std.specs.Option.{option_map_or, option_or}
-use Rattle.std.specs.Cmp.Lexicographic.{same_text}
-use Rattle.std.proofs.lemmas.Bool.{false≢true, or_cases, or_parts}
-use Rattle.std.proofs.lemmas.List.{append-nil, take-append-drop}
-use Rattle.std.proofs.lemmas.Option.{same_Some, none-some}
+use Rattle.std.proofs.Common.{◌≡◌, ℕ, Bool, true, false, cond, List, [], ◌∷◌, ◌++◌, take, drop, Option, Some, None, option_map, ◌⊎◌, inl, inr, refl, sym, ap}
+use Rattle.std.proofs.Common.{◌∙◌, subst, arith}
+use Rattle.std.specs.{Prelude.codes, Option.{option_map_or, option_or}, Cmp.Lexicographic.same_text}
+use Rattle.std.proofs.lemmas.{Bool.{false≢true, or_cases, or_parts}, List.{append-nil, take-append-drop}, Option.{same_Some, none-some}}
 use Rattle.ix_model.specs.world.Naming.{same_bytes}
-use Rattle.ix_script.specs.texts.Cutting.{is_skipped, is_policy_line, policy_text, words_of, word_at}
-use Rattle.ix_text.specs.Bytes.{is_empty, begins}
-use Rattle.ix_script.specs.lines.Forms.{form_of}
-use Rattle.ix_label.specs.declared.form.Form as spelled
-use Rattle.ix_label.specs.declared.form.Form.TheVariants.{One, Two}
-use Rattle.ix_script.specs.lines.Before.{form_told, has_policy, in_body}
-use Rattle.ix_script.specs.lines.Rules.{is_too_long, is_unprintable}
+use Rattle.ix_script.specs.{texts.Cutting.{is_skipped, is_policy_line, policy_text, words_of, word_at}, lines.Forms.form_of}
+use Rattle.ix_script.specs.{lines.Before.{form_told, has_policy, in_body}, lines.Rules.{is_too_long, is_unprintable}, declared.{line.Line.Line, form.Form.Form}}
 use Rattle.ix_script.specs.lines.Said.{said, said_by_words, version_of, line_of}
 use Rattle.ix_script.specs.lines.Faults.{text_fault, words_fault, form_fault, command_fault, policy_fault, body_fault, line_fault}
 use Rattle.ix_script.specs.scripts.Canonical.{line_words, line_text, has_one_spelling, may_be_respelled}
-use Rattle.ix_script.specs.declared.line.Line.{Line}
+use Rattle.ix_text.specs.Bytes.{is_empty, begins}
+use Rattle.ix_label.specs.declared.form.Form as spelled
+use Rattle.ix_label.specs.declared.form.Form.TheVariants.{One, Two}
 use Rattle.ix_script.specs.declared.line.Line.TheVariants as line
-use Rattle.ix_script.specs.declared.form.Form.{Form}
-use Rattle.ix_script.proofs.reader.Told.{either, bound, neither}
-use Rattle.ix_script.proofs.lines.Deciding.{version_text, version_is, version_said, first_version, first_faultless}
-use Rattle.ix_script.proofs.lines.FirstWords.{form_spelled}
-use Rattle.ix_script.proofs.lines.Faultless.{one_kept}
-use Rattle.ix_script.proofs.back.LineBack.{Back, Respelled, itself, skipped_several}
-use Rattle.ix_script.proofs.back.FormBack.{form_spelled_again}
+use Rattle.ix_script.proofs.{reader.Told.{either, bound, neither}, lines.Deciding.{version_text, version_is, version_said, first_version, first_faultless}}
+use Rattle.ix_script.proofs.{lines.FirstWords.form_spelled, lines.Faultless.one_kept}
+use Rattle.ix_script.proofs.back.{LineBack.{Back, Respelled, itself, skipped_several}, FormBack.form_spelled_again}
 
 -- ---- where a line stands
 pub body_sound : (before : List Line) (text : List ℕ) → line_fault before text ≡ None → body_fault before text ≡ None

@@ -1,10 +1,7 @@
 -- A line is a command by its role.
 use Rattle.std.proofs.Common.{◌≡◌, ◌⊎◌, Bool, true, false, refl, ap, inl, inr}
-use Rattle.ix_script.specs.lines.Before.{is_command}
-use Rattle.ix_script.specs.lines.Roles.{role_of}
-use Rattle.ix_script.specs.declared.line.Line.{Line}
+use Rattle.ix_script.specs.{lines.{Before.is_command, Roles.role_of}, declared.{line.Line.Line, role.Role.Role}}
 use Rattle.ix_script.specs.declared.line.Line.TheVariants as line
-use Rattle.ix_script.specs.declared.role.Role.{Role}
 use Rattle.ix_script.specs.declared.role.Role.TheVariants as role
 
 abbrev pub command_role : Role → Bool

@@ -1,29 +1,18 @@
 -- Which rules look at a line, by where it stands and how it begins.
-use Rattle.std.proofs.Common.{◌≡◌, ◌≢◌, ℕ, zero, suc, ◌<◌, ◌≤◌, ◌==◌, true, false, true≢false, cond, List, [], ◌∷◌, length, drop, Option, Some, None}
-use Rattle.std.proofs.Common.{Result, codes, refl, sym, ap, ◌∙◌, subst, arith, inl, inr}
-use Rattle.std.specs.Cmp.Lexicographic.{same_text}
-use Rattle.std.specs.Option.{is_none}
-use Rattle.std.proofs.lemmas.Bool.{ne_eqb}
-use Rattle.std.proofs.lemmas.List.{drop_all}
-use Rattle.std.proofs.lemmas.Option.{same_Some, none-some}
-use Rattle.ix_label.specs.declared.form.Form.{Form}
-use Rattle.ix_label.specs.declared.form.Form.TheVariants.{One, Two}
+use Rattle.std.proofs.Common.{◌≡◌, ◌≢◌, ℕ, zero, suc, ◌<◌, ◌≤◌, ◌==◌, true, false, true≢false, cond, List, [], ◌∷◌, length, drop, Option, Some, None, Result}
+use Rattle.std.proofs.Common.{codes, refl, sym, ap, ◌∙◌, subst, arith, inl, inr}
+use Rattle.std.{specs.{Cmp.Lexicographic.same_text, Option.is_none}, proofs.lemmas.{Bool.ne_eqb, List.drop_all, Option.{same_Some, none-some}}}
+use Rattle.ix_label.specs.declared.form.Form.{Form, TheVariants.{One, Two}}
 use Rattle.ix_model.specs.world.Naming.{same_bytes}
-use Rattle.ix_script.specs.lines.Before.{form_told, in_body, has_policy}
-use Rattle.ix_script.specs.declared.form.Form as of_words
+use Rattle.ix_script.specs.{lines.Before.{form_told, in_body, has_policy}, lines.Rules.{first_of, has_empty_word, has_open_quote}}
+use Rattle.ix_script.specs.{lines.Said.{said, version_of, line_of}, reader.Readers.{LineRight, Tells}, declared.{fail.Rule.Rule, line.Line.Line}}
 use Rattle.ix_script.specs.texts.Cutting.{pieces, words_of, word_at, is_closed, is_skipped, is_policy_line, policy_text}
-use Rattle.ix_text.specs.Bytes.{is_empty}
+use Rattle.ix_script.specs.declared.form.Form as of_words
+use Rattle.ix_text.{specs.Bytes.is_empty, proofs.Tests.bool_cases}
 use Rattle.ix_script.specs.lines.Forms.{plain_of, on_path_of, on_fd_of, counted_of, frame_form, group_form, file_form, process_form, form_of}
-use Rattle.ix_script.specs.lines.Rules.{first_of, has_empty_word, has_open_quote}
 use Rattle.ix_script.specs.lines.Faults.{text_fault, line_fault, words_fault, said_fault, command_fault, policy_fault, first_line_fault, body_fault}
-use Rattle.ix_script.specs.lines.Said.{said, version_of, line_of}
-use Rattle.ix_script.specs.reader.Readers.{LineRight, Tells}
-use Rattle.ix_script.specs.declared.fail.Rule.{Rule}
-use Rattle.ix_script.specs.declared.line.Line.{Line}
 use Rattle.ix_script.specs.declared.line.Line.TheVariants as line
-use Rattle.ix_text.proofs.Tests.{bool_cases}
-use Rattle.ix_script.proofs.lines.Faultless.{one_kept}
-use Rattle.ix_script.proofs.reader.Told.{neither}
+use Rattle.ix_script.proofs.{lines.Faultless.one_kept, reader.Told.neither}
 
 pub skipped_fits : (before : List Line) → said_fault before line.Skipped ≡ None
 unfolding said_fault

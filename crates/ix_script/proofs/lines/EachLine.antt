@@ -1,20 +1,13 @@
 -- What holds of each line that is read without a fault holds along a script.
 use Rattle.std.proofs.Common.{◌≡◌, ℕ, ◌+◌, true, nat_lt, List, [], ◌∷◌, ◌++◌, length, Option, Some, None, inl, inr, refl, sym, ap, ◌∙◌, subst}
-use Rattle.std.specs.Prelude.{unwrap_or}
-use Rattle.std.specs.Option.{is_none, option_map_or}
-use Rattle.std.proofs.lemmas.Bool.{cases_Bool, false≢true}
-use Rattle.std.proofs.lemmas.Option.{none-some, same_Some}
+use Rattle.std.{specs.{Prelude.unwrap_or, Option.{is_none, option_map_or}}, proofs.lemmas.{Bool.{cases_Bool, false≢true}, Option.{none-some, same_Some}}}
 use Rattle.ix_label.specs.declared.form.Form as spelled
 use Rattle.ix_label.specs.declared.form.Form.TheVariants.{One}
-use Rattle.ix_script.specs.texts.Cutting.{is_skipped, is_policy_line, policy_text, words_of, word_at}
-use Rattle.ix_script.specs.texts.Lines.{lines_of}
-use Rattle.ix_script.specs.lines.Before.{form_by, form_told}
-use Rattle.ix_script.specs.lines.Kinds.{places_fault}
-use Rattle.ix_script.specs.lines.Forms.{form_of, places}
-use Rattle.ix_script.specs.lines.Said.{both, said, said_by_words, version_of, line_of}
-use Rattle.ix_script.specs.lines.Faults.{or_next, text_fault, words_fault, stand_fault, names_fault, said_fault, form_fault, command_fault, body_fault, line_fault, fault_from, fault_of}
-use Rattle.ix_script.specs.scripts.Scripts.{form_in, lines_said, script_of}
-use Rattle.ix_script.specs.declared.line.Line.{Line}
+use Rattle.ix_script.specs.{texts.{Cutting.{is_skipped, is_policy_line, policy_text, words_of, word_at}, Lines.lines_of}, lines.Before.{form_by, form_told}}
+use Rattle.ix_script.specs.{lines.Kinds.places_fault, lines.Forms.{form_of, places}, lines.Said.{both, said, said_by_words, version_of, line_of}}
+use Rattle.ix_script.specs.{scripts.Scripts.{form_in, lines_said, script_of}, declared.line.Line.Line}
+use Rattle.ix_script.specs.lines.Faults.{or_next, text_fault, words_fault, stand_fault, names_fault, said_fault, form_fault, command_fault, body_fault}
+use Rattle.ix_script.specs.lines.Faults.{line_fault, fault_from, fault_of}
 use Rattle.ix_script.specs.declared.line.Line.TheVariants as line
 use Rattle.ix_script.proofs.reader.Told.{mapped, paired, bound, either, neither}
 use Rattle.ix_script.proofs.lines.Deciding.{skipped_fits, version_fits, policy_fits, version_said, first_version, first_faultless, not_ix}

@@ -1,19 +1,14 @@
 -- What a text, and its words, without a fault are.
 use Rattle.std.proofs.Common.{◌≡◌, ℕ, ◌≤◌, Bool, true, false, not, ◌||◌, nat_lt, cond, List, [], ◌∷◌, ◌++◌, length, Some, None, refl, sym, ap, ◌∙◌}
-use Rattle.std.specs.List.{list_all, list_any}
-use Rattle.std.specs.Option.{option_map_or, is_none}
-use Rattle.std.proofs.lemmas.Bool.{not-false, ltb-false, le-ltb, or_parts, or_from}
-use Rattle.std.proofs.lemmas.List.Folds.{list_any-append}
-use Rattle.std.proofs.lemmas.Option.{none-some}
+use Rattle.std.specs.{List.{list_all, list_any}, Option.{option_map_or, is_none}}
+use Rattle.std.proofs.lemmas.{Bool.{not-false, ltb-false, le-ltb, or_parts, or_from}, List.Folds.list_any-append, Option.none-some}
 use Rattle.ix_model.specs.opening.Valid.{is_within}
-use Rattle.ix_script.specs.texts.Cutting.{is_open}
+use Rattle.ix_script.specs.texts.{Cutting.is_open, Payloads.payload_of}
+use Rattle.ix_script.specs.lines.{Rules.{first_of, is_too_long, is_unprintable, has_empty_word, has_open_quote}, Faults.{text_fault, words_fault}}
 use Rattle.ix_text.specs.Bytes.{is_empty}
-use Rattle.ix_script.specs.lines.Kinds.{Kind, Place, is_bad_name, is_bad_number, is_out_of_range, is_bad_label, is_bad_set, is_bad_path}
-use Rattle.ix_script.specs.lines.Kinds.{is_unknown_word, is_bad_payload, is_long_payload, place_rules, first_broken, places_fault}
+use Rattle.ix_script.specs.lines.Kinds.{Kind, Place, is_bad_name, is_bad_number, is_out_of_range, is_bad_label, is_bad_set, is_bad_path, is_unknown_word}
+use Rattle.ix_script.specs.lines.Kinds.{is_bad_payload, is_long_payload, place_rules, first_broken, places_fault}
 use Rattle.ix_script.specs.lines.Kinds as kind
-use Rattle.ix_script.specs.texts.Payloads.{payload_of}
-use Rattle.ix_script.specs.lines.Rules.{first_of, is_too_long, is_unprintable, has_empty_word, has_open_quote}
-use Rattle.ix_script.specs.lines.Faults.{text_fault, words_fault}
 
 -- no rule of a list is broken
 pub one_kept : (m : ℕ) (a : Bool) (rules : List (ℕ × Bool)) → first_of ((m, a) ∷ rules) ≡ None → (a ≡ false) × (first_of rules ≡ None)

@@ -1,19 +1,13 @@
 -- The first word of each form.
-use Rattle.std.proofs.Common.{◌≡◌, ℕ, List, Option, Some, inl, inr, refl, sym, ap, ◌∙◌, option_map}
-use Rattle.std.specs.Prelude.{codes}
+use Rattle.std.{proofs.Common.{◌≡◌, ℕ, List, Option, Some, inl, inr, refl, sym, ap, ◌∙◌, option_map}, specs.Prelude.codes}
 use Rattle.ix_script.specs.lines.Forms.{plain_of, on_path_of, on_fd_of, counted_of, frame_form, group_form, file_form, process_form, form_of}
-use Rattle.ix_script.specs.declared.form.Form.{Form}
+use Rattle.ix_script.specs.declared.form.{Form.Form, Plain.Plain, OnPath.OnPath, OnFd.OnFd, Counted.Counted}
+use Rattle.ix_script.proofs.{reader.Told.{mapped, one_of}, back.OneSpelling.{choose, no_more}}
 use Rattle.ix_script.specs.declared.form.Form.TheVariants as form
-use Rattle.ix_script.specs.declared.form.Plain.{Plain}
 use Rattle.ix_script.specs.declared.form.Plain.TheVariants as plain
-use Rattle.ix_script.specs.declared.form.OnPath.{OnPath}
 use Rattle.ix_script.specs.declared.form.OnPath.TheVariants as on_path
-use Rattle.ix_script.specs.declared.form.OnFd.{OnFd}
 use Rattle.ix_script.specs.declared.form.OnFd.TheVariants as on_fd
-use Rattle.ix_script.specs.declared.form.Counted.{Counted}
 use Rattle.ix_script.specs.declared.form.Counted.TheVariants as counted
-use Rattle.ix_script.proofs.reader.Told.{mapped, one_of}
-use Rattle.ix_script.proofs.back.OneSpelling.{choose, no_more}
 
 abbrev pub plain_word : Plain → List ℕ
 plain_word plain.Wait = codes "wait"

@@ -1,25 +1,15 @@
 -- The labels of a line that was read in a form fit that form.
-use Rattle.std.proofs.Common.{◌≡◌, ℕ, List, Option, Some, None, option_map, inl, inr, subst}
-use Rattle.std.specs.Option.{option_or}
-use Rattle.std.proofs.lemmas.Option.{same_Some}
+use Rattle.std.{proofs.{Common.{◌≡◌, ℕ, List, Option, Some, None, option_map, inl, inr, subst}, lemmas.Option.same_Some}, specs.Option.option_or}
 use Rattle.ix_label.specs.declared.form.Form as spelled
 use Rattle.ix_model.specs.world.Naming.{PathOf}
-use Rattle.ix_script.specs.texts.Cutting.{is_skipped, is_policy_line, policy_text, words_of, word_at}
-use Rattle.ix_script.specs.lines.Forms.{form_of}
+use Rattle.ix_script.specs.{texts.Cutting.{is_skipped, is_policy_line, policy_text, words_of, word_at}, lines.Forms.form_of, lines.Fits.LineFits}
 use Rattle.ix_script.specs.lines.Said.{plain_line, path_line, fd_line, counted_line, said, said_by_words, version_of, line_of}
-use Rattle.ix_script.specs.lines.Fits.{LineFits}
-use Rattle.ix_script.specs.declared.form.Form.{Form}
+use Rattle.ix_script.specs.declared.{form.{Form.Form, Plain.Plain, OnPath.OnPath, OnFd.OnFd, Counted.Counted}, line.{FdWord.FdWord, Line.Line}}
 use Rattle.ix_script.specs.declared.form.Form.TheVariants as form
-use Rattle.ix_script.specs.declared.form.Plain.{Plain}
 use Rattle.ix_script.specs.declared.form.Plain.TheVariants as plain
-use Rattle.ix_script.specs.declared.form.OnPath.{OnPath}
 use Rattle.ix_script.specs.declared.form.OnPath.TheVariants as on_path
-use Rattle.ix_script.specs.declared.form.OnFd.{OnFd}
 use Rattle.ix_script.specs.declared.form.OnFd.TheVariants as on_fd
-use Rattle.ix_script.specs.declared.form.Counted.{Counted}
 use Rattle.ix_script.specs.declared.form.Counted.TheVariants as counted
-use Rattle.ix_script.specs.declared.line.FdWord.{FdWord}
-use Rattle.ix_script.specs.declared.line.Line.{Line}
 use Rattle.ix_script.specs.declared.line.Line.TheVariants as line
 use Rattle.ix_script.proofs.reader.Told.{mapped, paired, bound, either}
 use Rattle.ix_text.proofs.AllLabels.{label_fits}

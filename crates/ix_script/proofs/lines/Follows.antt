@@ -1,7 +1,6 @@
 -- A line that breaks no rule on what it says.
 use Rattle.std.proofs.Common.{◌≡◌, ℕ, Bool, true, false, cond, List, Option, Some, None, refl}
-use Rattle.ix_script.specs.lines.Rules.{is_above, is_misplaced, exceeds_limits, is_out_of_order, is_one_too_many, lacks_policy}
-use Rattle.ix_script.specs.lines.Faults.{said_fault}
+use Rattle.ix_script.specs.lines.{Rules.{is_above, is_misplaced, exceeds_limits, is_out_of_order, is_one_too_many, lacks_policy}, Faults.said_fault}
 use Rattle.ix_script.specs.declared.line.Line.{Line}
 
 pub record Follows (before : List Line) (l : Line) : Type 0 where

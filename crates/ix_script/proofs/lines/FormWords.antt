@@ -1,43 +1,26 @@
 -- The words that are read are those of the line that they say, but for a payload.
-use Rattle.std.proofs.Common.{◌≡◌, ℕ, zero, suc, ◌+◌, ◌≤◌, Bool, true, false, ◌&&◌, ◌||◌, ◌==◌, nat_le, cond, List, [], ◌∷◌, ◌++◌, length, Option}
-use Rattle.std.proofs.Common.{Some, None, ◌⊎◌, inl, inr, refl, sym, ap, ◌∙◌, option_map, subst, arith}
-use Rattle.std.specs.Prelude.{codes}
-use Rattle.std.proofs.lemmas.Bool.{or_cases, eqb-true, le-leb, lt-leb}
-use Rattle.std.proofs.lemmas.List.{get_or_at, length_push, append_assoc}
-use Rattle.std.proofs.lemmas.Option.{same_Some}
-use Rattle.std.specs.Fmt.{decimal}
-use Rattle.std.specs.Cmp.Lexicographic.{same_text}
+use Rattle.std.proofs.Common.{◌≡◌, ℕ, zero, suc, ◌+◌, ◌≤◌, Bool, true, false, ◌&&◌, ◌||◌, ◌==◌, nat_le, cond, List, [], ◌∷◌, ◌++◌, length, Option, Some, None}
+use Rattle.std.proofs.Common.{◌⊎◌, inl, inr, refl, sym, ap, ◌∙◌, option_map, subst, arith}
+use Rattle.std.specs.{Prelude.codes, Fmt.decimal, Cmp.Lexicographic.same_text}
+use Rattle.std.proofs.lemmas.{Bool.{or_cases, eqb-true, le-leb, lt-leb}, List.{get_or_at, length_push, append_assoc}, Option.same_Some}
 use Rattle.ix_model.specs.world.Naming.{PathOf, same_bytes}
 use Rattle.ix_label.specs.declared.form.Form.{Form}
-use Rattle.ix_script.specs.texts.Cutting.{word_at}
-use Rattle.ix_text.specs.Labels.{label_in}
-use Rattle.ix_script.specs.texts.Words.{number_of, path_of, made_path_of, mode_of, state_of, what_of, fd_of, keep_of}
-use Rattle.ix_text.specs.Names.{name_of}
-use Rattle.ix_text.specs.Privs.{privs_of}
-use Rattle.ix_script.specs.lines.Kinds.{bounds, bounds_of}
-use Rattle.ix_script.specs.lines.Forms.{has_right_count}
-use Rattle.ix_script.specs.lines.Said.{both, any_number, name_after, two_names_after, plain_line, path_line, fd_line, counted_line, said}
-use Rattle.ix_script.specs.texts.Spellings.{path_text, fd_text, as_name, as_names}
+use Rattle.ix_script.specs.{texts.Cutting.word_at, texts.Words.{number_of, path_of, made_path_of, mode_of, state_of, what_of, fd_of, keep_of}}
+use Rattle.ix_script.specs.{texts.Spellings.{path_text, fd_text, as_name, as_names}, lines.{Kinds.{bounds, bounds_of}, Forms.has_right_count}}
 use Rattle.ix_script.specs.scripts.Canonical.{line_words}
-use Rattle.ix_script.specs.declared.line.Line.{Line}
+use Rattle.ix_script.specs.declared.{line.{Line.Line, What.What, FdWord.FdWord}, form.{Plain.Plain, OnPath.OnPath, OnFd.OnFd, Counted.Counted}}
+use Rattle.ix_text.{specs.{Labels.label_in, Names.name_of, Privs.privs_of}, proofs.Tests.{both as both_true}}
+use Rattle.ix_script.specs.lines.Said.{both, any_number, name_after, two_names_after, plain_line, path_line, fd_line, counted_line, said}
 use Rattle.ix_script.specs.declared.line.Line.TheVariants as line
-use Rattle.ix_script.specs.declared.line.What.{What}
 use Rattle.ix_script.specs.declared.line.What.TheVariants as what
-use Rattle.ix_script.specs.declared.line.FdWord.{FdWord}
 use Rattle.ix_script.specs.declared.form.Form.TheVariants as form
-use Rattle.ix_script.specs.declared.form.Plain.{Plain}
 use Rattle.ix_script.specs.declared.form.Plain.TheVariants as plain
-use Rattle.ix_script.specs.declared.form.OnPath.{OnPath}
 use Rattle.ix_script.specs.declared.form.OnPath.TheVariants as on_path
-use Rattle.ix_script.specs.declared.form.OnFd.{OnFd}
 use Rattle.ix_script.specs.declared.form.OnFd.TheVariants as on_fd
-use Rattle.ix_script.specs.declared.form.Counted.{Counted}
 use Rattle.ix_script.specs.declared.form.Counted.TheVariants as counted
-use Rattle.ix_text.proofs.Tests.{both as both_true}
-use Rattle.ix_script.proofs.reader.Told.{mapped, paired, chosen}
-use Rattle.ix_script.proofs.back.OneSpelling.{name_spelled, label_spelled, number_spelled, privs_spelled, path_spelled, made_path_spelled}
-use Rattle.ix_script.proofs.back.OneSpelling.{mode_spelled, state_spelled, what_spelled, fd_spelled, keep_spelled}
-use Rattle.ix_script.proofs.lines.FirstWords.{plain_word, on_path_word, on_fd_word, counted_word}
+use Rattle.ix_script.proofs.{reader.Told.{mapped, paired, chosen}, lines.FirstWords.{plain_word, on_path_word, on_fd_word, counted_word}}
+use Rattle.ix_script.proofs.back.OneSpelling.{name_spelled, label_spelled, number_spelled, privs_spelled, path_spelled, made_path_spelled, mode_spelled}
+use Rattle.ix_script.proofs.back.OneSpelling.{state_spelled, what_spelled, fd_spelled, keep_spelled}
 
 -- ---- the words of a line, one by one
 -- so many words from that place on

@@ -1,19 +1,11 @@
 -- Where objects lie, and how much there can be.
-use Rattle.std.proofs.Common.{◌≡◌, ◌≢◌, ℕ, zero, suc, ◌+◌, ◌<◌, ◌≤◌, ◌==◌, nat_le, true, false, cond, List, [], ◌∷◌, ◌++◌, length, map, sum, drop}
-use Rattle.std.proofs.Common.{Option, Some, None, refl, sym, ap, ◌∙◌, arith, length-append, length-drop}
-use Rattle.std.specs.Option.{option_map_or}
-use Rattle.std.specs.List.{list_all, slice_index_or}
-use Rattle.std.proofs.lemmas.Bool.{eq-eqb, ne_eqb, leb-true}
-use Rattle.std.proofs.lemmas.List.{append-nil, map-append}
-use Rattle.std.proofs.lemmas.List.Sums.{fold-append}
-use Rattle.std.proofs.lemmas.List.Quantifiers.{position-Some}
+use Rattle.std.proofs.Common.{◌≡◌, ◌≢◌, ℕ, zero, suc, ◌+◌, ◌<◌, ◌≤◌, ◌==◌, nat_le, true, false, cond, List, [], ◌∷◌, ◌++◌, length, map, sum, drop, Option, Some}
+use Rattle.std.proofs.Common.{None, refl, sym, ap, ◌∙◌, arith, length-append, length-drop}
+use Rattle.std.specs.{Option.option_map_or, List.{list_all, slice_index_or}}
+use Rattle.std.proofs.lemmas.{Bool.{eq-eqb, ne_eqb, leb-true}, List.{append-nil, map-append, Sums.fold-append, Quantifiers.position-Some}}
 use Rattle.ix_label.specs.Category.{bottom}
-use Rattle.ix_model.specs.world.World.{fs_at}
-use Rattle.ix_model.specs.world.Naming.{same_bytes}
-use Rattle.ix_model.specs.rows.Telling.{blocks_for}
+use Rattle.ix_model.specs.{world.{World.fs_at, Naming.same_bytes}, rows.Telling.blocks_for, declared.config.{FsSpec.FsSpec, ObjSpec.ObjSpec}}
 use Rattle.ix_model.specs.opening.Valid.{is_within, fs_fits, mount_of, fs_of, lying_on, blocks_taken}
-use Rattle.ix_model.specs.declared.config.FsSpec.{FsSpec}
-use Rattle.ix_model.specs.declared.config.ObjSpec.{ObjSpec}
 use Rattle.ix_text.proofs.Tests.{both}
 
 -- ---- a path lies on one of the file systems

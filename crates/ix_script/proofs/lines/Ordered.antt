@@ -1,11 +1,8 @@
 -- What a header line that is in order finds before it.
 use Rattle.std.proofs.Common.{◌≡◌, ℕ, nat_lt, Bool, true, false, ◌||◌, List, [], ◌∷◌, ◌++◌, max, refl, ap, ◌∙◌, arith}
-use Rattle.std.specs.List.{list_any, flat_map}
-use Rattle.std.proofs.lemmas.Bool.Decides.{nat_tests}
-use Rattle.ix_script.specs.lines.Before.{group, object_told, objects_of, proc_told, procs_of}
-use Rattle.ix_script.specs.declared.line.Line.{Line}
+use Rattle.std.{specs.List.{list_any, flat_map}, proofs.lemmas.Bool.Decides.nat_tests}
+use Rattle.ix_script.{specs.{lines.Before.{group, object_told, objects_of, proc_told, procs_of}, declared.line.Line.Line}, proofs.reader.Pushed.any_push}
 use Rattle.ix_script.specs.declared.line.Line.TheVariants as line
-use Rattle.ix_script.proofs.reader.Pushed.{any_push}
 
 -- neither of two tests that aren't met
 pub neither : (a b : Bool) → (a || b) ≡ false → (a ≡ false) × (b ≡ false)

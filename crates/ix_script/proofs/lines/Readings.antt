@@ -1,31 +1,20 @@
 -- The rules that words break by themselves, place by place.
-use Rattle.std.proofs.Common.{◌≡◌, ℕ, ◌<◌, nat_le, nat_lt, Bool, true, false, ◌||◌, ◌&&◌, not, cond, List, [], ◌∷◌, ◌++◌, length, map, drop, get_or}
-use Rattle.std.proofs.Common.{suc, ◌+◌, ◌≤◌, Option, Some, None, option_map, min, codes, if◌then◌else◌, inl, inr, refl, sym, ap, ◌∙◌, arith}
-use Rattle.std.specs.List.{list_any}
-use Rattle.std.specs.Option.{IsSome, is_none, option_map_or}
-use Rattle.std.proofs.lemmas.Bool.{ltb-false, le-leb}
-use Rattle.std.proofs.lemmas.Option.{none-some}
-use Rattle.std.proofs.lemmas.List.{at_drop_more, at_drop_all}
+use Rattle.std.proofs.Common.{◌≡◌, ℕ, ◌<◌, nat_le, nat_lt, Bool, true, false, ◌||◌, ◌&&◌, not, cond, List, [], ◌∷◌, ◌++◌, length, map, drop, get_or, suc, ◌+◌}
+use Rattle.std.proofs.Common.{◌≤◌, Option, Some, None, option_map, min, codes, if◌then◌else◌, inl, inr, refl, sym, ap, ◌∙◌, arith}
+use Rattle.std.specs.{List.list_any, Option.{IsSome, is_none, option_map_or}}
+use Rattle.std.proofs.lemmas.{Bool.{ltb-false, le-leb}, Option.none-some, List.{at_drop_more, at_drop_all}}
 use Rattle.ix_label.specs.declared.form.Form as spelled
-use Rattle.ix_model.specs.opening.Valid.{is_within}
-use Rattle.ix_model.specs.world.Naming.{same_bytes}
-use Rattle.ix_text.proofs.Tests.{bool_cases}
-use Rattle.ix_text.specs.Labels.{label_in}
-use Rattle.ix_text.specs.Names.{is_script_name, name_of}
-use Rattle.ix_text.specs.Privs.{privs_of}
+use Rattle.ix_model.specs.{opening.Valid.is_within, world.Naming.same_bytes}
+use Rattle.ix_text.{proofs.Tests.bool_cases, specs.{Labels.label_in, Names.{is_script_name, name_of}, Privs.privs_of}}
 use Rattle.ix_script.specs.texts.Words.{is_numeral, value, number_of, path_of, made_path_of, mode_of, state_of, what_of, fd_of, keep_of}
-use Rattle.ix_script.specs.texts.Payloads.{◌>>=◌, payload_of}
-use Rattle.ix_script.specs.lines.Kinds.{Kind, Place, bounds, is_number_of_fd, place_rules, first_broken, places_fault}
+use Rattle.ix_script.specs.{texts.{Payloads.{◌>>=◌, payload_of}, Cutting.word_at}, reader.{Placing.{kind_in, least, Stands, Stand}, Readers.IsFault}}
+use Rattle.ix_script.specs.lines.{Kinds.{Kind, Place, bounds, is_number_of_fd, place_rules, first_broken, places_fault}, Forms.{places_from, tail_places}}
+use Rattle.ix_script.specs.declared.fail.Rule.{Rule}
 use Rattle.ix_script.specs.lines.Kinds as kind
-use Rattle.ix_script.specs.texts.Cutting.{word_at}
-use Rattle.ix_script.specs.lines.Forms.{places_from, tail_places}
-use Rattle.ix_script.specs.reader.Placing.{kind_in, least, Stands, Stand}
 use Rattle.ix_script.specs.declared.form.Kind as made
 use Rattle.ix_script.specs.declared.form.Kind.TheVariants as has
-use Rattle.ix_script.specs.reader.Readers.{IsFault}
 use Rattle.ix_script.specs.declared.line.FdWord.TheVariants as fd
 use Rattle.ix_script.specs.declared.line.KeepWord.TheVariants as keep
-use Rattle.ix_script.specs.declared.fail.Rule.{Rule}
 
 abbrev Rules : Type 0
 Rules = List (ℕ × (Kind → List ℕ → Bool))

@@ -1,12 +1,8 @@
 -- The least of the rules on what a line says that it breaks.
 use Rattle.std.proofs.Common.{◌≡◌, ℕ, Bool, true, false, true≢false, List, [], ◌∷◌, Some, refl, sym}
 use Rattle.ix_label.specs.Category.{Categories}
-use Rattle.ix_model.specs.declared.privs.PrivSet.{PrivSet}
-use Rattle.ix_model.specs.world.Naming.{PathOf}
-use Rattle.ix_script.specs.lines.Faults.{said_fault}
-use Rattle.ix_script.specs.lines.Rules.{first_of, is_one_too_many, lacks_policy}
-use Rattle.ix_script.specs.declared.line.Line.{Line}
-use Rattle.ix_script.specs.declared.line.What.{What}
+use Rattle.ix_model.specs.{declared.privs.PrivSet.PrivSet, world.Naming.PathOf}
+use Rattle.ix_script.specs.{lines.{Faults.said_fault, Rules.{first_of, is_one_too_many, lacks_policy}}, declared.line.{Line.Line, What.What}}
 use Rattle.ix_script.specs.declared.line.Line.TheVariants as line
 
 pub broken : (n : ℕ) (a : Bool) (rules : List (ℕ × Bool)) → a ≡ true → first_of ((n, a) ∷ rules) ≡ Some n

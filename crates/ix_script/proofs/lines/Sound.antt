@@ -1,47 +1,26 @@
 -- What holds of a line that breaks no rule.
-use Rattle.std.proofs.Common.{◌≡◌, ℕ, nat_le, Bool, true, false, ◌&&◌, not, cond, List, [], ◌∷◌, length, map, drop, Option, if◌then◌else◌, Some, None}
-use Rattle.std.proofs.Common.{option_map, refl, sym, ap, ◌∙◌, subst, arith, inl, inr}
-use Rattle.std.specs.Option.{option_or, option_map_or}
-use Rattle.std.proofs.lemmas.Bool.{le-leb, not-true}
+use Rattle.std.proofs.Common.{◌≡◌, ℕ, nat_le, Bool, true, false, ◌&&◌, not, cond, List, [], ◌∷◌, length, map, drop, Option, if◌then◌else◌, Some, None, refl, ap}
+use Rattle.std.proofs.Common.{option_map, sym, ◌∙◌, subst, arith, inl, inr}
+use Rattle.std.{specs.Option.{option_or, option_map_or}, proofs.lemmas.{Bool.{le-leb, not-true}, Option.same_Some}}
 use Rattle.ix_label.specs.Category.{Categories}
-use Rattle.ix_model.specs.declared.privs.PrivSet.{PrivSet}
-use Rattle.ix_model.specs.world.Naming.{PathOf}
-use Rattle.ix_model.specs.opening.Valid.{is_within}
-use Rattle.ix_model.specs.world.Texts.{names_in}
-use Rattle.ix_model.proofs.texts.Joining.{some_piece}
+use Rattle.ix_model.{specs.{declared.privs.PrivSet.PrivSet, world.{Naming.PathOf, Texts.names_in}, opening.Valid.is_within}, proofs.texts.Joining.some_piece}
 use Rattle.ix_label.specs.declared.form.Form as spelled
-use Rattle.ix_script.specs.lines.Before.{form_told, is_known, fss_told, phase_lanes}
+use Rattle.ix_script.specs.{lines.Before.{form_told, is_known, fss_told, phase_lanes}, lines.Kinds.{bounds_of, bounds, places_fault}}
+use Rattle.ix_script.specs.{lines.Forms.{form_of, places}, lines.Rules.{is_given_twice, names_unknown}, texts.Payloads.{◌>>=◌, payload_of}}
 use Rattle.ix_script.specs.texts.Cutting.{words_of, word_at, is_skipped, is_policy_line, policy_text}
-use Rattle.ix_text.specs.Bytes.{begins, is_empty}
 use Rattle.ix_script.specs.texts.Words.{is_numeral, value, number_of, is_path_word, path_in, path_of, made_path_of, what_of, state_of}
-use Rattle.ix_text.specs.Names.{name_of, is_script_name}
-use Rattle.ix_text.specs.Privs.{privs_of}
-use Rattle.ix_text.specs.Labels.{label_in}
-use Rattle.ix_script.specs.texts.Payloads.{◌>>=◌, payload_of}
-use Rattle.ix_script.specs.lines.Kinds.{bounds_of, bounds, places_fault}
-use Rattle.ix_script.specs.lines.Forms.{form_of, places}
+use Rattle.ix_script.specs.declared.{form.{Form.Form, Plain.Plain, OnPath.OnPath, OnFd.OnFd, Counted.Counted}, line.{FdWord.FdWord, What.What, Line.Line}}
+use Rattle.ix_text.{specs.{Bytes.{begins, is_empty}, Names.{name_of, is_script_name}, Privs.privs_of, Labels.label_in}, proofs.Tests.bool_cases}
 use Rattle.ix_script.specs.lines.Said.{both, payload_within, said, said_by_words, line_of, plain_line, path_line, fd_line, counted_line}
-use Rattle.ix_script.specs.lines.Rules.{is_given_twice, names_unknown}
 use Rattle.ix_script.specs.lines.Faults.{text_fault, stand_fault, names_fault, form_fault, command_fault, first_line_fault, body_fault, line_fault}
-use Rattle.ix_script.specs.declared.form.Form.{Form}
 use Rattle.ix_script.specs.declared.form.Form.TheVariants as form
-use Rattle.ix_script.specs.declared.form.Plain.{Plain}
 use Rattle.ix_script.specs.declared.form.Plain.TheVariants as plain
-use Rattle.ix_script.specs.declared.form.OnPath.{OnPath}
 use Rattle.ix_script.specs.declared.form.OnPath.TheVariants as on_path
-use Rattle.ix_script.specs.declared.form.OnFd.{OnFd}
 use Rattle.ix_script.specs.declared.form.OnFd.TheVariants as on_fd
-use Rattle.ix_script.specs.declared.form.Counted.{Counted}
 use Rattle.ix_script.specs.declared.form.Counted.TheVariants as counted
-use Rattle.ix_script.specs.declared.line.FdWord.{FdWord}
-use Rattle.ix_script.specs.declared.line.What.{What}
-use Rattle.ix_script.specs.declared.line.Line.{Line}
 use Rattle.ix_script.specs.declared.line.Line.TheVariants as line
 use Rattle.ix_text.proofs.Tests as names
-use Rattle.ix_text.proofs.Tests.{bool_cases}
-use Rattle.ix_script.proofs.lines.Follows.{passes}
-use Rattle.std.proofs.lemmas.Option.{same_Some}
-use Rattle.ix_script.proofs.lines.Deciding.{first_version, version_said, not_ix}
+use Rattle.ix_script.proofs.lines.{Follows.passes, Deciding.{first_version, version_said, not_ix}}
 
 -- numbers are within their bounds, a file system's name is new, and an object has an absolute path with a name, and few bytes
 abbrev pub HasPlace : PathOf → Type 0

@@ -1,57 +1,26 @@
 -- A command that gives no name and is no server's tells nothing but that it is one.
-use Rattle.std.proofs.Common.{◌≡◌, ℕ, ◌+◌, ◌≤◌, nat_le, Bool, true, false, ◌||◌, cond, List}
-use Rattle.std.proofs.Common.{[], ◌∷◌, ◌++◌, length, max, Option, Some, None, option_map, Result, Ok, Err, refl, sym, ap, ◌∙◌, subst, arith}
+use Rattle.std.proofs.Common.{◌≡◌, ℕ, ◌+◌, ◌≤◌, nat_le, Bool, true, false, ◌||◌, cond, List, [], ◌∷◌, ◌++◌, length, max, Option, Some, None, option_map, Result}
+use Rattle.std.proofs.Common.{Ok, Err, refl, sym, ap, ◌∙◌, subst, arith}
 use mir.Val.{bool_byte}
-use Rattle.std.specs.Option.{IsSome}
-use Rattle.std.specs.Result.{OnOk}
+use Rattle.std.{specs.{Option.IsSome, Result.OnOk}, proofs.lemmas.{Bool.{le-leb, lt-leb}, List.append-nil}}
 use Rattle.ix_label.specs.declared.form.Form as spelled
-use Rattle.ix_text.specs.Names.{name_of}
-use Rattle.ix_script.specs.texts.Cutting.{word_at}
-use Rattle.ix_script.specs.texts.Words.{number_of, fd_of}
-use Rattle.ix_script.specs.lines.Kinds.{places_fault}
-use Rattle.ix_script.specs.lines.Forms.{places}
-use Rattle.ix_script.specs.lines.Said.{both, said, plain_line, fd_line, counted_line}
-use Rattle.ix_script.specs.scripts.Need.{cost_of_line}
-use Rattle.ix_script.specs.reader.Placing.{is_entry}
-use Rattle.ix_script.specs.declared.form.Form.{Form}
+use Rattle.ix_text.specs.{Names.name_of, Bytes.is_empty}
+use Rattle.ix_script.specs.{texts.{Cutting.word_at, Words.{number_of, fd_of}}, lines.Kinds.places_fault, lines.Forms.places, lines.Roles.role_of}
+use Rattle.ix_script.specs.{lines.Said.{both, said, plain_line, fd_line, counted_line}, lines.Faults.said_fault, scripts.{Need.cost_of_line, Scripts.config_of}}
+use Rattle.ix_script.specs.{reader.Placing.is_entry, reader.Indexed.{AreIndexed, AreNames, AreSites}, declared.form.Form.Form, declared.form.Plain.Plain}
+use Rattle.ix_script.specs.{reader.Told.{HeaderTold, BodyTold, MakesMore, NamesMore, phase_lanes_in}, declared.form.OnFd.OnFd, declared.form.Counted.Counted}
+use Rattle.ix_script.specs.{declared.line.FdWord.FdWord, declared.line.KeepWord.KeepWord, declared.header.Header.Header, declared.body.Body.Body}
+use Rattle.ix_script.specs.{declared.index.Given.Given, declared.index.Names.Names, declared.index.Tree.Tree, declared.line.Line.Line}
 use Rattle.ix_script.specs.declared.form.Form.TheVariants as form
-use Rattle.ix_script.specs.declared.form.Plain.{Plain}
 use Rattle.ix_script.specs.declared.form.Plain.TheVariants as plain
-use Rattle.ix_script.specs.declared.form.OnFd.{OnFd}
 use Rattle.ix_script.specs.declared.form.OnFd.TheVariants as on_fd
-use Rattle.ix_script.specs.declared.form.Counted.{Counted}
 use Rattle.ix_script.specs.declared.form.Counted.TheVariants as counted
-use Rattle.ix_script.specs.declared.line.FdWord.{FdWord}
-use Rattle.ix_script.specs.declared.line.KeepWord.{KeepWord}
-use Rattle.ix_model.specs.declared.call.Mode.{Mode}
-use Rattle.ix_model.specs.world.Naming.{PathOf}
-use Rattle.ix_script.proofs.lines.Readings.{stand}
-use Rattle.std.proofs.lemmas.Bool.{le-leb, lt-leb}
-use Rattle.std.proofs.lemmas.List.{append-nil}
-use Rattle.ix_model.specs.opening.Valid.{is_valid}
-use Rattle.ix_model.specs.declared.config.Limits.{Limits}
-use Rattle.ix_model.specs.declared.config.ObjSpec.{ObjSpec}
-use Rattle.ix_text.specs.Bytes.{is_empty}
-use Rattle.ix_script.specs.lines.Before.{form_told, fs_told, limits_after, what_told, proc_name_told, object_told, is_policy, group, is_phase}
-use Rattle.ix_script.specs.lines.Before.{lane_after, phase_lanes_after, lanes_after, new_fds, new_procs, fds_given, procs_given, in_lane, is_command}
-use Rattle.ix_script.specs.lines.Before.{commands}
-use Rattle.ix_script.specs.lines.Roles.{role_of}
-use Rattle.ix_script.specs.lines.Faults.{said_fault}
-use Rattle.ix_script.specs.reader.Indexed.{AreIndexed, AreNames, AreSites}
-use Rattle.ix_script.specs.reader.Told.{HeaderTold, BodyTold, MakesMore, NamesMore, phase_lanes_in}
-use Rattle.ix_script.specs.scripts.Scripts.{config_of}
-use Rattle.ix_script.specs.declared.header.Header.{Header}
-use Rattle.ix_script.specs.declared.body.Body.{Body}
-use Rattle.ix_script.specs.declared.index.Given.{Given}
-use Rattle.ix_script.specs.declared.index.Names.{Names}
-use Rattle.ix_script.specs.declared.index.Tree.{Tree}
-use Rattle.ix_script.specs.declared.line.Line.{Line}
+use Rattle.ix_model.specs.{declared.{call.Mode.Mode, config.{Limits.Limits, ObjSpec.ObjSpec}}, world.Naming.PathOf, opening.Valid.is_valid}
+use Rattle.ix_script.proofs.{lines.{Readings.stand, Follows.follows}, reader.{PhaseLanes.OneMore, Keeping.header_next, Validity.fits_of}}
+use Rattle.ix_script.specs.lines.Before.{form_told, fs_told, limits_after, what_told, proc_name_told, object_told, is_policy, group, is_phase, lane_after}
+use Rattle.ix_script.specs.lines.Before.{phase_lanes_after, lanes_after, new_fds, new_procs, fds_given, procs_given, in_lane, is_command, commands}
 use Rattle.ix_script.specs.declared.line.Line.TheVariants as line
 use Rattle.ix_script.specs.declared.role.Role.TheVariants as role
-use Rattle.ix_script.proofs.lines.Follows.{follows}
-use Rattle.ix_script.proofs.reader.PhaseLanes.{OneMore}
-use Rattle.ix_script.proofs.reader.Keeping.{header_next}
-use Rattle.ix_script.proofs.reader.Validity.{fits_of}
 use Rattle.ix_script.proofs.reader.Pushed.{body_push, lane_push, phase_lanes_push, lanes_push, fds_push, procs_given_push, commands_push}
 
 -- a line that tells nothing of the machine

@@ -1,34 +1,20 @@
 -- What lines cost: at most 4,352 for each command, and nothing for another line.
-use Rattle.std.proofs.Common.{◌≡◌, ℕ, ◌+◌, ◌*◌, ◌≤◌, nat_le, Bool, true, false, cond, List, [], ◌∷◌, ◌++◌, length, Option, Some, None, option_map, refl, subst, arith, inl, inr}
-use Rattle.std.specs.Option.{option_or}
-use Rattle.std.proofs.lemmas.Bool.{leb-true}
-use Rattle.std.proofs.lemmas.Option.{none-some, same_Some}
-use Rattle.std.proofs.lemmas.List.Sums.{sum_by-cons, sum_by_push, sum-map}
-use Rattle.ix_model.specs.world.Naming.{PathOf}
-use Rattle.ix_model.specs.history.Cost.{cost_of_path}
-use Rattle.ix_script.specs.texts.Cutting.{is_skipped, is_policy_line, policy_text, words_of, word_at}
-use Rattle.ix_script.specs.texts.Payloads.{payload_of}
-use Rattle.ix_script.specs.lines.Forms.{form_of}
-use Rattle.ix_script.specs.lines.Before.{is_command, commands}
+use Rattle.std.proofs.Common.{◌≡◌, ℕ, ◌+◌, ◌*◌, ◌≤◌, nat_le, Bool, true, false, cond, List, [], ◌∷◌, ◌++◌, length, Option, Some, None, option_map, refl, subst}
+use Rattle.std.proofs.Common.{arith, inl, inr}
+use Rattle.std.{specs.Option.option_or, proofs.lemmas.{Bool.leb-true, Option.{none-some, same_Some}, List.Sums.{sum_by-cons, sum_by_push, sum-map}}}
+use Rattle.ix_model.specs.{world.Naming.PathOf, history.Cost.cost_of_path}
+use Rattle.ix_script.specs.texts.{Cutting.{is_skipped, is_policy_line, policy_text, words_of, word_at}, Payloads.payload_of}
+use Rattle.ix_script.specs.{lines.{Forms.form_of, Before.{is_command, commands}}, scripts.Need.{cost_of_line, need}}
+use Rattle.ix_script.specs.declared.{form.{Form.Form, Plain.Plain, OnPath.OnPath, OnFd.OnFd, Counted.Counted}, line.{FdWord.FdWord, Line.Line}}
 use Rattle.ix_script.specs.lines.Said.{payload_within, plain_line, path_line, fd_line, counted_line, said, said_by_words, version_of, line_of}
-use Rattle.ix_script.specs.scripts.Need.{cost_of_line, need}
 use Rattle.ix_label.specs.declared.form.Form as spelled
-use Rattle.ix_script.specs.declared.form.Form.{Form}
 use Rattle.ix_script.specs.declared.form.Form.TheVariants as form
-use Rattle.ix_script.specs.declared.form.Plain.{Plain}
 use Rattle.ix_script.specs.declared.form.Plain.TheVariants as plain
-use Rattle.ix_script.specs.declared.form.OnPath.{OnPath}
 use Rattle.ix_script.specs.declared.form.OnPath.TheVariants as on_path
-use Rattle.ix_script.specs.declared.form.OnFd.{OnFd}
 use Rattle.ix_script.specs.declared.form.OnFd.TheVariants as on_fd
-use Rattle.ix_script.specs.declared.form.Counted.{Counted}
 use Rattle.ix_script.specs.declared.form.Counted.TheVariants as counted
-use Rattle.ix_script.specs.declared.line.FdWord.{FdWord}
-use Rattle.ix_script.specs.declared.line.Line.{Line}
 use Rattle.ix_script.specs.declared.line.Line.TheVariants as line
-use Rattle.ix_script.proofs.reader.Told.{mapped, paired, bound, either}
-use Rattle.ix_script.proofs.reader.Pushed.{commands_push}
-use Rattle.ix_script.proofs.texts.Paths.{path_cheap}
+use Rattle.ix_script.proofs.{reader.{Told.{mapped, paired, bound, either}, Pushed.commands_push}, texts.Paths.path_cheap}
 
 -- ---- a line
 abbrev Cheap : Line → Type 0

@@ -1,14 +1,10 @@
 -- There are no more commands than lines, at most 200,000 of them, and at most 64 lanes.
 use Rattle.std.proofs.Common.{◌≡◌, ℕ, ◌+◌, ◌<◌, ◌≤◌, ◌&&◌, not, nat_le, Bool, true, false, cond, List, [], ◌∷◌, ◌++◌, length, None, arith, refl, length-append}
-use Rattle.std.proofs.lemmas.Bool.Decides.{nat_tests}
-use Rattle.std.proofs.lemmas.List.Sums.{count_by-le-length}
-use Rattle.ix_script.specs.lines.Before.{is_known, is_command, commands, lanes_after, lanes_of}
-use Rattle.ix_script.specs.lines.Faults.{said_fault}
-use Rattle.ix_script.specs.lines.Rules.{is_one_too_many}
+use Rattle.std.proofs.lemmas.{Bool.Decides.nat_tests, List.Sums.count_by-le-length}
+use Rattle.ix_script.specs.lines.{Before.{is_known, is_command, commands, lanes_after, lanes_of}, Faults.said_fault, Rules.is_one_too_many}
 use Rattle.ix_script.specs.declared.line.Line.{Line}
 use Rattle.ix_script.specs.declared.line.Line.TheVariants as line
-use Rattle.ix_script.proofs.lines.Follows.{follows}
-use Rattle.ix_script.proofs.reader.Pushed.{commands_push, lanes_push}
+use Rattle.ix_script.proofs.{lines.Follows.follows, reader.Pushed.{commands_push, lanes_push}}
 
 pub few_commands : (lines : List Line) → commands lines ≤ length lines
 unfolding commands

@@ -1,25 +1,12 @@
 -- The labels of a script's lines fit its form, and so do those of its config.
-use Rattle.std.proofs.Common.{◌≡◌, ℕ, List, [], ◌∷◌, ◌++◌, Some, None, arith}
-use Rattle.std.specs.Prelude.{All}
-use Rattle.std.specs.List.{flat_map}
-use Rattle.std.proofs.lemmas.List.Elements.{All-nil, All-cons, All-tail, All-append}
-use Rattle.ix_label.specs.declared.form.Form.{Form}
-use Rattle.ix_label.specs.declared.form.Form.TheVariants.{One, Two}
-use Rattle.ix_label.specs.Forms.{Fits, all_of}
-use Rattle.ix_label.specs.Narrow.{narrow-all_of}
-use Rattle.ix_model.specs.history.Spelled.{ConfigFits}
-use Rattle.ix_model.specs.declared.config.FsSpec.{FsSpec}
-use Rattle.ix_model.specs.declared.config.ObjSpec.{ObjSpec}
-use Rattle.ix_model.specs.declared.config.ProcSpec.{ProcSpec}
+use Rattle.std.proofs.{Common.{◌≡◌, ℕ, List, [], ◌∷◌, ◌++◌, Some, None, arith}, lemmas.List.Elements.{All-nil, All-cons, All-tail, All-append}}
+use Rattle.std.specs.{Prelude.All, List.flat_map}
+use Rattle.ix_label.specs.{declared.form.Form.{Form, TheVariants.{One, Two}}, Forms.{Fits, all_of}, Narrow.narrow-all_of}
+use Rattle.ix_model.specs.{history.Spelled.ConfigFits, declared.config.{FsSpec.FsSpec, ObjSpec.ObjSpec, ProcSpec.ProcSpec}}
 use Rattle.ix_script.specs.lines.Before.{form_by, form_told, fs_told, fss_told, default_fs, or_default, proc_told, procs_of, object_told, objects_of}
-use Rattle.ix_script.specs.lines.Fits.{LineFits}
-use Rattle.ix_script.specs.lines.Said.{line_of}
-use Rattle.ix_script.specs.lines.Faults.{line_fault}
-use Rattle.ix_script.specs.scripts.Scripts.{config_of, script_of}
-use Rattle.ix_script.specs.declared.line.Line.{Line}
+use Rattle.ix_script.specs.{lines.{Fits.LineFits, Said.line_of, Faults.line_fault}, scripts.Scripts.{config_of, script_of}, declared.line.Line.Line}
+use Rattle.ix_script.proofs.lines.{Fitting.line_fits, EachLine.{Along, along}}
 use Rattle.ix_script.specs.declared.line.Line.TheVariants as line
-use Rattle.ix_script.proofs.lines.Fitting.{line_fits}
-use Rattle.ix_script.proofs.lines.EachLine.{Along, along}
 
 -- what is told by things of which P holds
 all_told : {A B : Type 0} (P : A → Type 0) (Q : B → Type 0) (f : A → List B) → ((x : A) → P x → All Q (f x)) → (xs : List A) → All P xs → All Q (flat_map f xs)

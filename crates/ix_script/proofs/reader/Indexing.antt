@@ -1,23 +1,11 @@
 -- An index goes on with its list.
 use Rattle.std.proofs.Common.{◌≡◌, ℕ, Option, Bool, true, false, ◌&&◌, ◌||◌, not, cond, map, List, [], ◌∷◌, ◌++◌, refl, sym, ap, ◌∙◌, None, Some, append_assoc}
-use Rattle.std.specs.BTreeMap.{is_at}
-use Rattle.std.specs.BTreeSet.{BTreeSet, Updates, contains}
-use Rattle.std.specs.Cmp.{tied_then}
-use Rattle.std.specs.Cmp.Lexicographic.{slice_cmp}
-use Rattle.std.specs.List.{list_any}
+use Rattle.std.specs.{BTreeMap.is_at, BTreeSet.{BTreeSet, Updates, contains}, Cmp.{tied_then, Lexicographic.slice_cmp}, List.list_any}
 use Rattle.std.specs.Ordering.{bool_cmp, is_eq, nat_cmp}
-use Rattle.std.proofs.lemmas.Cmp.{nat_list_eq_equiv}
-use Rattle.std.proofs.lemmas.Map.Text.{is_eq-slice_cmp}
-use Rattle.ix_model.specs.world.Naming.{same_bytes, same_names}
-use Rattle.ix_model.specs.world.Texts.{names_in}
-use Rattle.ix_model.proofs.texts.Joining.{same_text}
+use Rattle.std.proofs.lemmas.{Cmp.nat_list_eq_equiv, Map.Text.is_eq-slice_cmp, List.append-nil}
+use Rattle.ix_model.{specs.{world.{Naming.{same_bytes, same_names}, Texts.names_in}, declared.config.ObjSpec.ObjSpec}, proofs.texts.Joining.same_text}
 use Rattle.ix_script.specs.reader.Indexed.{place_cmp, is_place, is_named, is_indexed, site_cmp, is_site, AreSites, is_there, dir_there, file_there}
-use Rattle.ix_script.specs.declared.index.Place.{Place}
-use Rattle.ix_model.specs.declared.config.ObjSpec.{ObjSpec}
-use Rattle.ix_script.specs.declared.index.Site.{Site}
-use Rattle.ix_script.specs.lines.Before.{in_lane, is_given, is_known}
-use Rattle.std.proofs.lemmas.List.{append-nil}
-use Rattle.ix_script.proofs.reader.Pushed.{any_push}
+use Rattle.ix_script.{specs.{declared.index.{Place.Place, Site.Site}, lines.Before.{in_lane, is_given, is_known}}, proofs.reader.Pushed.any_push}
 
 -- equal in their order means one name
 pub equal_bytes : (xs ys : List ℕ) → is_eq (slice_cmp nat_cmp xs ys) ≡ same_bytes ys xs

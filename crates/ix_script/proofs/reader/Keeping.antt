@@ -1,36 +1,17 @@
 -- What is kept of the header holds with one line more.
-use Rattle.std.proofs.Common.{◌≡◌, ℕ, suc, ◌+◌, ◌<◌, ◌≤◌, ◌==◌, nat_le, nat_lt, Bool, true, false, ◌||◌, not, cond, List, [], ◌∷◌, ◌++◌, length, max}
-use Rattle.std.proofs.Common.{slice_index, refl, sym, ap, ◌∙◌, subst, arith, length-append, inl, inr}
-use Rattle.std.specs.List.{flat_map, list_all}
-use Rattle.std.proofs.lemmas.Bool.{cases_eq, eq-eqb, ne_eqb, leb-true}
-use Rattle.std.proofs.lemmas.Bool.Decides.{nat_tests}
-use Rattle.std.proofs.lemmas.List.{append-nil}
-use Rattle.ix_model.specs.world.World.{fs_at}
-use Rattle.ix_model.specs.rows.Telling.{blocks_for}
-use Rattle.ix_model.specs.opening.Valid.{fs_fits, fs_of, lying_on, blocks_taken, has_room}
-use Rattle.ix_model.specs.declared.config.FsSpec.{FsSpec}
-use Rattle.ix_model.specs.declared.config.Limits.{Limits}
-use Rattle.ix_model.specs.declared.config.ObjSpec.{ObjSpec}
-use Rattle.ix_label.specs.declared.form.Form.{Form}
-use Rattle.ix_label.specs.declared.form.Form.TheVariants.{One}
-use Rattle.ix_text.specs.Bytes.{is_empty}
-use Rattle.ix_script.specs.lines.Before.{form_by, form_told, fs_told, or_default, fss_told, fss_of, what_told, limits_after, limits_of}
-use Rattle.ix_script.specs.lines.Before.{proc_name_told, proc_names, object_told, objects_of, is_policy, group}
-use Rattle.ix_script.specs.reader.Indexed.{AreNames, AreSites}
-use Rattle.ix_script.specs.reader.Told.{HeaderTold, MakesMore, NamesMore, TakenOne, Takes, fss_after}
-use Rattle.ix_script.specs.declared.header.Header.{Header}
-use Rattle.ix_script.specs.declared.index.Names.{Names}
-use Rattle.ix_script.specs.declared.header.Taken.{Taken}
-use Rattle.ix_script.specs.declared.index.Tree.{Tree}
-use Rattle.ix_script.specs.declared.line.What.{What}
-use Rattle.ix_model.specs.world.Naming.{PathOf}
-use Rattle.ix_model.specs.declared.privs.PrivSet.{PrivSet}
-use Rattle.ix_label.specs.Category.{Categories}
-use Rattle.ix_script.specs.declared.line.Line.{Line}
+use Rattle.std.proofs.Common.{◌≡◌, ℕ, suc, ◌+◌, ◌<◌, ◌≤◌, ◌==◌, nat_le, nat_lt, Bool, true, false, ◌||◌, not, cond, List, [], ◌∷◌, ◌++◌, length, max, refl, sym}
+use Rattle.std.proofs.Common.{slice_index, ap, ◌∙◌, subst, arith, length-append, inl, inr}
+use Rattle.std.{specs.List.{flat_map, list_all}, proofs.lemmas.{Bool.{cases_eq, eq-eqb, ne_eqb, leb-true, Decides.nat_tests}, List.append-nil}}
+use Rattle.ix_model.specs.{world.{World.fs_at, Naming.PathOf}, rows.Telling.blocks_for, opening.Valid.{fs_fits, fs_of, lying_on, blocks_taken, has_room}}
+use Rattle.ix_model.specs.declared.{config.{FsSpec.FsSpec, Limits.Limits, ObjSpec.ObjSpec}, privs.PrivSet.PrivSet}
+use Rattle.ix_label.specs.{declared.form.Form.{Form, TheVariants.One}, Category.Categories}
+use Rattle.ix_text.{specs.Bytes.is_empty, proofs.Tests.both}
+use Rattle.ix_script.specs.lines.Before.{form_by, form_told, fs_told, or_default, fss_told, fss_of, what_told, limits_after, limits_of, proc_name_told, group}
+use Rattle.ix_script.specs.lines.Before.{proc_names, object_told, objects_of, is_policy}
+use Rattle.ix_script.specs.reader.{Indexed.{AreNames, AreSites}, Told.{HeaderTold, MakesMore, NamesMore, TakenOne, Takes, fss_after}}
+use Rattle.ix_script.specs.declared.{header.{Header.Header, Taken.Taken}, index.{Names.Names, Tree.Tree}, line.{What.What, Line.Line}}
 use Rattle.ix_script.specs.declared.line.Line.TheVariants as line
-use Rattle.ix_text.proofs.Tests.{both}
-use Rattle.ix_script.proofs.lines.Follows.{Follows}
-use Rattle.ix_script.proofs.lines.Lying.{fs_within, few_inodes, few_blocks, count_here, count_else, blocks_here, blocks_else}
+use Rattle.ix_script.proofs.{lines.Follows.Follows, lines.Lying.{fs_within, few_inodes, few_blocks, count_here, count_else, blocks_here, blocks_else}}
 use Rattle.ix_script.proofs.lines.Ordered.{no_objects, latest_push}
 use Rattle.ix_script.proofs.reader.Pushed.{fss_push, whats_push, limits_push, proc_names_push, objects_push, policy_push}
 

@@ -1,15 +1,10 @@
 -- A lane stands at most once in a phase.
-use Rattle.std.proofs.Common.{◌≡◌, ℕ, zero, suc, false, List, [], ◌∷◌, ◌++◌, take, Some, None, subst}
+use Rattle.std.proofs.{Common.{◌≡◌, ℕ, zero, suc, false, List, [], ◌∷◌, ◌++◌, take, Some, None, subst}, lemmas.Option.{none-some, same_Some}}
 use Rattle.std.specs.List.{slice_get}
-use Rattle.std.proofs.lemmas.Option.{none-some, same_Some}
 use Rattle.ix_label.specs.declared.form.Form as spelled
-use Rattle.ix_script.specs.lines.Before.{is_known, phase_lanes}
-use Rattle.ix_script.specs.lines.Said.{line_of}
-use Rattle.ix_script.specs.lines.Faults.{line_fault}
-use Rattle.ix_script.specs.scripts.Schedule.{LanesOnce}
-use Rattle.ix_script.specs.declared.line.Line.{Line}
-use Rattle.ix_script.specs.declared.line.Line.TheVariants as line
+use Rattle.ix_script.specs.{lines.{Before.{is_known, phase_lanes}, Said.line_of, Faults.line_fault}, scripts.Schedule.LanesOnce, declared.line.Line.Line}
 use Rattle.ix_script.proofs.lines.Sound.{Sound, sound}
+use Rattle.ix_script.specs.declared.line.Line.TheVariants as line
 
 nothing_at : (i : ℕ) (x : Line) → slice_get [] i ≡ Some x → ⊥
 nothing_at zero x is = none-some x is

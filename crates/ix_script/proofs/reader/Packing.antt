@@ -1,26 +1,16 @@
 -- Lines that are held as their texts.
-use Rattle.std.proofs.Common.{◌≡◌, ℕ, zero, suc, ◌+◌, ◌-◌, ◌<◌, ◌≤◌, List, [], ◌∷◌, ◌++◌, length, take, drop, get_or, Some, None, false, true≢false}
-use Rattle.std.proofs.Common.{refl, sym, ap, ◌∙◌, subst, arith, length-append, length-drop}
-use Rattle.std.specs.List.{slice_get}
-use Rattle.std.proofs.Math.Seq.{take-length, drop-append_seam}
-use Rattle.std.proofs.lemmas.List.{take-append-le, drop-append-le}
-use Rattle.std.specs.Prelude.{unwrap_or}
-use Rattle.std.specs.Option.{option_map_or}
-use Rattle.std.proofs.lemmas.Option.{none-some, same_Some}
+use Rattle.std.proofs.Common.{◌≡◌, ℕ, zero, suc, ◌+◌, ◌-◌, ◌<◌, ◌≤◌, List, [], ◌∷◌, ◌++◌, length, take, drop, get_or, Some, None, false, true≢false, refl, sym}
+use Rattle.std.proofs.Common.{ap, ◌∙◌, subst, arith, length-append, length-drop}
+use Rattle.std.specs.{List.slice_get, Prelude.unwrap_or, Option.option_map_or}
+use Rattle.std.proofs.{Math.Seq.{take-length, drop-append_seam}, lemmas.{List.{take-append-le, drop-append-le}, Option.{none-some, same_Some}}}
 use Rattle.ix_label.specs.declared.form.Form as spelled
 use Rattle.ix_label.specs.declared.form.Form.TheVariants.{One}
-use Rattle.ix_script.specs.texts.Cutting.{word_at, words_of, is_skipped, is_policy_line}
-use Rattle.ix_text.specs.Bytes.{is_empty}
-use Rattle.ix_script.specs.lines.Before.{form_by, form_told}
-use Rattle.ix_script.specs.lines.Said.{version_of, line_of}
-use Rattle.ix_script.specs.lines.Kinds.{places_fault}
-use Rattle.ix_script.specs.lines.Forms.{form_of, places}
+use Rattle.ix_script.specs.{texts.Cutting.{word_at, words_of, is_skipped, is_policy_line}, lines.Before.{form_by, form_told}, lines.Said.{version_of, line_of}}
+use Rattle.ix_script.specs.{lines.Kinds.places_fault, lines.Forms.{form_of, places}, reader.Readers.LineRight, declared.line.Line.Line}
 use Rattle.ix_script.specs.lines.Faults.{text_fault, words_fault, stand_fault, form_fault, command_fault, body_fault, line_fault}
-use Rattle.ix_script.proofs.lines.Deciding.{first_version, first_faultless, version_said}
-use Rattle.ix_script.proofs.reader.Told.{neither}
 use Rattle.ix_script.specs.scripts.Packed.{IsLine, IsSaid, line_in, begin_at, between, held, AreLines}
-use Rattle.ix_script.specs.reader.Readers.{LineRight}
-use Rattle.ix_script.specs.declared.line.Line.{Line}
+use Rattle.ix_text.specs.Bytes.{is_empty}
+use Rattle.ix_script.proofs.{lines.Deciding.{first_version, first_faultless, version_said}, reader.Told.neither}
 use Rattle.ix_script.specs.declared.line.Line.TheVariants as line
 
 between-append : (from end : ℕ) (text more : List ℕ) → from ≤ end → end ≤ length text → between from end (text ++ more) ≡ between from end text

@@ -1,12 +1,9 @@
 -- The lanes of a phase: the first of the script's in their order, and others.
-use Rattle.std.proofs.Common.{◌≡◌, ℕ, suc, ◌+◌, ◌≤◌, ◌<◌, nat_lt, true, ◌&&◌, List, [], ◌∷◌, ◌++◌, length, get_or, take, inl, inr, refl, sym, ap, ◌∙◌, subst, arith}
-use Rattle.std.proofs.lemmas.Bool.{cases_Bool, ltb-true}
-use Rattle.std.proofs.lemmas.List.{append-nil, append_assoc, length-append, take-append-le}
-use Rattle.std.proofs.Math.Seq.{take-suc}
-use Rattle.ix_model.specs.world.Naming.{same_bytes}
-use Rattle.ix_model.proofs.tables.Alike.{bytes_are}
-use Rattle.ix_text.specs.Bytes.{is_empty}
-use Rattle.ix_text.proofs.Tests.{both}
+use Rattle.std.proofs.Common.{◌≡◌, ℕ, suc, ◌+◌, ◌≤◌, ◌<◌, nat_lt, true, ◌&&◌, List, [], ◌∷◌, ◌++◌, length, get_or, take, inl, inr, refl, sym, ap, ◌∙◌, subst}
+use Rattle.std.proofs.Common.{arith}
+use Rattle.std.proofs.{lemmas.{Bool.{cases_Bool, ltb-true}, List.{append-nil, append_assoc, length-append, take-append-le}}, Math.Seq.take-suc}
+use Rattle.ix_model.{specs.world.Naming.same_bytes, proofs.tables.Alike.bytes_are}
+use Rattle.ix_text.{specs.Bytes.is_empty, proofs.Tests.both}
 use Rattle.ix_script.specs.lines.Before.{is_known, lanes_after}
 use Rattle.ix_script.specs.declared.line.Line.TheVariants as line
 

@@ -1,17 +1,12 @@
 -- A plan of more and more lines.
-use Rattle.std.proofs.Common.{◌≡◌, ℕ, ◌+◌, ◌<◌, ◌≤◌, false, List, [], ◌∷◌, ◌++◌, length, take, get_or, Option, Some, None, refl, sym, ap, ◌∙◌, subst, add-one, inl, inr}
-use Rattle.std.specs.List.{slice_get}
-use Rattle.std.specs.Option.{option_map_or}
+use Rattle.std.proofs.Common.{◌≡◌, ℕ, ◌+◌, ◌<◌, ◌≤◌, false, List, [], ◌∷◌, ◌++◌, length, take, get_or, Option, Some, None, refl, sym, ap, ◌∙◌, subst, add-one}
+use Rattle.std.proofs.Common.{inl, inr}
+use Rattle.std.specs.{List.slice_get, Option.option_map_or}
 use Rattle.std.proofs.Math.Seq.{take-suc}
-use Rattle.std.proofs.lemmas.Bool.{cases_Bool, false≢true}
-use Rattle.std.proofs.lemmas.List.{append-nil, take_all}
-use Rattle.std.proofs.lemmas.Option.{none-some, slice_get-get_or, get_or_from_slice_get}
+use Rattle.std.proofs.lemmas.{Bool.{cases_Bool, false≢true}, List.{append-nil, take_all}, Option.{none-some, slice_get-get_or, get_or_from_slice_get}}
 use Rattle.ix_model.specs.declared.config.Limits.{Limits}
-use Rattle.ix_script.specs.lines.Before.{fs_told, limits_after, proc_told, object_told, is_policy}
-use Rattle.ix_script.specs.lines.Roles.{role_of, in_header, header_only}
-use Rattle.ix_script.specs.scripts.Held.{IsPlan}
-use Rattle.ix_script.specs.declared.plan.Plan.{Plan}
-use Rattle.ix_script.specs.declared.line.Line.{Line}
+use Rattle.ix_script.specs.lines.{Before.{fs_told, limits_after, proc_told, object_told, is_policy}, Roles.{role_of, in_header, header_only}}
+use Rattle.ix_script.specs.{scripts.Held.IsPlan, declared.{plan.Plan.Plan, line.Line.Line}}
 use Rattle.ix_script.specs.declared.line.Line.TheVariants as line
 use Rattle.ix_script.proofs.reader.Pushed.{fss_push, limits_push, procs_push, objects_push}
 

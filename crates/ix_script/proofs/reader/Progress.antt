@@ -1,32 +1,17 @@
 -- Reading line after line.
-use Rattle.std.proofs.Common.{◌≡◌, ℕ, ◌+◌, ◌*◌, ◌<◌, ◌≤◌, true, false, true≢false, List, [], ◌∷◌, ◌++◌, length, Option, Some, None, option_map, refl}
-use Rattle.std.proofs.Common.{sym, ap, ◌∙◌, subst, arith, append_assoc, length-append}
-use Rattle.std.proofs.lemmas.List.{append-nil}
+use Rattle.std.proofs.Common.{◌≡◌, ℕ, ◌+◌, ◌*◌, ◌<◌, ◌≤◌, true, false, true≢false, List, [], ◌∷◌, ◌++◌, length, Option, Some, None, option_map, refl, sym, ap}
+use Rattle.std.proofs.Common.{◌∙◌, subst, arith, append_assoc, length-append}
+use Rattle.std.{proofs.lemmas.{List.append-nil, Option.same_Some}, specs.Prelude.unwrap_or}
 use Rattle.ix_model.specs.opening.Valid.{is_valid}
-use Rattle.ix_script.specs.lines.Before.{form_by, form_told, lanes_of, commands}
-use Rattle.std.specs.Prelude.{unwrap_or}
-use Rattle.std.proofs.lemmas.Option.{same_Some}
-use Rattle.ix_label.specs.declared.form.Form.{Form}
-use Rattle.ix_label.specs.declared.form.Form.TheVariants.{One}
+use Rattle.ix_script.specs.lines.{Before.{form_by, form_told, lanes_of, commands}, Said.{both, line_of}, Faults.{line_fault, fault_from}}
+use Rattle.ix_script.specs.{texts.Lines.{cut, lines_of}, scripts.{Need.need, Scripts.{form_in, lines_said, config_of}, Schedule.LanesOnce}}
+use Rattle.ix_script.specs.{reader.{Readers.{HasCause, LineRight}, Told.DraftTold}, declared.{draft.Draft.Draft, fail.ReadFail.ReadFail, line.Line.Line}}
+use Rattle.ix_label.specs.declared.form.Form.{Form, TheVariants.One}
 use Rattle.ix_text.specs.Bytes.{is_empty}
-use Rattle.ix_script.specs.texts.Lines.{cut, lines_of}
-use Rattle.ix_script.specs.lines.Said.{both, line_of}
-use Rattle.ix_script.specs.lines.Faults.{line_fault, fault_from}
-use Rattle.ix_script.specs.scripts.Need.{need}
-use Rattle.ix_script.specs.scripts.Scripts.{form_in, lines_said, config_of}
-use Rattle.ix_script.specs.reader.Readers.{HasCause, LineRight}
-use Rattle.ix_script.specs.reader.Told.{DraftTold}
-use Rattle.ix_script.specs.declared.draft.Draft.{Draft}
-use Rattle.ix_script.specs.declared.fail.ReadFail.{ReadFail}
 use Rattle.ix_script.specs.declared.fail.ReadFail.TheVariants as fail
-use Rattle.ix_script.specs.declared.line.Line.{Line}
 use Rattle.ix_script.specs.declared.line.Line.TheVariants as line
-use Rattle.ix_script.proofs.lines.Deciding.{version_said, first_version, first_faultless}
-use Rattle.ix_script.proofs.reader.Costing.{cheap_none, cheap_next}
-use Rattle.ix_script.proofs.reader.Counting.{no_commands, commands_stay_few, no_lanes, lanes_stay_few}
-use Rattle.ix_script.proofs.reader.Once.{none_once, lanes_stay_once}
-use Rattle.ix_script.specs.scripts.Schedule.{LanesOnce}
-use Rattle.ix_script.proofs.reader.Staying.{valid_next}
+use Rattle.ix_script.proofs.{lines.Deciding.{version_said, first_version, first_faultless}, reader.Costing.{cheap_none, cheap_next}, reader.Staying.valid_next}
+use Rattle.ix_script.proofs.{reader.Counting.{no_commands, commands_stay_few, no_lanes, lanes_stay_few}, reader.Once.{none_once, lanes_stay_once}}
 use Rattle.ix_script.proofs.reader.Told.{mapped}
 
 abbrev pub after : List Line → Option (List Line) → Option (List Line)

@@ -1,14 +1,10 @@
 -- What the lines before tell, with one line more.
 use Rattle.std.proofs.Common.{◌≡◌, ℕ, ◌+◌, Bool, true, false, ◌||◌, cond, List, [], ◌∷◌, ◌++◌, count_by, Option, None, arith, refl, sym, ap, ◌∙◌, append_assoc}
 use Rattle.std.specs.List.{list_any, flat_map, fold}
-use Rattle.std.proofs.lemmas.List.{append-nil}
-use Rattle.std.proofs.lemmas.List.Folds.{list_any-append}
-use Rattle.std.proofs.lemmas.List.Sums.{fold-append, sum_by-append}
-use Rattle.std.proofs.lemmas.Grind.{flat_map-append}
-use Rattle.ix_script.specs.lines.Before.{fs_told, fss_told, what_told, whats_told, limits_after, default_limits, limits_of, proc_told, proc_name_told}
-use Rattle.ix_script.specs.lines.Before.{procs_of, proc_names, object_told, objects_of, is_policy, has_policy, is_phase, in_body, lane_after}
-use Rattle.ix_script.specs.lines.Before.{lane_now, phase_lanes_after, phase_lanes, lanes_after, lanes_of, is_command, commands, in_lane, given}
-use Rattle.ix_script.specs.lines.Before.{new_fds, new_procs, fds_given, procs_given}
+use Rattle.std.proofs.lemmas.{List.{append-nil, Folds.list_any-append, Sums.{fold-append, sum_by-append}}, Grind.flat_map-append}
+use Rattle.ix_script.specs.lines.Before.{fs_told, fss_told, what_told, whats_told, limits_after, default_limits, limits_of, proc_told, proc_name_told, procs_of}
+use Rattle.ix_script.specs.lines.Before.{proc_names, object_told, objects_of, is_policy, has_policy, is_phase, in_body, lane_after, lane_now, phase_lanes_after}
+use Rattle.ix_script.specs.lines.Before.{phase_lanes, lanes_after, lanes_of, is_command, commands, in_lane, given, new_fds, new_procs, fds_given, procs_given}
 use Rattle.ix_script.specs.declared.line.Line.{Line}
 
 or_false : (b : Bool) → (b || false) ≡ b

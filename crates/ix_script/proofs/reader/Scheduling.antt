@@ -1,25 +1,17 @@
 -- The schedule of lines, made line after line.
-use Rattle.std.proofs.Common.{◌≡◌, ℕ, zero, suc, ◌+◌, ◌-◌, ◌<◌, ◌≤◌, ◌==◌, Bool, true, false, ◌||◌, cond, List, [], ◌∷◌, ◌++◌, length, drop, set, get_or, max, count_by, Option}
-use Rattle.std.proofs.Common.{Some, None, option_map, refl, sym, ap, ◌∙◌, subst, ◌⊎◌, arith, append_assoc, add-one, inl, inr}
-use Rattle.std.specs.List.{slice_get}
-use Rattle.std.specs.Option.{option_map_or}
-use Rattle.std.proofs.Math.Nat.{max_comm}
-use Rattle.std.proofs.Math.Seq.{drop-cons}
-use Rattle.std.proofs.lemmas.Bool.{cases_Bool, cases_eq, eq-eqb, ne_eqb, false≢true}
+use Rattle.std.proofs.Common.{◌≡◌, ℕ, zero, suc, ◌+◌, ◌-◌, ◌<◌, ◌≤◌, ◌==◌, Bool, true, false, ◌||◌, cond, List, [], ◌∷◌, ◌++◌, length, drop, set, get_or, max}
+use Rattle.std.proofs.Common.{count_by, Option, Some, None, option_map, refl, sym, ap, ◌∙◌, subst, ◌⊎◌, arith, append_assoc, add-one, inl, inr}
+use Rattle.std.specs.{List.slice_get, Option.option_map_or}
+use Rattle.std.proofs.{Math.{Nat.max_comm, Seq.drop-cons}, lemmas.Bool.{cases_Bool, cases_eq, eq-eqb, ne_eqb, false≢true}, lemmas.List.Sums.sum_by-cons}
 use Rattle.std.proofs.lemmas.List.{append-nil, drop_all, length-drop, get_or-set_same, get_or-set_other}
-use Rattle.std.proofs.lemmas.List.Sums.{sum_by-cons}
 use Rattle.std.proofs.lemmas.Option.{none-some, same_Some, slice_get-get_or}
 use Rattle.ix_model.specs.world.Naming.{same_bytes}
-use Rattle.ix_script.specs.lines.Before.{is_phase, lanes_of}
-use Rattle.ix_script.specs.lines.Roles.{role_of}
-use Rattle.ix_script.specs.scripts.Held.{IsSchedule}
-use Rattle.ix_script.specs.scripts.Schedule.{phases, seat_from, begins_part, part_len, stretch_by, begun_after, begun_in, stretches_from, stretch_in, stretches_of}
-use Rattle.ix_script.specs.declared.line.Line.{Line}
+use Rattle.ix_script.specs.{lines.{Before.{is_phase, lanes_of}, Roles.role_of}, scripts.Held.IsSchedule}
+use Rattle.ix_script.specs.declared.{line.Line.Line, role.Role.Role, schedule.{Schedule.Schedule, Stretch.Stretch}}
+use Rattle.ix_script.specs.scripts.Schedule.{phases, seat_from, begins_part, part_len, stretch_by, begun_after, begun_in, stretches_from, stretch_in}
+use Rattle.ix_script.specs.scripts.Schedule.{stretches_of}
 use Rattle.ix_script.specs.declared.line.Line.TheVariants as line
-use Rattle.ix_script.specs.declared.role.Role.{Role}
 use Rattle.ix_script.specs.declared.role.Role.TheVariants as role
-use Rattle.ix_script.specs.declared.schedule.Schedule.{Schedule}
-use Rattle.ix_script.specs.declared.schedule.Stretch.{Stretch}
 use Rattle.ix_script.proofs.reader.Walking.{next_line}
 
 -- ---- seats

@@ -2,14 +2,9 @@
 use Rattle.std.proofs.Common.{◌≡◌, ℕ, suc, ◌+◌, true, false, List, [], ◌∷◌, ◌++◌, length, Some, ap, ◌∙◌, arith, inl, inr}
 use Rattle.std.specs.List.{fold}
 use Rattle.std.proofs.Math.Seq.{get_or-append_seam}
-use Rattle.std.proofs.lemmas.Bool.{cases_Bool, cases_lt, true≢false}
-use Rattle.std.proofs.lemmas.List.{get_or_append_left, length-append}
-use Rattle.ix_model.proofs.tables.Alike.{bytes_are}
-use Rattle.std.proofs.lemmas.Option.{none-some}
-use Rattle.ix_model.specs.world.Naming.{same_bytes}
-use Rattle.ix_script.specs.lines.Before.{is_known, lanes_after, lanes_of}
-use Rattle.ix_script.specs.scripts.Schedule.{SeatsDiffer, seat_from}
-use Rattle.ix_script.specs.declared.line.Line.{Line}
+use Rattle.std.proofs.lemmas.{Bool.{cases_Bool, cases_lt, true≢false}, List.{get_or_append_left, length-append}, Option.none-some}
+use Rattle.ix_model.{proofs.tables.Alike.bytes_are, specs.world.Naming.same_bytes}
+use Rattle.ix_script.specs.{lines.Before.{is_known, lanes_after, lanes_of}, scripts.Schedule.{SeatsDiffer, seat_from}, declared.line.Line.Line}
 use Rattle.ix_script.specs.declared.line.Line.TheVariants as line
 
 -- a lane that is found is found with more behind it

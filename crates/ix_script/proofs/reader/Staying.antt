@@ -1,40 +1,23 @@
 -- A config stays valid with one line more.
-use Rattle.std.proofs.Common.{◌≡◌, ℕ, ◌+◌, ◌-◌, ◌<◌, ◌≤◌, nat_le, nat_eq, Bool, true, false, not, ◌&&◌, ◌||◌, List, [], ◌∷◌, ◌++◌, length, map, take}
-use Rattle.std.proofs.Common.{Some, None, refl, sym, ap, ◌∙◌, subst, arith, append_assoc, length-append, inl, inr}
+use Rattle.std.proofs.Common.{◌≡◌, ℕ, ◌+◌, ◌-◌, ◌<◌, ◌≤◌, nat_le, nat_eq, Bool, true, false, not, ◌&&◌, ◌||◌, List, [], ◌∷◌, ◌++◌, length, map, take, Some, sym}
+use Rattle.std.proofs.Common.{None, refl, ap, ◌∙◌, subst, arith, append_assoc, length-append, inl, inr}
 use Rattle.std.specs.List.{list_any, list_all, flat_map}
-use Rattle.std.proofs.lemmas.Bool.{le-leb, cases_eq, eq-eqb, ne_eqb}
-use Rattle.std.proofs.lemmas.Bool.Decides.{nat_tests}
-use Rattle.std.proofs.lemmas.List.{append-nil, map-append}
+use Rattle.std.proofs.{lemmas.Bool.{le-leb, cases_eq, eq-eqb, ne_eqb}, lemmas.Bool.Decides.nat_tests, lemmas.List.{append-nil, map-append}}
 use Rattle.std.proofs.lemmas.List.Folds.{list_all-append, list_any-append}
-use Rattle.ix_label.specs.Category.{leq}
-use Rattle.ix_model.specs.world.World.{fs_at}
-use Rattle.ix_model.specs.world.Naming.{same_bytes}
-use Rattle.ix_model.specs.opening.Valid.{is_within, all_differ, fs_fits, fss_fit, limits_fit, procs_fit, fs_of, is_taken, has_directory, has_room, is_well_formed, object_fits, objects_fit, is_valid}
-use Rattle.ix_model.specs.declared.config.FsSpec.{FsSpec}
-use Rattle.ix_model.specs.declared.config.Limits.{Limits}
-use Rattle.ix_model.specs.declared.config.ProcSpec.{ProcSpec}
-use Rattle.ix_model.specs.declared.config.ObjSpec.{ObjSpec}
-use Rattle.ix_label.specs.declared.form.Form.{Form}
-use Rattle.ix_label.specs.declared.form.Form.TheVariants.{One}
-use Rattle.ix_script.specs.lines.Before.{form_by, form_told, fs_told, fss_told, or_default, fss_of, default_fs, is_known, with_limit, limits_after}
-use Rattle.ix_script.specs.lines.Before.{limits_of, default_limits, proc_told, proc_name_told, procs_of, proc_names, object_told, objects_of}
-use Rattle.ix_script.specs.lines.Before.{dir_spec, file_spec}
-use Rattle.ix_script.specs.lines.Kinds.{bounds_of}
-use Rattle.ix_script.specs.lines.Said.{line_of}
-use Rattle.ix_script.specs.lines.Faults.{said_fault, line_fault}
-use Rattle.ix_script.specs.scripts.Need.{need}
-use Rattle.ix_script.specs.scripts.Scripts.{config_of}
-use Rattle.ix_script.specs.declared.line.What.{What}
+use Rattle.ix_label.specs.{Category.leq, declared.form.Form.{Form, TheVariants.One}}
+use Rattle.ix_model.specs.{world.{World.fs_at, Naming.same_bytes}, declared.config.{FsSpec.FsSpec, Limits.Limits, ProcSpec.ProcSpec, ObjSpec.ObjSpec}}
+use Rattle.ix_model.specs.opening.Valid.{is_within, all_differ, fs_fits, fss_fit, limits_fit, procs_fit, fs_of, is_taken, has_directory, has_room, object_fits}
+use Rattle.ix_model.specs.opening.Valid.{is_well_formed, objects_fit, is_valid}
+use Rattle.ix_script.specs.lines.Before.{form_by, form_told, fs_told, fss_told, or_default, fss_of, default_fs, is_known, with_limit, limits_after, limits_of}
+use Rattle.ix_script.specs.lines.Before.{default_limits, proc_told, proc_name_told, procs_of, proc_names, object_told, objects_of, dir_spec, file_spec}
+use Rattle.ix_script.specs.{lines.{Kinds.bounds_of, Said.line_of, Faults.{said_fault, line_fault}}, scripts.{Need.need, Scripts.config_of}}
+use Rattle.ix_script.specs.declared.line.{What.What, Line.Line}
 use Rattle.ix_script.specs.declared.line.What.TheVariants as what
-use Rattle.ix_script.specs.declared.line.Line.{Line}
 use Rattle.ix_script.specs.declared.line.Line.TheVariants as line
 use Rattle.ix_text.proofs.Tests.{both, join_tests}
-use Rattle.ix_script.proofs.lines.Follows.{Follows, follows}
-use Rattle.ix_script.proofs.lines.Ordered.{neither, no_objects, no_procs, earlier}
-use Rattle.ix_script.proofs.reader.Pushed.{fss_push, limits_push, procs_push, objects_push}
+use Rattle.ix_script.proofs.lines.{Follows.{Follows, follows}, Ordered.{neither, no_objects, no_procs, earlier}, Sound.{Sound, sound}}
+use Rattle.ix_script.proofs.{reader.Pushed.{fss_push, limits_push, procs_push, objects_push}, reader.Validity.{Parts, parts_of, valid_by}}
 use Rattle.ix_script.proofs.reader.Keeping.{After, same_form, same_fss, later_fss, same_objects}
-use Rattle.ix_script.proofs.reader.Validity.{Parts, parts_of, valid_by}
-use Rattle.ix_script.proofs.lines.Sound.{Sound, sound}
 
 not_false : (b : Bool) → not b ≡ false → b ≡ true
 not_false true h = refl

@@ -1,16 +1,11 @@
 -- The lines of a lane are those of its stretches.
-use Rattle.std.proofs.Common.{◌≡◌, ℕ, zero, suc, ◌+◌, ◌-◌, Bool, true, false, cond, List, [], ◌∷◌, ◌++◌, take, drop, count_by, Option, None, refl, sym, ap, ◌∙◌, arith, add-one, inl, inr}
-use Rattle.std.specs.Prelude.{All}
-use Rattle.std.specs.List.{flat_map}
-use Rattle.std.proofs.lemmas.Bool.{cases_Bool}
-use Rattle.std.proofs.lemmas.List.Elements.{All-nil, All-cons, All-append}
-use Rattle.std.proofs.lemmas.List.Sums.{sum_by-append}
-use Rattle.ix_script.specs.lines.Before.{is_phase, lanes_of}
-use Rattle.ix_script.specs.scripts.Schedule.{Numbered, LanesAreStretches, StretchesStand, seat_from, is_seat, part_len, stretch_by, begun_after, stretches_from, stretches_of}
-use Rattle.ix_script.specs.scripts.Schedule.{numbered_from, lane_lines, stretch_lines}
-use Rattle.ix_script.specs.declared.line.Line.{Line}
+use Rattle.std.proofs.Common.{◌≡◌, ℕ, zero, suc, ◌+◌, ◌-◌, Bool, true, false, cond, List, [], ◌∷◌, ◌++◌, take, drop, count_by, Option, None, refl, sym, ap, ◌∙◌}
+use Rattle.std.proofs.Common.{arith, add-one, inl, inr}
+use Rattle.std.{specs.{Prelude.All, List.flat_map}, proofs.lemmas.{Bool.cases_Bool, List.{Elements.{All-nil, All-cons, All-append}, Sums.sum_by-append}}}
+use Rattle.ix_script.specs.{lines.Before.{is_phase, lanes_of}, declared.{line.Line.Line, schedule.Stretch.Stretch}}
+use Rattle.ix_script.specs.scripts.Schedule.{Numbered, LanesAreStretches, StretchesStand, seat_from, is_seat, part_len, stretch_by, begun_after, stretches_from}
+use Rattle.ix_script.specs.scripts.Schedule.{stretches_of, numbered_from, lane_lines, stretch_lines}
 use Rattle.ix_script.specs.declared.line.Line.TheVariants as line
-use Rattle.ix_script.specs.declared.schedule.Stretch.{Stretch}
 
 -- ---- line after line
 rest_of : (s : List Line) (i : ℕ) (l : Line) (later : List Line) → drop i s ≡ l ∷ later → drop (suc i) s ≡ later

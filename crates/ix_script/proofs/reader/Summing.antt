@@ -2,12 +2,8 @@
 use Rattle.std.proofs.Common.{◌≡◌, ℕ, ◌+◌, ◌*◌, ◌≤◌, Bool, true, false, cond, List, [], ◌∷◌, ◌++◌, length, map, refl, sym, ap, ◌∙◌, arith}
 use Rattle.std.proofs.lemmas.List.{map-append}
 use Rattle.ix_label.specs.declared.form.Form.{Form}
-use Rattle.ix_script.specs.lines.Before.{is_command}
-use Rattle.ix_script.specs.lines.Roles.{role_of}
-use Rattle.ix_script.specs.scripts.Need.{cost_of_line, need}
-use Rattle.ix_script.specs.scripts.Packed.{IsLine, AreLines, AreSummed, line_in, between, held}
-use Rattle.ix_script.specs.declared.line.Line.{Line}
-use Rattle.ix_script.specs.declared.role.Role.{Role}
+use Rattle.ix_script.specs.{lines.{Before.is_command, Roles.role_of}, declared.{line.Line.Line, role.Role.Role}}
+use Rattle.ix_script.specs.scripts.{Need.{cost_of_line, need}, Packed.{IsLine, AreLines, AreSummed, line_in, between, held}}
 use Rattle.ix_script.proofs.reader.Costing.{line_cheap, need_none, need_next, need_push}
 
 -- ---- the sum stays small

@@ -1,9 +1,7 @@
 -- What a value that is there tells of the options that it was made from.
 use Rattle.std.proofs.Common.{◌≡◌, Bool, true, false, cond, List, [], ◌∷◌, Option, Some, None, ◌⊎◌, inl, inr, refl, sym, ap, ◌∙◌, option_map, find}
-use Rattle.std.specs.Option.{option_or}
-use Rattle.std.proofs.lemmas.Option.{same_Some, none-some}
-use Rattle.ix_script.specs.texts.Payloads.{◌>>=◌}
-use Rattle.ix_script.specs.lines.Said.{both}
+use Rattle.std.{specs.Option.option_or, proofs.lemmas.Option.{same_Some, none-some}}
+use Rattle.ix_script.specs.{texts.Payloads.{◌>>=◌}, lines.Said.both}
 
 pub mapped : {A B : Type 0} (f : A → B) (o : Option A) (y : B) → option_map f o ≡ Some y → (x : A) × (o ≡ Some x) × (f x ≡ y)
 mapped f None y h = absurd (none-some y h)

@@ -1,13 +1,7 @@
 -- The parts of a valid config.
-use Rattle.std.proofs.Common.{◌≡◌, ◌≤◌, true, ◌&&◌, List, [], length, map, refl}
-use Rattle.std.specs.List.{list_all}
-use Rattle.std.proofs.lemmas.Bool.{le-leb}
-use Rattle.ix_model.specs.opening.Valid.{is_within, all_differ, fs_fits, fss_fit, limits_fit, procs_fit, objects_fit, is_valid}
-use Rattle.ix_model.specs.declared.config.FsSpec.{FsSpec}
-use Rattle.ix_script.specs.lines.Before.{fss_of, limits_of, procs_of, objects_of}
-use Rattle.ix_script.specs.scripts.Need.{need}
-use Rattle.ix_script.specs.scripts.Scripts.{config_of}
-use Rattle.ix_script.specs.declared.line.Line.{Line}
+use Rattle.std.{proofs.{Common.{◌≡◌, ◌≤◌, true, ◌&&◌, List, [], length, map, refl}, lemmas.Bool.le-leb}, specs.List.list_all}
+use Rattle.ix_model.specs.{opening.Valid.{is_within, all_differ, fs_fits, fss_fit, limits_fit, procs_fit, objects_fit, is_valid}, declared.config.FsSpec.FsSpec}
+use Rattle.ix_script.specs.{lines.Before.{fss_of, limits_of, procs_of, objects_of}, scripts.{Need.need, Scripts.config_of}, declared.line.Line.Line}
 use Rattle.ix_text.proofs.Tests.{both}
 
 pub record Parts (lines : List Line) : Type 0 where

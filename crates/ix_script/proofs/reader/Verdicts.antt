@@ -1,6 +1,5 @@
 -- Tests over lists, and what is there.
-use Rattle.std.proofs.Common.{◌≡◌, Bool, ◌||◌, List, [], ◌∷◌, map, Option, Some, None, IsSome, MatchOption, refl, ap}
-use Rattle.std.specs.List.{list_any}
+use Rattle.std.{proofs.Common.{◌≡◌, Bool, ◌||◌, List, [], ◌∷◌, map, Option, Some, None, IsSome, MatchOption, refl, ap}, specs.List.list_any}
 
 pub any_map : {A B : Type 0} (test : B → Bool) (f : A → B) (xs : List A) → list_any test (map f xs) ≡ list_any (λ x. test (f x)) xs
 any_map test f [] = refl

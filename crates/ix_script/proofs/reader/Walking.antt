@@ -1,12 +1,8 @@
 -- Lines walked through by their numbers.
 use Rattle.std.proofs.Common.{◌≡◌, ℕ, zero, suc, ◌+◌, ◌<◌, true, false, List, [], ◌∷◌, length, drop, get_or, Some, None, refl, sym, ap, ◌∙◌, add-one}
-use Rattle.std.specs.List.{slice_get, position, position_from}
-use Rattle.std.specs.Option.{option_map_or}
-use Rattle.std.proofs.lemmas.Bool.{false≢true}
-use Rattle.std.proofs.lemmas.Option.{none-some, same_Some, slice_get-get_or}
-use Rattle.ix_script.specs.lines.Before.{is_policy}
-use Rattle.ix_script.specs.scripts.Scripts.{policy_of}
-use Rattle.ix_script.specs.declared.line.Line.{Line}
+use Rattle.std.specs.{List.{slice_get, position, position_from}, Option.option_map_or}
+use Rattle.std.proofs.lemmas.{Bool.false≢true, Option.{none-some, same_Some, slice_get-get_or}}
+use Rattle.ix_script.specs.{lines.Before.is_policy, scripts.Scripts.policy_of, declared.line.Line.Line}
 use Rattle.ix_script.specs.declared.line.Line.TheVariants as line
 
 next : (lines : List Line) (i : ℕ) (l : Line) → slice_get lines i ≡ Some l → drop i lines ≡ l ∷ drop (suc i) lines

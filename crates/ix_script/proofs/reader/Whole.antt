@@ -1,15 +1,10 @@
 -- The fault and the script of an input.
 use Rattle.std.proofs.Common.{◌≡◌, ℕ, ◌<◌, ◌≤◌, List, [], length, Option, Some, None, refl, sym, ap, ◌∙◌, subst}
 use Rattle.std.proofs.lemmas.Bool.{lt-ltb, le-ltb}
-use Rattle.ix_script.specs.texts.Lines.{lines_of}
-use Rattle.ix_script.specs.texts.Cutting.{words_of, is_policy_line}
-use Rattle.ix_script.specs.lines.Rules.{is_too_long, is_unprintable, has_empty_word, has_open_quote}
-use Rattle.ix_script.specs.lines.Said.{version_of}
+use Rattle.ix_script.specs.{texts.{Lines.lines_of, Cutting.{words_of, is_policy_line}}, lines.Said.version_of, scripts.Scripts.{form_in, lines_said, script_of}}
+use Rattle.ix_script.specs.{lines.Rules.{is_too_long, is_unprintable, has_empty_word, has_open_quote}, reader.Readers.HasCause}
 use Rattle.ix_script.specs.lines.Faults.{text_fault, words_fault, first_line_fault, body_fault, line_fault, fault_from, fault_of}
-use Rattle.ix_script.specs.scripts.Scripts.{form_in, lines_said, script_of}
-use Rattle.ix_script.specs.reader.Readers.{HasCause}
-use Rattle.ix_script.specs.declared.fail.ReadFail.{ReadFail}
-use Rattle.ix_script.specs.declared.line.Line.{Line}
+use Rattle.ix_script.specs.declared.{fail.ReadFail.ReadFail, line.Line.Line}
 
 pub too_long : (bytes : List ℕ) → 16777216 < length bytes → fault_of bytes ≡ Some (1, 1)
 unfolding fault_of

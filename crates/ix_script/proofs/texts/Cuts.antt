@@ -1,15 +1,11 @@
 -- Words are cut as they were joined.
 use Rattle.std.proofs.Common.{◌≡◌, ℕ, false, not, ◌==◌, List, [], ◌∷◌, ◌++◌, drop, inl, inr, refl, sym, ap, ◌∙◌}
-use Rattle.std.proofs.lemmas.Bool.{cases_Bool, eqb-true, false≢true}
-use Rattle.std.proofs.lemmas.List.{append-nil}
+use Rattle.std.proofs.lemmas.{Bool.{cases_Bool, eqb-true, false≢true}, List.append-nil}
 use Rattle.ix_model.specs.world.Texts.{with_front}
-use Rattle.ix_script.specs.texts.Cutting.{after_byte, is_quoted, parts_words, pieces, words_of}
-use Rattle.ix_text.specs.Bytes.{is_empty}
-use Rattle.ix_text.specs.Spellings.{further, joined}
-use Rattle.ix_script.specs.declared.words.Spot.{Spot}
-use Rattle.ix_script.specs.declared.words.Spot.TheVariants as spot
-use Rattle.ix_text.proofs.Tests.{both}
+use Rattle.ix_script.specs.{texts.Cutting.{after_byte, is_quoted, parts_words, pieces, words_of}, declared.words.Spot.Spot}
 use Rattle.ix_script.proofs.back.OneSpelling.{joined_front}
+use Rattle.ix_text.{specs.{Bytes.is_empty, Spellings.{further, joined}}, proofs.Tests.both}
+use Rattle.ix_script.specs.declared.words.Spot.TheVariants as spot
 
 some_piece : (at : Spot) (text : List ℕ) → (x : List ℕ) × (xs : List (List ℕ)) × (pieces at text ≡ x ∷ xs)
 unfolding pieces

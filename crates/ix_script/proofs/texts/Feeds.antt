@@ -1,16 +1,11 @@
 -- Cutting the first line off, by the match of a line feed.
-use Rattle.std.proofs.Common.{◌≡◌, ℕ, zero, suc, ◌+◌, ◌<◌, ◌≤◌, ◌==◌, nat_le, Bool, true, false, ◌&&◌, ◌||◌, cond, List, [], ◌∷◌, length, take, drop}
-use Rattle.std.proofs.Common.{Option, Some, None, option_map, refl, sym, ap, ◌∙◌, arith, add-one, add-zero, inl, inr}
-use Rattle.std.specs.Option.{option_map_or}
-use Rattle.std.specs.List.{list_all}
-use Rattle.ix_model.specs.opening.Valid.{is_within}
+use Rattle.std.proofs.Common.{◌≡◌, ℕ, zero, suc, ◌+◌, ◌<◌, ◌≤◌, ◌==◌, nat_le, Bool, true, false, ◌&&◌, ◌||◌, cond, List, [], ◌∷◌, length, take, drop, Option}
+use Rattle.std.proofs.Common.{Some, None, option_map, refl, sym, ap, ◌∙◌, arith, add-one, add-zero, inl, inr}
+use Rattle.std.{specs.{Option.option_map_or, List.list_all}, proofs.lemmas.Bool.{cases_eq, eq-eqb, ne_eqb, le-leb, Decides.nat_tests}}
+use Rattle.ix_model.specs.{opening.Valid.is_within, world.Texts.with_front}
 use Rattle.ix_text.proofs.Tests.{both}
-use Rattle.ix_script.specs.reader.Readers.{in_printable_lines}
-use Rattle.std.proofs.lemmas.Bool.{cases_eq, eq-eqb, ne_eqb, le-leb}
-use Rattle.std.proofs.lemmas.Bool.Decides.{nat_tests}
+use Rattle.ix_script.specs.{reader.Readers.in_printable_lines, texts.Lines.cut}
 use Rattle.bstr.specs.Find.{first_of, matches_from, matches, occurs_at}
-use Rattle.ix_model.specs.world.Texts.{with_front}
-use Rattle.ix_script.specs.texts.Lines.{cut}
 
 -- the place of the first line feed
 abbrev feed_in : List ℕ → Option ℕ

@@ -1,8 +1,6 @@
 -- The order of two texts where the shorter one is at its end.
 use Rattle.std.proofs.Common.{◌≡◌, ℕ, zero, suc, ◌<◌, ◌≤◌, min, List, [], ◌∷◌, length, drop, Ordering, Less, Equal, Greater, refl, arith}
-use Rattle.std.specs.Cmp.{ranked}
-use Rattle.std.specs.Cmp.Lexicographic.{slice_cmp}
-use Rattle.std.specs.Ordering.{nat_cmp, MatchOrdering}
+use Rattle.std.specs.{Cmp.{ranked, Lexicographic.slice_cmp}, Ordering.{nat_cmp, MatchOrdering}}
 
 one_less : (m n : ℕ) (r : Ordering) → MatchOrdering r (suc m < suc n) (suc m ≡ suc n) (suc n < suc m) → MatchOrdering r (m < n) (m ≡ n) (n < m)
 one_less m n Less h = let l : suc m < suc n = h in omega arith

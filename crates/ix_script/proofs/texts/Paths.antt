@@ -1,14 +1,9 @@
 -- Words that spell paths.
 use Rattle.std.proofs.Common.{◌≡◌, ℕ, ◌≤◌, ◌+◌, ◌&&◌, true, not, List, [], ◌∷◌, length, map, Some, subst, arith}
-use Rattle.std.specs.List.{list_all, sum}
-use Rattle.std.proofs.lemmas.Option.{cond_some}
-use Rattle.ix_model.specs.world.Naming.{PathOf}
-use Rattle.ix_model.specs.world.Texts.{is_path_text, names_in}
-use Rattle.ix_model.specs.history.Cost.{cost_of_path}
-use Rattle.ix_model.proofs.texts.Joining.{text_cost, text_fits}
-use Rattle.ix_text.specs.Bytes.{is_empty}
+use Rattle.std.{specs.List.{list_all, sum}, proofs.lemmas.Option.cond_some}
+use Rattle.ix_model.{specs.{world.{Naming.PathOf, Texts.{is_path_text, names_in}}, history.Cost.cost_of_path}, proofs.texts.Joining.{text_cost, text_fits}}
+use Rattle.ix_text.{specs.Bytes.is_empty, proofs.Tests.both}
 use Rattle.ix_script.specs.texts.Words.{may_stand_in_path, names_text, is_path_word, path_in, path_of}
-use Rattle.ix_text.proofs.Tests.{both}
 
 -- a word that is read as a path has the text of at most 16 names, behind the slash at its front or as it is
 pub text_of : (word : List ℕ) → is_path_word word ≡ true → is_path_text (names_text word) ≡ true

@@ -1,15 +1,11 @@
 -- Cutting the first word off.
-use Rattle.std.proofs.Common.{◌≡◌, ℕ, zero, suc, ◌+◌, ◌<◌, ◌≤◌, ◌==◌, Bool, true, false, slice_index, sym, cond, List, [], ◌∷◌, length, take, drop}
-use Rattle.std.proofs.Common.{get_or, Option, Some, None, refl, ap, ◌∙◌, arith, add-one, add-zero, drop-cons, length-drop}
-use Rattle.std.specs.Option.{option_map_or}
+use Rattle.std.proofs.Common.{◌≡◌, ℕ, zero, suc, ◌+◌, ◌<◌, ◌≤◌, ◌==◌, Bool, true, false, slice_index, sym, cond, List, [], ◌∷◌, length, take, drop, get_or, ap}
+use Rattle.std.proofs.Common.{Option, Some, None, refl, ◌∙◌, arith, add-one, add-zero, drop-cons, length-drop}
+use Rattle.std.{specs.Option.option_map_or, proofs.lemmas.{Bool.{eq-eqb, ne_eqb}, List.{drop_all, take_all}}}
 use Rattle.memchr.specs.Find.{IsFirstByte, is_byte}
 use Rattle.ix_model.specs.world.Texts.{with_front}
-use Rattle.std.proofs.lemmas.Bool.{eq-eqb, ne_eqb}
-use Rattle.std.proofs.lemmas.List.{drop_all, take_all}
-use Rattle.ix_script.specs.texts.Cutting.{pieces, parts_words, after_byte, closes, is_closed}
+use Rattle.ix_script.specs.{texts.Cutting.{pieces, parts_words, after_byte, closes, is_closed}, reader.Cut.end_from, declared.words.Spot.Spot}
 use Rattle.ix_text.specs.Bytes.{begins, is_empty}
-use Rattle.ix_script.specs.reader.Cut.{end_from}
-use Rattle.ix_script.specs.declared.words.Spot.{Spot}
 use Rattle.ix_script.specs.declared.words.Spot.TheVariants as spot
 
 -- ---- words

@@ -1,21 +1,13 @@
 -- Reading a payload piece by piece, as loops do.
 use mir.Val.{bool_byte}
-use Rattle.std.proofs.Common.{◌≡◌, ℕ, zero, suc, ◌+◌, ◌*◌, inl, inr, ◌<◌, ◌≤◌, ◌==◌, Bool, true, false, ◌&&◌, List, [], ◌∷◌, ◌++◌, length, drop, get_or, Option, Some, None, refl}
-use Rattle.std.proofs.Common.{sym, ◌∙◌, ap, append_assoc, arith, IsSome, Result, Ok, Err, add-one, drop-cons, length-drop, length-append}
-use Rattle.std.specs.Prelude.{is_some, nat_le}
-use Rattle.std.specs.Result.{IsOk}
-use Rattle.std.proofs.lemmas.Option.{none-some}
-use Rattle.std.proofs.lemmas.Bool.{cases_Bool, le-ltb, leb-true}
-use Rattle.std.specs.List.{list_all}
-use Rattle.std.proofs.lemmas.List.{append-nil, drop_all}
+use Rattle.std.proofs.Common.{◌≡◌, ℕ, zero, suc, ◌+◌, ◌*◌, inl, inr, ◌<◌, ◌≤◌, ◌==◌, Bool, true, false, ◌&&◌, List, [], ◌∷◌, ◌++◌, length, drop, get_or, Option}
+use Rattle.std.proofs.Common.{Some, None, refl, sym, ◌∙◌, ap, append_assoc, arith, IsSome, Result, Ok, Err, add-one, drop-cons, length-drop, length-append}
+use Rattle.std.specs.{Prelude.{is_some, nat_le}, Result.IsOk, List.list_all}
+use Rattle.std.proofs.lemmas.{Option.none-some, Bool.{cases_Bool, le-ltb, leb-true}, List.{append-nil, drop_all}}
 use Rattle.ix_text.specs.Bytes.{is_empty}
 use Rattle.ix_script.specs.texts.Payloads.{◌>>=◌, digit_of, pair_of, pairs_of, after_bytes, bytes_of, escape_step, ends, quoted_from, payload_of}
-use Rattle.ix_script.specs.lines.Said.{payload_within, within}
-use Rattle.ix_script.specs.texts.Spelled.{HasCount, Spells, spelling_fault}
-use Rattle.ix_script.specs.reader.Readers.{Refuses}
-use Rattle.ix_script.specs.declared.fail.Rule.{Rule}
-use Rattle.ix_script.specs.declared.payload.Spelling.{Spelling}
-use Rattle.ix_script.specs.declared.payload.Escape.{Escape}
+use Rattle.ix_script.specs.{lines.Said.{payload_within, within}, texts.Spelled.{HasCount, Spells, spelling_fault}, reader.Readers.Refuses}
+use Rattle.ix_script.specs.declared.{fail.Rule.Rule, payload.{Spelling.Spelling, Escape.Escape}}
 use Rattle.ix_script.specs.declared.payload.Escape.TheVariants as escape
 use Rattle.ix_script.proofs.texts.Pieces.{last_place}
 

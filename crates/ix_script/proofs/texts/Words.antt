@@ -1,17 +1,12 @@
 -- Words cut off one after the other.
-use Rattle.std.proofs.Common.{◌≡◌, ◌≢◌, ℕ, zero, suc, ◌+◌, ◌<◌, ◌≤◌, nat_lt, Bool, true, false, ◌||◌, cond, List, [], ◌∷◌, ◌++◌, length, set}
-use Rattle.std.proofs.Common.{replicate, inl, inr, refl, sym, ap, ◌∙◌, append_assoc, length-append, arith}
-use Rattle.std.specs.List.{list_any}
-use Rattle.std.proofs.lemmas.List.{append-nil, length-set, get_or-set_same, get_or-set_other}
-use Rattle.std.proofs.lemmas.Bool.{cases_eq, ltb-true, ltb-false}
+use Rattle.std.proofs.Common.{◌≡◌, ◌≢◌, ℕ, zero, suc, ◌+◌, ◌<◌, ◌≤◌, nat_lt, Bool, true, false, ◌||◌, cond, List, [], ◌∷◌, ◌++◌, length, set, replicate, inl}
+use Rattle.std.proofs.Common.{inr, refl, sym, ap, ◌∙◌, append_assoc, length-append, arith}
+use Rattle.std.{specs.List.list_any, proofs.lemmas.{List.{append-nil, length-set, get_or-set_same, get_or-set_other}, Bool.{cases_eq, ltb-true, ltb-false}}}
 use Rattle.ix_model.specs.world.Texts.{with_front}
-use Rattle.ix_script.specs.texts.Cutting.{is_open, word_at, pieces, parts_words, after_byte, words_of}
+use Rattle.ix_script.{specs.texts.Cutting.{is_open, word_at, pieces, parts_words, after_byte, words_of}, specs.lines.Rules.{has_empty_word, has_open_quote}}
+use Rattle.ix_script.{specs.declared.words.Spot.Spot, specs.reader.Cut.AreWords, proofs.reader.Pushed.any_push}
 use Rattle.ix_text.specs.Bytes.{is_empty}
-use Rattle.ix_script.specs.lines.Rules.{has_empty_word, has_open_quote}
-use Rattle.ix_script.specs.declared.words.Spot.{Spot}
 use Rattle.ix_script.specs.declared.words.Spot.TheVariants as spot
-use Rattle.ix_script.specs.reader.Cut.{AreWords}
-use Rattle.ix_script.proofs.reader.Pushed.{any_push}
 
 -- what was cut off, and what is left
 pub record Cutting (words kept : List (List ℕ)) (n : ℕ) (some_empty some_open : Bool) (rest : List (List ℕ)) : Type 0 where

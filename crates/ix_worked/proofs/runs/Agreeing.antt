@@ -1,29 +1,21 @@
 -- Which histories agree, and which don't.
-use Rattle.std.proofs.Common.{◌≡◌, ◌⊎◌, inl, inr, ℕ, suc, ◌==◌, Bool, true, false, true≢false, List, [], ◌∷◌, length, replicate, slice_index_or, Option, Some, None, refl, sym, ap, ◌∙◌, subst, codes}
+use Rattle.std.proofs.Common.{◌≡◌, ◌⊎◌, inl, inr, ℕ, suc, ◌==◌, Bool, true, false, true≢false, List, [], ◌∷◌, length, replicate, slice_index_or, Option, Some}
+use Rattle.std.proofs.Common.{None, refl, sym, ap, ◌∙◌, subst, codes}
 use Rattle.std.specs.Option.{option_map_or}
 use Rattle.ix_label.specs.Category.{Categories, bottom, leq}
-use Rattle.ix_model.specs.world.World.{Process, Frame, World, at, living}
-use Rattle.ix_model.specs.opening.Opening.{opening_world}
-use Rattle.ix_model.specs.history.Step.{Given, step_of}
-use Rattle.ix_model.specs.history.Events.{Op, Event}
+use Rattle.ix_model.specs.{world.World.{Process, Frame, World, at, living}, opening.Opening.opening_world, history.{Step.{Given, step_of}, Events.{Op, Event}}}
+use Rattle.ix_model.specs.two_runs.{EqualLengths.{AgreeInLength, AgreeInLengthAt}, TwoRuns.{Agree, AgreeAt, IsHigh, IsLow, is_one_kind}}
 use Rattle.ix_model.specs.history.Events as op
-use Rattle.ix_model.specs.two_runs.EqualLengths.{AgreeInLength, AgreeInLengthAt}
 use Rattle.ix_model.specs.two_runs.EqualLengths as equal
-use Rattle.ix_model.specs.two_runs.TwoRuns.{Agree, AgreeAt, IsHigh, IsLow, is_one_kind}
 use Rattle.ix_model.specs.two_runs.TwoRuns as runs
 use Rattle.ix_model.specs.declared.call.Keep.TheVariants as keep
 use Rattle.ix_model.specs.declared.call.Mode.TheVariants as mode
 use Rattle.ix_model.specs.declared.refusal.Refusal.TheVariants as refusal
-use Rattle.ix_worked.specs.short.OnDescriptors.{desk}
-use Rattle.ix_worked.specs.short.OnProcesses.{family}
+use Rattle.ix_worked.specs.{short.{OnDescriptors.desk, OnProcesses.family}, Scripts.{seven, in_root, by}, floating.TwoLevels.{two_levels, writing}}
 use Rattle.ix_worked.specs.PairsOfRuns.{BothAgree, BothAgreeInLength, is_read, LowRead, LowReadAlone, writing_low, leaving_high}
-use Rattle.ix_worked.specs.Scripts.{seven, in_root, by}
-use Rattle.ix_worked.specs.floating.TwoLevels.{two_levels, writing}
-use Rattle.ix_worked.proofs.Chains.{Steps, number, bytes, refused, done, stepped}
-use Rattle.ix_worked.proofs.Computing.{running}
-use Rattle.ix_worked.proofs.Labels.{labels, leq-with_bottom}
-use Rattle.ix_worked.proofs.TwoBytes as two
+use Rattle.ix_worked.proofs.{Chains.{Steps, number, bytes, refused, done, stepped}, Computing.running, Labels.{labels, leq-with_bottom}}
 use Rattle.ix_worked.proofs.Worlds.{floated, opened, with_entry, with_child, with_ended}
+use Rattle.ix_worked.proofs.TwoBytes as two
 
 -- ---- who is high, and who is low
 pub high_of : (l : Categories) (f : Frame) (pid : ℕ) (o : Option Process) → living (at f.processes pid) ≡ o → option_map_or (λ q. leq q.label l) o true ≡ false → IsHigh l f pid

@@ -1,18 +1,13 @@
 -- Worlds that are alike, and worlds that aren't.
-use Rattle.std.proofs.Common.{◌≡◌, ℕ, zero, suc, ◌==◌, true, false, true≢false, [], ◌∷◌, take, length, slice_index_or, Option, Some, None, refl, sym, ap, ◌∙◌, subst₂, codes}
+use Rattle.std.proofs.Common.{◌≡◌, ℕ, zero, suc, ◌==◌, true, false, true≢false, [], ◌∷◌, take, length, slice_index_or, Option, Some, None, refl, sym, ap, ◌∙◌}
+use Rattle.std.proofs.Common.{subst₂, codes}
 use Rattle.std.specs.Option.{option_map_or}
 use Rattle.ix_label.specs.Category.{Categories, bottom, leq}
-use Rattle.ix_model.specs.world.World.{Object, Open, World, at}
-use Rattle.ix_model.specs.world.Contents.{holding_of, offset_of}
-use Rattle.ix_model.specs.history.Step.{run}
-use Rattle.ix_model.specs.two_runs.EqualLengths.{AlikeInLength, outline}
-use Rattle.ix_model.specs.two_runs.TwoRuns.{Alike, AlikeIn, shape}
-use Rattle.ix_worked.specs.PairsOfRuns.{after}
-use Rattle.ix_worked.specs.Scripts.{seven}
-use Rattle.ix_worked.specs.floating.TwoLevels.{two_levels, writing}
+use Rattle.ix_model.specs.{world.{World.{Object, Open, World, at}, Contents.{holding_of, offset_of}}, history.Step.run}
+use Rattle.ix_model.specs.two_runs.{EqualLengths.{AlikeInLength, outline}, TwoRuns.{Alike, AlikeIn, shape}}
+use Rattle.ix_worked.specs.{PairsOfRuns.after, Scripts.seven, floating.TwoLevels.{two_levels, writing}}
+use Rattle.ix_worked.proofs.{Chains.{◌⨾◌, number, run_given}, Labels.{labels, leq-with_bottom}}
 use Rattle.ix_worked.proofs.runs.Agreeing as agreeing
-use Rattle.ix_worked.proofs.Chains.{◌⨾◌, number, run_given}
-use Rattle.ix_worked.proofs.Labels.{labels, leq-with_bottom}
 use Rattle.ix_worked.proofs.TwoBytes as two
 
 -- ---- the worlds after the write

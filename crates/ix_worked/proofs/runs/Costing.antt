@@ -2,8 +2,7 @@
 use Rattle.std.proofs.Common.{◌≡◌, refl, codes}
 use Rattle.ix_model.specs.history.Cost.{cost_of, cost_of_history}
 use Rattle.ix_model.specs.history.Events as op
-use Rattle.ix_worked.specs.Scripts.{in_root, under}
-use Rattle.ix_worked.specs.floating.TwoLevels.{writing}
+use Rattle.ix_worked.specs.{Scripts.{in_root, under}, floating.TwoLevels.writing}
 
 pub making : cost_of (op.CreateAt (in_root (codes "a"))) ≡ 130
 unfolding cost_of

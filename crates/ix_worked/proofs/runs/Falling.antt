@@ -1,22 +1,14 @@
 -- Where labels are lowered, and where none is.
-use Rattle.std.proofs.Common.{◌≡◌, ℕ, zero, suc, Bool, true, false, true≢false, ◌&&◌, List, [], ◌∷◌, Option, Some, None, refl, sym, ap, ◌∙◌, subst, subst₂, codes}
-use Rattle.std.specs.Option.{option_map_or}
-use Rattle.std.proofs.lemmas.Bool.{false_from_ne_true, and_parts}
-use Rattle.ix_label.specs.Category.{Categories, bottom, leq}
-use Rattle.ix_label.specs.Lattice.{leq-trans}
-use Rattle.ix_model.specs.world.World.{Object, Process, Frame, World, at}
-use Rattle.ix_model.specs.opening.Opening.{opening_world}
-use Rattle.ix_model.specs.history.Step.{Given, step_of}
-use Rattle.ix_model.specs.history.Events.{Event}
-use Rattle.ix_model.specs.history.Lowering.{Lowered, Crosses}
+use Rattle.std.proofs.Common.{◌≡◌, ℕ, zero, suc, Bool, true, false, true≢false, ◌&&◌, List, [], ◌∷◌, Option, Some, None, refl, sym, ap, ◌∙◌, subst, subst₂}
+use Rattle.std.proofs.Common.{codes}
+use Rattle.std.{specs.Option.option_map_or, proofs.lemmas.Bool.{false_from_ne_true, and_parts}}
+use Rattle.ix_label.specs.{Category.{Categories, bottom, leq}, Lattice.leq-trans}
+use Rattle.ix_model.specs.{world.World.{Object, Process, Frame, World, at}, opening.Opening.opening_world}
+use Rattle.ix_model.specs.history.{Step.{Given, step_of}, Events.Event, Lowering.{Lowered, Crosses}}
 use Rattle.ix_model.specs.history.Lowering as lowering
 use Rattle.ix_worked.specs.privileges.Downgrading as session
-use Rattle.ix_worked.specs.PairsOfRuns.{before, after, LowersNowhere, CrossesNowhere}
-use Rattle.ix_worked.specs.floating.TwoLevels.{two_levels, writing}
-use Rattle.ix_worked.proofs.Chains.{Steps, number, bytes, stepped}
-use Rattle.ix_worked.proofs.Computing.{running}
-use Rattle.ix_worked.proofs.Labels.{labels}
-use Rattle.ix_worked.proofs.Moves.{world_after, comes_to}
+use Rattle.ix_worked.specs.{PairsOfRuns.{before, after, LowersNowhere, CrossesNowhere}, floating.TwoLevels.{two_levels, writing}}
+use Rattle.ix_worked.proofs.{Chains.{Steps, number, bytes, stepped}, Computing.running, Labels.labels, Moves.{world_after, comes_to}}
 use Rattle.ix_worked.proofs.worked.{lowering_moves, lowering_goes}
 use Rattle.ix_worked.proofs.TwoBytes as two
 

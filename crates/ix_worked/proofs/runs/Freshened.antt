@@ -1,24 +1,12 @@
 -- When descriptors are fresh, entry by entry.
-use Rattle.std.proofs.Common.{◌≡◌, ℕ, suc, Bool, true, false, List, [], ◌∷◌, map, take, length, refl, ap, ◌∙◌}
-use Rattle.std.specs.List.{range_with_len}
-use Rattle.ix_model.specs.world.World.{World}
-use Rattle.ix_model.specs.declared.config.Config.{Config}
-use Rattle.ix_model.specs.opening.Opening.{opening_world}
-use Rattle.ix_model.specs.history.Step.{Given}
-use Rattle.ix_model.specs.history.Events.{Event}
-use Rattle.ix_model.specs.history.Freshness.{Way, fresh_after, fresh_from, is_fresh}
+use Rattle.std.{proofs.Common.{◌≡◌, ℕ, suc, Bool, true, false, List, [], ◌∷◌, map, take, length, refl, ap, ◌∙◌}, specs.List.range_with_len}
+use Rattle.ix_model.specs.{world.World.World, declared.config.Config.Config, opening.Opening.opening_world}
+use Rattle.ix_model.specs.history.{Step.Given, Events.Event, Freshness.{Way, fresh_after, fresh_from, is_fresh}}
 use Rattle.ix_model.specs.history.Freshness as way
-use Rattle.ix_worked.specs.floating.LooksAnew.{held_low, reading_twice}
-use Rattle.ix_worked.specs.short.OnEntries.{shared_desk, seeking_high}
-use Rattle.ix_worked.specs.PairsOfRuns.{fresh_along}
-use Rattle.ix_worked.specs.Sessions.{calls}
+use Rattle.ix_worked.specs.{floating.LooksAnew.{held_low, reading_twice}, short.OnEntries.{shared_desk, seeking_high}, PairsOfRuns.fresh_along, Sessions.calls}
 use Rattle.ix_worked.specs.files.SharedEntry.{one_file, sharing}
-use Rattle.ix_worked.proofs.Chains.{◌⨾◌, Gives, stepped, gives_some}
-use Rattle.ix_worked.proofs.Computing.{running, auditing}
-use Rattle.ix_worked.proofs.Labels.{labels}
-use Rattle.ix_worked.proofs.Moves.{Move, GoesBy, given}
-use Rattle.ix_worked.proofs.short.{seeking_high_moves, seeking_high_go}
-use Rattle.ix_worked.proofs.worked.{twice_moves, twice_goes, sharing_moves, sharing_goes}
+use Rattle.ix_worked.proofs.{Chains.{◌⨾◌, Gives, stepped, gives_some}, Computing.{running, auditing}, Labels.labels, Moves.{Move, GoesBy, given}}
+use Rattle.ix_worked.proofs.{short.{seeking_high_moves, seeking_high_go}, worked.{twice_moves, twice_goes, sharing_moves, sharing_goes}}
 
 -- whether a descriptor is fresh after a history that gives this
 abbrev fresh_by : Bool → World → List Event → List Given → ℕ → ℕ → Way → Bool

@@ -1,7 +1,5 @@
 use Rattle.std.proofs.Common.{◌++◌, sym, ◌∙◌, ap, arith, length-append}
-use Rattle.ix_asking.specs.Asking.{all_heard}
-use Rattle.ix_asking.specs.Runs.{answers_of}
-use Rattle.ix_asking.proofs.OneMore.{heard_after, makes-after}
+use Rattle.ix_asking.{specs.{Asking.all_heard, Runs.answers_of}, proofs.OneMore.{heard_after, makes-after}}
 use Rattle.ix_asking.proofs.making.run.Goals as goal
 
 pub turns-preserved : goal.turns-preserved

@@ -1,7 +1,6 @@
 use Rattle.std.proofs.Common.{◌≡◌, ◌+◌, ◌≤◌, List, length}
 use Rattle.ix_model.specs.history.Made.{Made}
-use Rattle.ix_asking.specs.Asking.{all_heard}
-use Rattle.ix_asking.specs.Runs.{answers_of, Makes}
+use Rattle.ix_asking.specs.{Asking.all_heard, Runs.{answers_of, Makes}}
 use Rattle.ix_asking.proofs.making.run.Given as goal
 
 abbrev pub invariant-turns : goal.invariant-turns

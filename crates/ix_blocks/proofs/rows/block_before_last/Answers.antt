@@ -1,9 +1,7 @@
 use Rattle.std.proofs.Common.{◌≡◌, ◌-◌, length, slice_get, sym, ap, ◌∙◌, arith}
-use Rattle.ix_links.specs.Chains.{chain_of}
-use Rattle.ix_links.proofs.Held.{held_below}
-use Rattle.ix_blocks.proofs.Rowed.{last_at, before_at, none_there}
+use Rattle.ix_links.{specs.Chains.chain_of, proofs.Held.held_below}
+use Rattle.ix_blocks.proofs.{Rowed.{last_at, before_at, none_there}, rows.block_before_last.Goals.{in-Some, in_default}}
 use Rattle.ix_blocks.proofs.rows.block_before_last.Goals as goal
-use Rattle.ix_blocks.proofs.rows.block_before_last.Goals.{in-Some, in_default}
 
 pub loop-passed-init : goal.loop-passed-init
 loop-passed-init c =

@@ -1,9 +1,7 @@
 use Rattle.std.proofs.Common.{sym, ◌∙◌}
-use Rattle.ix_links.specs.Chains.{chain_of}
-use Rattle.ix_links.proofs.Held.{held_below}
-use Rattle.ix_blocks.proofs.Rowed.{none_after}
+use Rattle.ix_links.{specs.Chains.chain_of, proofs.Held.held_below}
+use Rattle.ix_blocks.proofs.{Rowed.none_after, rows.block_behind_first.Goals.{in-Some, in_default}}
 use Rattle.ix_blocks.proofs.rows.block_behind_first.Goals as goal
-use Rattle.ix_blocks.proofs.rows.block_behind_first.Goals.{in-Some, in_default}
 
 pub next-block-requires : goal.next-block-requires
 next-block-requires c = held_below c.args.links.now c.args.file c.loop-passed._passed c.in-Some.here c.requires.law (sym c.loop-passed.invariant ∙ c.in-Some.is)

@@ -1,7 +1,6 @@
 use Rattle.std.proofs.Common.{◌≡◌, ◌+◌, ◌-◌, ◌≤◌, ◌/◌, ◌%◌, ◌++◌, length, take, drop, get_or, Some, sym, ap, ◌∙◌, arith, slice_get, length-drop, min, []}
 use Rattle.ix_links.specs.Chains.{chain_of}
-use Rattle.ix_blocks.specs.Stored.{flat}
-use Rattle.ix_blocks.proofs.Rowed.{few_bytes, block_there, block_below, filled_step, length-filled, fetched_step, next_block}
+use Rattle.ix_blocks.{specs.Stored.flat, proofs.Rowed.{few_bytes, block_there, block_below, filled_step, length-filled, fetched_step, next_block}}
 use Rattle.ix_blocks.proofs.rows.fetch.Goals as goal
 
 pub overflow_add-start : goal.overflow_add-start

@@ -1,10 +1,7 @@
 use Rattle.std.proofs.Common.{◌≡◌, [], ◌+◌, ◌-◌, ◌≤◌, ◌/◌, ◌%◌, length, take, drop, get_or, set, Some, sym, ap, ◌∙◌, arith, slice_get, length-take}
 use Rattle.std.proofs.lemmas.List.{set-get_or}
-use Rattle.ix_links.specs.Chains.{chain_of}
-use Rattle.ix_links.proofs.Held.{held_below}
-use Rattle.ix_blocks.specs.Files.{laid_over}
-use Rattle.ix_blocks.specs.Stored.{flats}
-use Rattle.ix_blocks.proofs.Laying.{laid_over_none, length-laid_over}
+use Rattle.ix_links.{specs.Chains.chain_of, proofs.Held.held_below}
+use Rattle.ix_blocks.{specs.{Files.laid_over, Stored.flats}, proofs.Laying.{laid_over_none, length-laid_over}}
 use Rattle.ix_blocks.proofs.Rowed.{rows_set, few_bytes, block_there, block_below, block_sized, laid_step, next_block}
 use Rattle.ix_blocks.proofs.rows.lay.Goals as goal
 

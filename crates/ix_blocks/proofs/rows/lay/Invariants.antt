@@ -1,7 +1,6 @@
 use Rattle.std.proofs.Common.{◌≡◌, ◌+◌, ◌-◌, ◌/◌, ◌<◌, ◌≤◌, length, take, slice_get}
 use Rattle.ix_links.specs.Chains.{chain_of}
-use Rattle.ix_blocks.specs.Wholes.{laid_in}
-use Rattle.ix_blocks.specs.Stored.{flats, AreRows}
+use Rattle.ix_blocks.specs.{Wholes.laid_in, Stored.{flats, AreRows}}
 use Rattle.ix_blocks.proofs.rows.lay.Given as goal
 
 -- the bytes so far are laid, and the block of the next one is at hand

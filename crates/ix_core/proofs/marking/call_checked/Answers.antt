@@ -1,13 +1,7 @@
 use Rattle.std.proofs.Common.{◌≡◌, ◌∙◌, ◌&&◌, ◌==◌, ◌||◌, not, ℕ, Bool, true, false, is_some, length, option_map, sym, ap, arith, Some, None, if◌then◌else◌}
-use Rattle.ix_model.specs.history.AuditLog.{label_at}
-use Rattle.ix_model.specs.history.Calls.{op_of}
-use Rattle.ix_model.specs.history.Events.{Op}
-use Rattle.ix_model.specs.history.Step.{Given, step}
-use Rattle.ix_model.specs.world.World.{World, Frame}
-use Rattle.ix_model.proofs.words.Fixed.{fixed_step}
+use Rattle.ix_model.{specs.{history.{AuditLog.label_at, Calls.op_of, Events.Op, Step.{Given, step}}, world.World.{World, Frame}}, proofs.words.Fixed.fixed_step}
 use Rattle.ix_fresh.specs.Touched.{label_of_entry}
-use Rattle.ix_marks.specs.Known.{Known, spot_of, has_row}
-use Rattle.ix_marks.specs.RowIndex.{RowOwners, row_of}
+use Rattle.ix_marks.specs.{Known.{Known, spot_of, has_row}, RowIndex.{RowOwners, row_of}}
 use Rattle.ix_core.specs.Marking.{AreReady, has_exited, other_entry, other_object, other_process, refreshed, spot_in, unless_entry, unless_object}
 use Rattle.ix_core.proofs.Marked.{can_refresh, entry_inside, object_inside, left, rows_live, still_sized, told_spot}
 use Rattle.ix_core.proofs.marking.call_checked.Goals as goal

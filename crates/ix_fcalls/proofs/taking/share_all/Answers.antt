@@ -1,7 +1,6 @@
 use Rattle.std.proofs.Common.{◌∙◌, arith}
-use Rattle.ix_fcalls.proofs.Sharing.{shared_more, shared_same}
+use Rattle.ix_fcalls.proofs.{Sharing.{shared_more, shared_same}, taking.share_all.Goals.{in-Some, in_default}}
 use Rattle.ix_fcalls.proofs.taking.share_all.Goals as goal
-use Rattle.ix_fcalls.proofs.taking.share_all.Goals.{in-Some, in_default}
 
 pub loop-fd-preserved : goal.loop-fd-preserved
 loop-fd-preserved c = elim c.match-fds-fd.branch [

@@ -1,6 +1,4 @@
-use Rattle.std.proofs.Common.{◌-◌, ◌++◌, ◌∙◌, ap, codes}
-use Rattle.std.specs.Fmt.{decimal}
-use Rattle.std.proofs.lemmas.Result.{on_ok_weaker}
+use Rattle.std.{proofs.{Common.{◌-◌, ◌++◌, ◌∙◌, ap, codes}, lemmas.Result.on_ok_weaker}, specs.Fmt.decimal}
 use Rattle.ix_flow.proofs.LineTexts.{line_of_file, line_of_write}
 use Rattle.ix_flow.proofs.lines.push_piece.Goals as goal
 

@@ -2,13 +2,8 @@ use Rattle.std.proofs.Common.{◌≡◌, ◌≤◌, ◌<◌, ◌+◌, ◌-◌, �
 use Rattle.std.specs.List.{flat_map}
 use Rattle.ix_text.proofs.Items.{stays_twice, stays_whole}
 use Rattle.ix_flow.specs.Lines as line
-use Rattle.ix_flow.specs.Lines.{piece_line, pieces_from}
-use Rattle.ix_flow.specs.Lowerings.{label_of}
-use Rattle.ix_flow.specs.Origins.{Origin}
-use Rattle.ix_flow.specs.Reads.{IsWithin, between, piece_of}
-use Rattle.ix_flow.specs.Sides.{IsLike, origin_at}
-use Rattle.ix_flow.specs.Tracking.{IsUnder}
-use Rattle.ix_flow.specs.declared.source.Source.{Source}
+use Rattle.ix_flow.specs.{Lines.{piece_line, pieces_from}, Lowerings.label_of, Origins.Origin, Reads.{IsWithin, between, piece_of}, Sides.{IsLike, origin_at}}
+use Rattle.ix_flow.specs.{Tracking.IsUnder, declared.source.Source.Source}
 use Rattle.ix_flow.proofs.LineTexts.{all_left, next_counted, next_told, none_left}
 use Rattle.ix_flow.proofs.telling.tell.Goals as goal
 

@@ -1,11 +1,6 @@
-use Rattle.std.proofs.Common.{◌≡◌, ◌≤◌, ◌+◌, ◌-◌, ◌++◌, List, length, take}
-use Rattle.std.specs.List.{flat_map}
+use Rattle.std.{proofs.Common.{◌≡◌, ◌≤◌, ◌+◌, ◌-◌, ◌++◌, List, length, take}, specs.List.flat_map}
 use Rattle.ix_model.specs.history.History.{History}
-use Rattle.ix_flow.specs.Lines.{piece_line, pieces_from}
-use Rattle.ix_flow.specs.Origins.{Origin}
-use Rattle.ix_flow.specs.Reads.{IsWithin, between}
-use Rattle.ix_flow.specs.Sides.{IsLike}
-use Rattle.ix_flow.specs.Tracking.{AreFalls, AreLabelled}
+use Rattle.ix_flow.specs.{Lines.{piece_line, pieces_from}, Origins.Origin, Reads.{IsWithin, between}, Sides.IsLike, Tracking.{AreFalls, AreLabelled}}
 use Rattle.ix_flow.proofs.telling.tell.Given as goal
 
 abbrev pub invariant-loop-number : goal.invariant-loop-number

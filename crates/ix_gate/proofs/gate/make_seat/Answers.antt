@@ -1,9 +1,6 @@
 use Rattle.std.proofs.Common.{rules, ap, sym, subst, arith}
 use Rattle.atomic_table.specs.Table.{Splits}
-use Rattle.ix_gate.specs.View.{numbered_view, next_view}
-use Rattle.ix_gate.specs.Rule.{Obeys}
-use Rattle.ix_gate.specs.Gate.{GateState}
-use Rattle.ix_gate.proofs.Numbering.{number_allowed, hand_on_allowed}
+use Rattle.ix_gate.{specs.{View.{numbered_view, next_view}, Rule.Obeys, Gate.GateState}, proofs.Numbering.{number_allowed, hand_on_allowed}}
 use Rattle.ix_gate.proofs.gate.make_seat.Goals as goal
 
 pub fetch_add-requires : goal.fetch_add-requires

@@ -1,7 +1,6 @@
 use Rattle.std.proofs.Common.{rules, refl, ap, sym, ◌∙◌, ◌∷◌, Some, le_refl}
 use Rattle.atomic_table.specs.Table.{rest}
-use Rattle.ix_gate.proofs.Looking.{look_allowed}
-use Rattle.ix_gate.proofs.Resting.{taking}
+use Rattle.ix_gate.proofs.{Looking.look_allowed, Resting.taking}
 use Rattle.ix_gate.proofs.seat.await_turn.Goals as goal
 
 pub loop-init : goal.loop-init

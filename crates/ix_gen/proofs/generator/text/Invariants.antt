@@ -1,5 +1,4 @@
-use Rattle.std.proofs.Common.{◌≡◌, ◌++◌, ◌+◌, ◌-◌}
-use Rattle.std.specs.List.{flat_map, range_with_len}
+use Rattle.std.{proofs.Common.{◌≡◌, ◌++◌, ◌+◌, ◌-◌}, specs.List.{flat_map, range_with_len}}
 use Rattle.ix_gen.specs.Generated.{line_at, generated}
 use Rattle.ix_gen.proofs.generator.text.Given as goal
 

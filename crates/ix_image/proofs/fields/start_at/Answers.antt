@@ -1,7 +1,5 @@
 use Rattle.std.proofs.Common.{Err, sym, ap, ◌∙◌, arith}
-use Rattle.ix_image.specs.Image.{first_bytes}
-use Rattle.ix_image.specs.Reading.{breaks}
-use Rattle.ix_image.proofs.Counting.{start_is, same_differs, same_further, rest_whole}
+use Rattle.ix_image.{specs.{Image.first_bytes, Reading.breaks}, proofs.Counting.{start_is, same_differs, same_further, rest_whole}}
 use Rattle.ix_image.proofs.fields.start_at.Goals as goal
 
 pub returns-then-bytes-i : goal.returns-then-bytes-i

@@ -1,6 +1,5 @@
 use Rattle.std.proofs.Common.{◌≡◌, drop}
-use Rattle.ix_image.specs.Image.{first_bytes}
-use Rattle.ix_image.specs.Reading.{same_at}
+use Rattle.ix_image.specs.{Image.first_bytes, Reading.same_at}
 use Rattle.ix_image.proofs.fields.start_at.Given as goal
 
 abbrev pub invariant-loop-i : goal.invariant-loop-i

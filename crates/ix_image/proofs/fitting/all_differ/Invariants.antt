@@ -1,7 +1,5 @@
-use Rattle.std.proofs.Common.{◌≡◌, drop}
-use Rattle.std.specs.List.{list_all}
-use Rattle.ix_image.specs.Fitting.{links_differ}
-use Rattle.ix_image.specs.Meant.{nodes_of}
+use Rattle.std.{proofs.Common.{◌≡◌, drop}, specs.List.list_all}
+use Rattle.ix_image.specs.{Fitting.links_differ, Meant.nodes_of}
 use Rattle.ix_image.proofs.fitting.all_differ.Given as goal
 
 abbrev pub invariant-loop-node : goal.invariant-loop-node

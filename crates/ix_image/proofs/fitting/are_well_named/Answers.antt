@@ -1,10 +1,5 @@
-use Rattle.std.proofs.Common.{◌≡◌, ◌+◌, true, false, ◌&&◌, drop, sym, ap, ◌∙◌, arith}
-use Rattle.std.specs.List.{list_all}
-use Rattle.ix_image.specs.Fitting.{is_well_named}
-use Rattle.ix_image.specs.Meant.{node_of, nodes_of}
-use Rattle.ix_image.proofs.Counted.{is_named_well}
-use Rattle.ix_image.proofs.Placing.{got_node}
-use Rattle.ix_image.proofs.Roots.{nodes_all}
+use Rattle.std.{proofs.Common.{◌≡◌, ◌+◌, true, false, ◌&&◌, drop, sym, ap, ◌∙◌, arith}, specs.List.list_all}
+use Rattle.ix_image.{specs.{Fitting.is_well_named, Meant.{node_of, nodes_of}}, proofs.{Counted.is_named_well, Placing.got_node, Roots.nodes_all}}
 use Rattle.ix_image.proofs.fitting.are_well_named.Goals as goal
 
 pub returns-then-not-is_well_named : goal.returns-then-not-is_well_named

@@ -1,7 +1,5 @@
-use Rattle.std.proofs.Common.{◌≡◌, drop}
-use Rattle.std.specs.List.{list_all}
-use Rattle.ix_image.specs.Fitting.{is_well_named}
-use Rattle.ix_image.specs.Meant.{nodes_of}
+use Rattle.std.{proofs.Common.{◌≡◌, drop}, specs.List.list_all}
+use Rattle.ix_image.specs.{Fitting.is_well_named, Meant.nodes_of}
 use Rattle.ix_image.proofs.fitting.are_well_named.Given as goal
 
 abbrev pub invariant-loop-i : goal.invariant-loop-i

@@ -1,13 +1,7 @@
-use Rattle.std.proofs.Common.{◌≡◌, ◌+◌, ◌-◌, true, false, ◌&&◌, length, sym, ap, ◌∙◌, arith}
-use Rattle.std.specs.Prelude.{slice_index}
-use Rattle.std.specs.List.{list_all, range_with_len}
-use Rattle.std.proofs.lemmas.Bool.{le-leb, lt-leb}
-use Rattle.std.proofs.lemmas.List.{length-map}
-use Rattle.ix_model.specs.rows.Telling.{blocks_for}
-use Rattle.ix_model.specs.declared.config.FsSpec.{FsSpec}
-use Rattle.ix_image.specs.Meant.{node_of, tree_made}
-use Rattle.ix_image.proofs.Amounts.{few_objects}
-use Rattle.ix_image.proofs.Blocks.{fits, home_few, sum_few, one_more, range_on, fits_here}
+use Rattle.std.proofs.{Common.{◌≡◌, ◌+◌, ◌-◌, true, false, ◌&&◌, length, sym, ap, ◌∙◌, arith}, lemmas.{Bool.{le-leb, lt-leb}, List.length-map}}
+use Rattle.std.specs.{Prelude.slice_index, List.{list_all, range_with_len}}
+use Rattle.ix_model.specs.{rows.Telling.blocks_for, declared.config.FsSpec.FsSpec}
+use Rattle.ix_image.{specs.Meant.{node_of, tree_made}, proofs.{Amounts.few_objects, Blocks.{fits, home_few, sum_few, one_more, range_on, fits_here}}}
 use Rattle.ix_image.proofs.fitting.blocks_fit.Goals as goal
 
 pub offset_bounds-taken-home : goal.offset_bounds-taken-home

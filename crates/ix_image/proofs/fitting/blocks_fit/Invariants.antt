@@ -1,8 +1,5 @@
-use Rattle.std.proofs.Common.{◌≡◌, ◌-◌, length}
-use Rattle.std.specs.List.{list_all, range_with_len}
-use Rattle.ix_image.specs.Fitting.{blocks_fit}
-use Rattle.ix_image.specs.Meant.{tree_made}
-use Rattle.ix_image.proofs.Blocks.{Taken, fits}
+use Rattle.std.{proofs.Common.{◌≡◌, ◌-◌, length}, specs.List.{list_all, range_with_len}}
+use Rattle.ix_image.{specs.{Fitting.blocks_fit, Meant.tree_made}, proofs.Blocks.{Taken, fits}}
 use Rattle.ix_image.proofs.fitting.blocks_fit.Given as goal
 
 abbrev pub invariant-loop-node : goal.invariant-loop-node

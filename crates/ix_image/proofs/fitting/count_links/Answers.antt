@@ -1,8 +1,5 @@
-use Rattle.std.proofs.Common.{◌∙◌, arith}
-use Rattle.std.proofs.lemmas.List.{length-set}
-use Rattle.ix_image.specs.Meant.{link_of, links_in, nodes_of}
-use Rattle.ix_image.proofs.Counted.{counted, counted_enough, not_counted}
-use Rattle.ix_image.proofs.Placing.{at_low}
+use Rattle.std.proofs.{Common.{◌∙◌, arith}, lemmas.List.length-set}
+use Rattle.ix_image.{specs.Meant.{link_of, links_in, nodes_of}, proofs.{Counted.{counted, counted_enough, not_counted}, Placing.at_low}}
 use Rattle.ix_image.proofs.fitting.count_links.Goals as goal
 
 pub links-preserved-then-counts-place-lt2 : goal.links-preserved-then-counts-place-lt2

@@ -1,7 +1,5 @@
-use Rattle.std.proofs.Common.{◌≡◌, ℕ, ◌+◌, ◌==◌, min, length, count_by, Some}
-use Rattle.std.specs.Prelude.{slice_get, slice_index}
-use Rattle.ix_image.specs.Trees.{NodeOf}
-use Rattle.ix_image.specs.Meant.{links_in, nodes_of}
+use Rattle.std.{proofs.Common.{◌≡◌, ℕ, ◌+◌, ◌==◌, min, length, count_by, Some}, specs.Prelude.{slice_get, slice_index}}
+use Rattle.ix_image.specs.{Trees.NodeOf, Meant.{links_in, nodes_of}}
 use Rattle.ix_image.proofs.fitting.count_links.Given as goal
 
 abbrev pub invariant-links : goal.invariant-links

@@ -1,9 +1,6 @@
-use Rattle.std.proofs.Common.{◌≡◌, ◌+◌, List, ℕ, length, drop, take, min, sym, ap, subst, ◌∙◌, arith}
+use Rattle.std.proofs.{Common.{◌≡◌, ◌+◌, List, ℕ, length, drop, take, min, sym, ap, subst, ◌∙◌, arith}, lemmas.List.{take_at, length-map}}
 use Rattle.std.specs.Prelude.{slice_index}
-use Rattle.std.proofs.lemmas.List.{take_at, length-map}
-use Rattle.ix_image.specs.Meant.{AreCounts, node_of, nodes_of}
-use Rattle.ix_image.proofs.Amounts.{node_at}
-use Rattle.ix_image.proofs.Counted.{given, all_counted}
+use Rattle.ix_image.{specs.Meant.{AreCounts, node_of, nodes_of}, proofs.{Amounts.node_at, Counted.{given, all_counted}}}
 use Rattle.ix_image.proofs.fitting.counts.Goals as goal
 
 pub loop-node-preserved : goal.loop-node-preserved

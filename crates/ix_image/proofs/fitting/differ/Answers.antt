@@ -1,10 +1,6 @@
-use Rattle.std.proofs.Common.{◌≡◌, ◌++◌, ℕ, List, map, sym, ap, ◌∙◌, arith, Bor}
-use Rattle.std.proofs.lemmas.List.{append-nil}
-use Rattle.std.proofs.lemmas.List.Sorted.{IsPermutation-map}
+use Rattle.std.proofs.{Common.{◌≡◌, ◌++◌, ℕ, List, map, sym, ap, ◌∙◌, arith, Bor}, lemmas.List.{append-nil, Sorted.IsPermutation-map}}
 use Rattle.ix_model.specs.opening.Valid.{all_differ}
-use Rattle.ix_image.specs.Trees.{LinkOf}
-use Rattle.ix_image.specs.Meant.{links_in}
-use Rattle.ix_image.proofs.Distinct.{order_differ, same_differ, rising_on, all_rise}
+use Rattle.ix_image.{specs.{Trees.LinkOf, Meant.links_in}, proofs.Distinct.{order_differ, same_differ, rising_on, all_rise}}
 use Rattle.ix_image.proofs.fitting.differ.Goals as goal
 
 abbrev seen : Bor (List ℕ) → List ℕ

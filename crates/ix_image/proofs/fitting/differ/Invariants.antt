@@ -1,6 +1,5 @@
 use Rattle.std.proofs.Common.{◌≡◌, ◌++◌, length, map}
-use Rattle.ix_image.specs.Meant.{links_in}
-use Rattle.ix_image.proofs.Distinct.{RisingTo}
+use Rattle.ix_image.{specs.Meant.links_in, proofs.Distinct.RisingTo}
 use Rattle.ix_image.proofs.fitting.differ.Given as goal
 
 abbrev pub invariant-links : goal.invariant-links

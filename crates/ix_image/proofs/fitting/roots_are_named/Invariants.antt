@@ -1,9 +1,6 @@
-use Rattle.std.proofs.Common.{◌≡◌, ◌≤◌, ◌+◌, ◌*◌, drop}
-use Rattle.std.specs.List.{list_all, list_any}
+use Rattle.std.{proofs.Common.{◌≡◌, ◌≤◌, ◌+◌, ◌*◌, drop}, specs.List.{list_all, list_any}}
 use Rattle.ix_model.specs.opening.Opening.{mounts}
-use Rattle.ix_image.specs.Trees.{further_roots}
-use Rattle.ix_image.specs.Fitting.{same_link}
-use Rattle.ix_image.specs.Meant.{links_in}
+use Rattle.ix_image.specs.{Trees.further_roots, Fitting.same_link, Meant.links_in}
 use Rattle.ix_image.proofs.fitting.roots_are_named.Given as goal
 
 abbrev pub invariant-roots : goal.invariant-roots

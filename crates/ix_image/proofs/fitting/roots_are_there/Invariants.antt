@@ -1,8 +1,6 @@
-use Rattle.std.proofs.Common.{◌≡◌, ◌≤◌, ◌*◌, drop}
-use Rattle.std.specs.List.{list_all}
+use Rattle.std.{proofs.Common.{◌≡◌, ◌≤◌, ◌*◌, drop}, specs.List.list_all}
 use Rattle.ix_model.specs.opening.Opening.{mounts}
-use Rattle.ix_image.specs.Fitting.{has_directory}
-use Rattle.ix_image.specs.Meant.{nodes_of}
+use Rattle.ix_image.specs.{Fitting.has_directory, Meant.nodes_of}
 use Rattle.ix_image.proofs.fitting.roots_are_there.Given as goal
 
 abbrev pub invariant-roots : goal.invariant-roots

@@ -1,8 +1,7 @@
 use Rattle.std.proofs.Common.{◌≡◌, ap, ◌∙◌, arith}
 use Rattle.ix_label.specs.Category.{has}
-use Rattle.ix_image.proofs.Bitwise.{all_below, bits_below, byte_set, byte_unset, nothing_below}
+use Rattle.ix_image.proofs.{Bitwise.{all_below, bits_below, byte_set, byte_unset, nothing_below}, labels.label_in.Goals.{then-bytes-i-ne0, else-bytes-i-ne0}}
 use Rattle.ix_image.proofs.labels.label_in.Goals as goal
-use Rattle.ix_image.proofs.labels.label_in.Goals.{then-bytes-i-ne0, else-bytes-i-ne0}
 
 pub loop-i-init : goal.loop-i-init
 loop-i-init c = λ q. ap (λ m. has m q) c.bottom-label.ensures ∙ nothing_below c.args.bytes.now q

@@ -1,10 +1,7 @@
-use Rattle.std.proofs.Common.{ap, sym, ◌∙◌}
-use Rattle.std.proofs.lemmas.Bool.{ne_eqb}
-use Rattle.std.proofs.lemmas.Nat.Bits.{shr_and_one}
+use Rattle.std.proofs.{Common.{ap, sym, ◌∙◌}, lemmas.{Bool.ne_eqb, Nat.Bits.shr_and_one}}
 use Rattle.ix_label.specs.Category.{has}
-use Rattle.ix_image.proofs.Bitwise.{bit_set, bit_unset}
+use Rattle.ix_image.proofs.{Bitwise.{bit_set, bit_unset}, labels.with_byte.Goals.{then-byte-bit-eq1, else-byte-bit-eq1}}
 use Rattle.ix_image.proofs.labels.with_byte.Goals as goal
-use Rattle.ix_image.proofs.labels.with_byte.Goals.{then-byte-bit-eq1, else-byte-bit-eq1}
 
 pub loop-bit-preserved : goal.loop-bit-preserved
 loop-bit-preserved c = elim c.if-byte-bit-eq1.branch [

@@ -1,7 +1,5 @@
-use Rattle.std.proofs.Common.{◌≡◌, length}
-use Rattle.std.specs.List.{list_all}
-use Rattle.ix_image.specs.Fitting.{leads, links_lead}
-use Rattle.ix_image.specs.Meant.{links_in, node_of, tree_made}
+use Rattle.std.{proofs.Common.{◌≡◌, length}, specs.List.list_all}
+use Rattle.ix_image.specs.{Fitting.{leads, links_lead}, Meant.{links_in, node_of, tree_made}}
 use Rattle.ix_image.proofs.leading.all_lead.Given as goal
 
 abbrev pub invariant-links : goal.invariant-links

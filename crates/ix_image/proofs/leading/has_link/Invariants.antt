@@ -1,7 +1,5 @@
-use Rattle.std.proofs.Common.{◌≡◌, length}
-use Rattle.std.specs.List.{list_any}
-use Rattle.ix_image.specs.Fitting.{same_link}
-use Rattle.ix_image.specs.Meant.{links_in}
+use Rattle.std.{proofs.Common.{◌≡◌, length}, specs.List.list_any}
+use Rattle.ix_image.specs.{Fitting.same_link, Meant.links_in}
 use Rattle.ix_image.proofs.leading.has_link.Given as goal
 
 abbrev pub invariant-links : goal.invariant-links

@@ -1,7 +1,5 @@
-use Rattle.std.proofs.Common.{◌≡◌, drop}
-use Rattle.std.specs.List.{list_all}
-use Rattle.ix_image.specs.Fitting.{links_lead}
-use Rattle.ix_image.specs.Meant.{nodes_of, tree_made}
+use Rattle.std.{proofs.Common.{◌≡◌, drop}, specs.List.list_all}
+use Rattle.ix_image.specs.{Fitting.links_lead, Meant.{nodes_of, tree_made}}
 use Rattle.ix_image.proofs.leading.links_lead.Given as goal
 
 abbrev pub invariant-loop-node : goal.invariant-loop-node

@@ -1,7 +1,5 @@
-use Rattle.std.proofs.Common.{arith}
-use Rattle.std.proofs.lemmas.Result.{err_from_is_err_and}
-use Rattle.ix_image.specs.Meant.{link_of}
-use Rattle.ix_image.proofs.Reread.{links_go_on, links_end, links_readable, links_are}
+use Rattle.std.proofs.{Common.arith, lemmas.Result.err_from_is_err_and}
+use Rattle.ix_image.{specs.Meant.link_of, proofs.Reread.{links_go_on, links_end, links_readable, links_are}}
 use Rattle.ix_image.proofs.links.links_at.Goals as goal
 
 pub returns-in_err-after : goal.returns-in_err-after

@@ -1,6 +1,5 @@
 use Rattle.std.proofs.Common.{◌≡◌, ℕ, ◌++◌, List, length}
-use Rattle.ix_image.specs.Lines.{list_of}
-use Rattle.ix_image.specs.Telling.{left_of, pieces_of}
+use Rattle.ix_image.specs.{Lines.list_of, Telling.{left_of, pieces_of}}
 use Rattle.ix_image.proofs.listing.list.Given as goal
 
 abbrev pub invariant-lines : goal.invariant-lines

@@ -1,10 +1,7 @@
-use Rattle.std.proofs.Common.{◌<◌, Option, length, sym, ap, ◌∙◌, arith}
-use Rattle.std.specs.Option.{is_some}
-use Rattle.ix_model.specs.history.History.{world_of}
-use Rattle.ix_model.specs.declared.views.ObjView.{ObjView}
-use Rattle.ix_image.proofs.Marked.{count_some, count_none}
+use Rattle.std.{proofs.Common.{◌<◌, Option, length, sym, ap, ◌∙◌, arith}, specs.Option.is_some}
+use Rattle.ix_model.specs.{history.History.world_of, declared.views.ObjView.ObjView}
+use Rattle.ix_image.proofs.{Marked.{count_some, count_none}, named.count_kept.Goals.{then-is_some, else-is_some}}
 use Rattle.ix_image.proofs.named.count_kept.Goals as goal
-use Rattle.ix_image.proofs.named.count_kept.Goals.{then-is_some, else-is_some}
 
 pub loop-n-preserved : goal.loop-n-preserved
 loop-n-preserved c =

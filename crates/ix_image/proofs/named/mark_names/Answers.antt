@@ -1,9 +1,6 @@
-use Rattle.std.proofs.Common.{◌≡◌, ℕ, List, Some, sym, subst, ◌∙◌}
-use Rattle.std.specs.Prelude.{slice_get}
+use Rattle.std.{proofs.Common.{◌≡◌, ℕ, List, Some, sym, subst, ◌∙◌}, specs.Prelude.slice_get}
 use Rattle.ix_model.specs.history.History.{world_of}
-use Rattle.ix_image.specs.Saving.{names_at}
-use Rattle.ix_image.specs.Trees.{LinkOf}
-use Rattle.ix_image.proofs.Marked.{names_are, one_marked, entry_there, next_there}
+use Rattle.ix_image.{specs.{Saving.names_at, Trees.LinkOf}, proofs.Marked.{names_are, one_marked, entry_there, next_there}}
 use Rattle.ix_image.proofs.named.mark_names.Goals as goal
 
 pub loop-preserved : goal.loop-preserved

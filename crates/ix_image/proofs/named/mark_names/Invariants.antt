@@ -1,8 +1,6 @@
-use Rattle.std.proofs.Common.{◌≡◌, length, option_map}
-use Rattle.std.specs.Prelude.{slice_get}
+use Rattle.std.{proofs.Common.{◌≡◌, length, option_map}, specs.Prelude.slice_get}
 use Rattle.ix_model.specs.history.History.{world_of}
-use Rattle.ix_image.specs.Saving.{names_at}
-use Rattle.ix_image.proofs.Marked.{MarkedTo}
+use Rattle.ix_image.{specs.Saving.names_at, proofs.Marked.MarkedTo}
 use Rattle.ix_image.proofs.named.mark_names.Given as goal
 
 abbrev pub invariant-loop : goal.invariant-loop

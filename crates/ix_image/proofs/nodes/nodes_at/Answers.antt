@@ -1,10 +1,5 @@
-use Rattle.std.proofs.Common.{◌≡◌, ◌-◌, ◌+◌, List, sym, subst, arith}
-use Rattle.std.proofs.lemmas.Result.{err_from_is_err_and}
-use Rattle.ix_image.specs.declared.node.Node.{Node}
-use Rattle.ix_image.specs.Reading.{nodes_at}
-use Rattle.ix_image.specs.Meant.{nodes_of}
-use Rattle.ix_image.proofs.Looping.{with_front}
-use Rattle.ix_image.proofs.Reread.{nodes_go_on, nodes_end, all_nodes}
+use Rattle.std.proofs.{Common.{◌≡◌, ◌-◌, ◌+◌, List, sym, subst, arith}, lemmas.Result.err_from_is_err_and}
+use Rattle.ix_image.{specs.{declared.node.Node.Node, Reading.nodes_at, Meant.nodes_of}, proofs.{Looping.with_front, Reread.{nodes_go_on, nodes_end, all_nodes}}}
 use Rattle.ix_image.proofs.nodes.nodes_at.Goals as goal
 
 pub returns-in_err-node : goal.returns-in_err-node

@@ -1,7 +1,5 @@
 use Rattle.std.proofs.Common.{◌≡◌, ◌≤◌, ◌-◌}
-use Rattle.ix_image.specs.Reading.{nodes_at}
-use Rattle.ix_image.specs.Meant.{nodes_of}
-use Rattle.ix_image.proofs.Looping.{with_front}
+use Rattle.ix_image.{specs.{Reading.nodes_at, Meant.nodes_of}, proofs.Looping.with_front}
 use Rattle.ix_image.proofs.nodes.nodes_at.Given as goal
 
 abbrev pub invariant-loop : goal.invariant-loop

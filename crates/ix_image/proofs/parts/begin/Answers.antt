@@ -1,7 +1,6 @@
 use Rattle.std.proofs.Common.{ℕ, Option, sym, ap, ◌∙◌, unwrap_or}
 use Rattle.ix_model.specs.history.History.{world_of}
-use Rattle.ix_image.proofs.Saved.{kept_there}
-use Rattle.ix_image.proofs.Held.{file_begins, dir_begins, empty_begins}
+use Rattle.ix_image.proofs.{Saved.kept_there, Held.{file_begins, dir_begins, empty_begins}}
 use Rattle.ix_image.proofs.parts.begin.Goals as goal
 
 pub returns-then-not-is_dir : goal.returns-then-not-is_dir

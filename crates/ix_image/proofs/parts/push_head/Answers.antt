@@ -1,7 +1,6 @@
 use Rattle.std.proofs.lemmas.Result.{on_ok_weaker}
 use Rattle.ix_model.specs.history.History.{world_of}
-use Rattle.ix_image.proofs.Saved.{kept_there}
-use Rattle.ix_image.proofs.Heads.{has_head}
+use Rattle.ix_image.proofs.{Saved.kept_there, Heads.has_head}
 use Rattle.ix_image.proofs.parts.push_head.Goals as goal
 
 pub returns-clause-text : goal.returns-clause-text

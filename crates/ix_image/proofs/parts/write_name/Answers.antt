@@ -1,8 +1,6 @@
 use Rattle.std.proofs.Common.{ℕ, List, ◌++◌, sym, ap, subst, ◌∙◌}
 use Rattle.ix_model.specs.history.History.{world_of}
-use Rattle.ix_image.specs.Image.{link_bytes}
-use Rattle.ix_image.specs.Saving.{IsFirst}
-use Rattle.ix_image.proofs.Saved.{name_on, name_last, behind_first}
+use Rattle.ix_image.{specs.{Image.link_bytes, Saving.IsFirst}, proofs.Saved.{name_on, name_last, behind_first}}
 use Rattle.ix_image.proofs.parts.write_name.Goals as goal
 
 pub returns-in-Some-clause-text : goal.returns-in-Some-clause-text

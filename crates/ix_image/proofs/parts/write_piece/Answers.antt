@@ -1,8 +1,5 @@
-use Rattle.std.proofs.Common.{◌≡◌, ◌-◌, ◌≤◌, ◌++◌, ℕ, List, length, take, drop, ap, ◌∙◌, arith}
-use Rattle.std.proofs.lemmas.List.{take_at, length-take, length-drop}
-use Rattle.ix_model.specs.history.History.{world_of}
-use Rattle.ix_model.specs.history.Views.{bytes_inside}
-use Rattle.ix_model.specs.world.Contents.{holding_of}
+use Rattle.std.proofs.{Common.{◌≡◌, ◌-◌, ◌≤◌, ◌++◌, ℕ, List, length, take, drop, ap, ◌∙◌, arith}, lemmas.List.{take_at, length-take, length-drop}}
+use Rattle.ix_model.specs.{history.{History.world_of, Views.bytes_inside}, world.Contents.holding_of}
 use Rattle.ix_image.proofs.Saved.{bytes_end, bytes_on, inside_is, file_few}
 use Rattle.ix_image.proofs.parts.write_piece.Goals as goal
 

@@ -1,5 +1,4 @@
-use Rattle.std.proofs.Common.{rules}
-use Rattle.std.proofs.lemmas.List.Sorted.{answers_always}
+use Rattle.std.proofs.{Common.rules, lemmas.List.Sorted.answers_always}
 use Rattle.ix_image.proofs.Placing.{found_at, found_none}
 use Rattle.ix_image.proofs.places.place_of.Goals as goal
 

@@ -1,11 +1,7 @@
 use Rattle.std.proofs.Common.{◌≡◌, ◌<◌, ℕ, ◌∷◌, [], List, Bool, false, length, get_or, map, replicate, sym, ap, subst, ◌∙◌, arith, rules}
 use Rattle.std.proofs.lemmas.List.{length-map}
-use Rattle.ix_image.specs.declared.node.Node.{Node}
-use Rattle.ix_image.specs.Trees.{LinkOf}
-use Rattle.ix_image.specs.Found.{Finds}
-use Rattle.ix_image.specs.Meant.{node_of, nodes_of}
-use Rattle.ix_image.proofs.Placing.{got_node}
-use Rattle.ix_image.proofs.Searching.{Searched, search_begins, search_goes_on, search_ends, places_low, got_place, dir_found}
+use Rattle.ix_image.specs.{declared.node.Node.Node, Trees.LinkOf, Found.Finds, Meant.{node_of, nodes_of}}
+use Rattle.ix_image.proofs.{Placing.got_node, Searching.{Searched, search_begins, search_goes_on, search_ends, places_low, got_place, dir_found}}
 use Rattle.ix_image.proofs.reaching.reached.Goals as goal
 
 pub found-init : goal.found-init

@@ -1,6 +1,5 @@
 use Rattle.std.proofs.Common.{◌-◌, length}
-use Rattle.ix_image.specs.Meant.{nodes_of}
-use Rattle.ix_image.proofs.Searching.{Searched}
+use Rattle.ix_image.{specs.Meant.nodes_of, proofs.Searching.Searched}
 use Rattle.ix_image.proofs.reaching.reached.Given as goal
 
 abbrev pub invariant-found : goal.invariant-found

@@ -1,10 +1,6 @@
-use Rattle.std.proofs.Common.{List, Err, sym, ap, subst, ◌∙◌, arith}
-use Rattle.std.proofs.lemmas.Result.{err_from_is_err_and}
+use Rattle.std.proofs.{Common.{List, Err, sym, ap, subst, ◌∙◌, arith}, lemmas.Result.err_from_is_err_and}
 use Rattle.ix_model.specs.declared.config.FsSpec.{FsSpec}
-use Rattle.ix_image.specs.Reading.{nodes_at}
-use Rattle.ix_image.specs.Meant.{Stops, nodes_of, tree_made}
-use Rattle.ix_image.proofs.Steps.{no_count, stopped, more_left, none_left}
-use Rattle.ix_image.proofs.Whole.{fields_take}
+use Rattle.ix_image.{specs.{Reading.nodes_at, Meant.{Stops, nodes_of, tree_made}}, proofs.{Steps.{no_count, stopped, more_left, none_left}, Whole.fields_take}}
 use Rattle.ix_image.proofs.reading.fields_of.Goals as goal
 
 pub returns-in_err-count-2-clause-read : goal.returns-in_err-count-2-clause-read

@@ -1,9 +1,5 @@
 use Rattle.std.proofs.Common.{◌≡◌, Result, Ok, Err, sym, ap, ◌∙◌, arith}
-use Rattle.ix_image.specs.declared.fault.Fault.{Fault}
-use Rattle.ix_image.specs.Trees.{TreeOf}
-use Rattle.ix_image.specs.Reading.{tree_in}
-use Rattle.ix_image.proofs.Fielding.{ok_is}
-use Rattle.ix_image.proofs.Whole.{tree_takes, tree_again}
+use Rattle.ix_image.{specs.{declared.fault.Fault.Fault, Trees.TreeOf, Reading.tree_in}, proofs.{Fielding.ok_is, Whole.{tree_takes, tree_again}}}
 use Rattle.ix_image.proofs.reading.read.Goals as goal
 
 pub returns-in-Ok-clause-image : goal.returns-in-Ok-clause-image

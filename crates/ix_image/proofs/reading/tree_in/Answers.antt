@@ -1,11 +1,6 @@
 use Rattle.std.proofs.Common.{◌≡◌, ◌≤◌, Err, ℕ, List, length, sym, ap, subst, ◌∙◌, arith}
-use Rattle.ix_image.specs.Image.{longest}
-use Rattle.ix_image.specs.Fitting.{names_fit}
-use Rattle.ix_image.specs.Reading.{breaks}
-use Rattle.ix_image.specs.Meant.{tree_made}
-use Rattle.ix_image.proofs.Counting.{rest_whole}
-use Rattle.ix_image.proofs.Steps.{too_long, misfit}
-use Rattle.ix_image.proofs.Whole.{fields_take}
+use Rattle.ix_image.specs.{Image.longest, Fitting.names_fit, Reading.breaks, Meant.tree_made}
+use Rattle.ix_image.proofs.{Counting.rest_whole, Steps.{too_long, misfit}, Whole.fields_take}
 use Rattle.ix_image.proofs.reading.tree_in.Goals as goal
 
 pub returns-then-bytes-gt-LONGEST : goal.returns-then-bytes-gt-LONGEST

@@ -1,6 +1,5 @@
 use Rattle.std.proofs.Common.{List, length, ap, arith}
-use Rattle.ix_model.specs.declared.config.FsSpec.{FsSpec}
-use Rattle.ix_model.proofs.opening.Validity.{valid_parts}
+use Rattle.ix_model.{specs.declared.config.FsSpec.FsSpec, proofs.opening.Validity.valid_parts}
 use Rattle.ix_image.proofs.saving.save.Goals as goal
 
 pub new-requires : goal.new-requires

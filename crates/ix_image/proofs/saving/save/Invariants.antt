@@ -1,8 +1,6 @@
 use Rattle.std.proofs.Common.{◌≡◌, ℕ, ◌++◌, List, length}
 use Rattle.ix_model.specs.history.History.{world_of}
-use Rattle.ix_image.specs.Image.{image_of}
-use Rattle.ix_image.specs.Taken.{tree_of}
-use Rattle.ix_image.specs.Written.{IsBegun, left_of, pieces_of}
+use Rattle.ix_image.specs.{Image.image_of, Taken.tree_of, Written.{IsBegun, left_of, pieces_of}}
 use Rattle.ix_image.proofs.saving.save.Given as goal
 
 abbrev pub invariant-pieces : goal.invariant-pieces

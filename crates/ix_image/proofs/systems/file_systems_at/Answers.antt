@@ -1,9 +1,6 @@
 use Rattle.std.proofs.Common.{◌≡◌, ◌-◌, ◌+◌, List, sym, subst, arith}
 use Rattle.ix_model.specs.declared.config.FsSpec.{FsSpec}
-use Rattle.ix_image.specs.Reading.{file_systems_at}
-use Rattle.ix_image.proofs.Looping.{with_front}
-use Rattle.ix_image.proofs.Objects.{file_systems_field}
-use Rattle.ix_image.proofs.Reread.{systems_go_on, systems_end, all_systems}
+use Rattle.ix_image.{specs.Reading.file_systems_at, proofs.{Looping.with_front, Objects.file_systems_field, Reread.{systems_go_on, systems_end, all_systems}}}
 use Rattle.ix_image.proofs.systems.file_systems_at.Goals as goal
 
 pub returns-in-Err-clause-read : goal.returns-in-Err-clause-read

@@ -1,6 +1,5 @@
 use Rattle.std.proofs.Common.{◌≡◌, ◌-◌}
-use Rattle.ix_image.specs.Reading.{file_systems_at}
-use Rattle.ix_image.proofs.Looping.{with_front}
+use Rattle.ix_image.{specs.Reading.file_systems_at, proofs.Looping.with_front}
 use Rattle.ix_image.proofs.systems.file_systems_at.Given as goal
 
 abbrev pub invariant-loop : goal.invariant-loop

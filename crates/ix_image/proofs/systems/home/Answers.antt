@@ -1,6 +1,5 @@
 use Rattle.std.proofs.Common.{◌≡◌, ◌+◌, length, drop, sym, ap, ◌∙◌, arith}
-use Rattle.ix_image.specs.Trees.{home}
-use Rattle.ix_image.proofs.Counting.{home_here, home_further, home_past}
+use Rattle.ix_image.{specs.Trees.home, proofs.Counting.{home_here, home_further, home_past}}
 use Rattle.ix_image.proofs.systems.home.Goals as goal
 
 pub returns-then-rest-fs : goal.returns-then-rest-fs

@@ -1,9 +1,7 @@
 use Rattle.std.proofs.Common.{◌≡◌, ℕ, suc, ◌+◌, ◌*◌, ◌^◌, ◌%◌, ◌<◌, Bool, cond, sym, ap, subst, ◌∙◌, arith}
-use Rattle.ix_label.specs.Category.{has}
-use Rattle.ix_label.specs.Words.{from_bits}
-use Rattle.ix_image.proofs.Bytewise.{from_bits_none, from_bits_more, from_bits_few, one_bit, sum_fits}
+use Rattle.ix_label.specs.{Category.has, Words.from_bits}
+use Rattle.ix_image.proofs.{Bytewise.{from_bits_none, from_bits_more, from_bits_few, one_bit, sum_fits}, writing.label_byte_counted.Goals.{then-has, else-has}}
 use Rattle.ix_image.proofs.writing.label_byte_counted.Goals as goal
-use Rattle.ix_image.proofs.writing.label_byte_counted.Goals.{then-has, else-has}
 
 pub loop-bit-init : goal.loop-bit-init
 loop-bit-init g c = sym (from_bits_none (λ i. has c.args.label.now (c.args.first + i)))

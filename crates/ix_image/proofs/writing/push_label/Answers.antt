@@ -1,6 +1,5 @@
-use Rattle.std.proofs.Common.{◌≡◌, ◌++◌, ◌∷◌, [], List, ℕ, map, sym, ap, ◌∙◌, append_assoc, arith}
+use Rattle.std.proofs.{Common.{◌≡◌, ◌++◌, ◌∷◌, [], List, ℕ, map, sym, ap, ◌∙◌, append_assoc, arith}, lemmas.List.FromFn.map-range_with_len_more}
 use Rattle.std.specs.List.{range_with_len}
-use Rattle.std.proofs.lemmas.List.FromFn.{map-range_with_len_more}
 use Rattle.ix_image.specs.Labelled.{label_byte, label_bytes}
 use Rattle.ix_image.proofs.writing.push_label.Goals as goal
 

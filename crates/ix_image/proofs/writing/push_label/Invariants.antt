@@ -1,5 +1,4 @@
-use Rattle.std.proofs.Common.{◌≡◌, ◌++◌, map}
-use Rattle.std.specs.List.{range_with_len}
+use Rattle.std.{proofs.Common.{◌≡◌, ◌++◌, map}, specs.List.range_with_len}
 use Rattle.ix_image.specs.Labelled.{label_byte}
 use Rattle.ix_image.proofs.writing.push_label.Given as goal
 

@@ -1,5 +1,4 @@
-use Rattle.std.proofs.Common.{◌++◌, List, ℕ, ap, ◌∙◌, append_assoc}
-use Rattle.std.proofs.lemmas.Result.{on_ok_weaker}
+use Rattle.std.proofs.{Common.{◌++◌, List, ℕ, ap, ◌∙◌, append_assoc}, lemmas.Result.on_ok_weaker}
 use Rattle.ix_image.specs.Image.{first_bytes, four}
 use Rattle.ix_image.proofs.writing.push_start.Goals as goal
 

@@ -1,5 +1,4 @@
-use Rattle.std.specs.Char.{is_ascii_digit}
-use Rattle.std.proofs.lemmas.List.Sums.{prefix_len-le-length}
+use Rattle.std.{specs.Char.is_ascii_digit, proofs.lemmas.List.Sums.prefix_len-le-length}
 use Rattle.ix_label.proofs.read.leading_digits.Goals as goal
 
 pub split_at-requires : goal.split_at-requires

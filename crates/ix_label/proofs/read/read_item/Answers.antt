@@ -1,5 +1,4 @@
-use Rattle.std.proofs.Common.{◌∙◌, sym, arith, true≢false}
-use Rattle.std.proofs.lemmas.Result.{err_from_is_err_and}
+use Rattle.std.proofs.{Common.{◌∙◌, sym, arith, true≢false}, lemmas.Result.err_from_is_err_and}
 use Rattle.ix_label.proofs.Reading.{first_bad, first_disordered, item_single, second_bad, second_disordered, item_range}
 use Rattle.ix_label.proofs.read.read_item.Goals as goal
 

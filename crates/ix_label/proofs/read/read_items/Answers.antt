@@ -1,6 +1,5 @@
 use Rattle.std.proofs.Common.{◌∙◌, sym, true≢false, arith}
-use Rattle.ix_label.proofs.Numbers.{greatest-below}
-use Rattle.ix_label.proofs.Items.{IsReadTo-start, IsReadTo-more, bad_follower, all_read, shrinks}
+use Rattle.ix_label.proofs.{Numbers.greatest-below, Items.{IsReadTo-start, IsReadTo-more, bad_follower, all_read, shrinks}}
 use Rattle.ix_label.proofs.read.read_items.Goals as goal
 
 pub items-init : goal.items-init

@@ -1,7 +1,5 @@
 use Rattle.std.proofs.Common.{◌≡◌, sym, ◌∙◌, ap, List, ℕ}
-use Rattle.ix_label.specs.Faults.{digits}
-use Rattle.ix_label.proofs.Places.{are_digits}
-use Rattle.ix_label.proofs.Reading.{number_bad, number_great, number_at}
+use Rattle.ix_label.{specs.Faults.digits, proofs.{Places.are_digits, Reading.{number_bad, number_great, number_at}}}
 use Rattle.ix_label.proofs.read.read_number.Goals as goal
 
 digits_are : (ahead ds rest : List ℕ) → ds ≡ digits rest → rest ≡ ahead → ds ≡ digits ahead

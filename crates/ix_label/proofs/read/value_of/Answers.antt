@@ -1,5 +1,4 @@
-use Rattle.std.proofs.Common.{◌+◌, ◌<◌, take}
-use Rattle.std.specs.Str.Parse.{digits_value}
+use Rattle.std.{proofs.Common.{◌+◌, ◌<◌, take}, specs.Str.Parse.digits_value}
 use Rattle.ix_label.proofs.Numbers.{one_digit_more, too_great}
 use Rattle.ix_label.proofs.read.value_of.Goals as goal
 

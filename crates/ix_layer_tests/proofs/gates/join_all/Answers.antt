@@ -1,10 +1,7 @@
 use Rattle.std.proofs.Common.{◌≡◌, ℕ, List, [], ◌∷◌, ◌++◌, None, refl, ap, sym, ◌∙◌, subst, inl, arith, append-nil, append_assoc}
-use Rattle.std.specs.Prelude.{All}
-use Rattle.std.proofs.lemmas.List.{nil_from_length}
-use Rattle.std.proofs.lemmas.List.Elements.{All-push, All-weaker, All-cons, All-nil, All-tail, All-same}
-use Rattle.ix_gate.specs.Seat.{SeatState, StandsFor, own_entries}
+use Rattle.std.{specs.Prelude.All, proofs.lemmas.List.{nil_from_length, Elements.{All-push, All-weaker, All-cons, All-nil, All-tail, All-same}}}
+use Rattle.ix_gate.{specs.Seat.{SeatState, StandsFor, own_entries}, proofs.Joining.{still_stands, stands_too}}
 use Rattle.ix_layer_tests.specs.declared.gates.Turn.{Turn}
-use Rattle.ix_gate.proofs.Joining.{still_stands, stands_too}
 use Rattle.ix_layer_tests.proofs.gates.join_all.Goals as goal
 
 abbrev S : Type 0

@@ -1,5 +1,4 @@
-use Rattle.std.proofs.Common.{◌≡◌, List, ◌++◌, None}
-use Rattle.std.specs.Prelude.{All}
+use Rattle.std.{proofs.Common.{◌≡◌, List, ◌++◌, None}, specs.Prelude.All}
 use Rattle.ix_gate.specs.Seat.{SeatState, StandsFor}
 use Rattle.ix_layer_tests.specs.declared.gates.Turn.{Turn}
 use Rattle.ix_layer_tests.proofs.gates.join_all.Given as goal

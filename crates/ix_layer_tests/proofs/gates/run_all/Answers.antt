@@ -1,7 +1,6 @@
 use Rattle.std.proofs.Common.{◌≡◌, ℕ, List, length, map, ap, ◌∙◌, arith}
-use Rattle.ix_gate.specs.Seat.{SeatState}
+use Rattle.ix_gate.{specs.Seat.SeatState, proofs.Joining.{stands_all, written_over}}
 use Rattle.ix_layer_tests.specs.declared.gates.Turn.{Turn}
-use Rattle.ix_gate.proofs.Joining.{stands_all, written_over}
 use Rattle.ix_layer_tests.proofs.gates.run_all.Goals as goal
 
 abbrev S : Type 0

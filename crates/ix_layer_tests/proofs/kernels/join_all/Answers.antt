@@ -1,11 +1,8 @@
 use Rattle.std.proofs.Common.{◌≡◌, ℕ, List, [], ◌∷◌, ◌++◌, refl, ap, sym, ◌∙◌, subst, inl, arith, append-nil, append_assoc}
-use Rattle.std.specs.Prelude.{All}
-use Rattle.std.proofs.lemmas.List.{nil_from_length}
-use Rattle.std.proofs.lemmas.List.Elements.{All-push, All-weaker, All-cons, All-nil, All-tail, All-same}
+use Rattle.std.{specs.Prelude.All, proofs.lemmas.List.{nil_from_length, Elements.{All-push, All-weaker, All-cons, All-nil, All-tail, All-same}}}
 use Rattle.ix_model.specs.history.Events.{Event}
-use Rattle.ix_gate.specs.Seat.{StandsFor}
+use Rattle.ix_gate.{specs.Seat.StandsFor, proofs.Joining.{still_stands, stands_too}}
 use Rattle.ix_kernel.specs.Seen.{KSeatState, own}
-use Rattle.ix_gate.proofs.Joining.{still_stands, stands_too}
 use Rattle.ix_layer_tests.proofs.kernels.join_all.Goals as goal
 
 pub loop-other-init : goal.loop-other-init

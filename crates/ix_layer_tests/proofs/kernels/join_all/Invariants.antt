@@ -1,5 +1,4 @@
-use Rattle.std.proofs.Common.{◌≡◌, List, ◌++◌}
-use Rattle.std.specs.Prelude.{All}
+use Rattle.std.{proofs.Common.{◌≡◌, List, ◌++◌}, specs.Prelude.All}
 use Rattle.ix_gate.specs.Seat.{StandsFor}
 use Rattle.ix_kernel.specs.Seen.{KSeatState}
 use Rattle.ix_layer_tests.proofs.kernels.join_all.Given as goal

@@ -1,5 +1,4 @@
-use Rattle.std.proofs.Common.{ap, arith}
-use Rattle.std.proofs.lemmas.Option.{get_or_from_slice_get}
+use Rattle.std.proofs.{Common.{ap, arith}, lemmas.Option.get_or_from_slice_get}
 use Rattle.ix_gate.proofs.Joining.{number_is_there}
 use Rattle.ix_kernel.specs.Seen.{KSeatState}
 use Rattle.ix_layer_tests.proofs.kernels.run_seats.Goals as goal

@@ -1,7 +1,6 @@
 use Rattle.std.proofs.Common.{◌≡◌, ◌<◌, ◌++◌, ◌∷◌, [], Some, sym, ap, subst, ◌∙◌, length}
 use Rattle.ix_fcalls.specs.Counted.{IsCounted}
-use Rattle.ix_model.specs.world.World.{at, living}
-use Rattle.ix_model.proofs.words.Living.{is_living}
+use Rattle.ix_model.{specs.world.World.{at, living}, proofs.words.Living.is_living}
 use Rattle.ix_machine.proofs.Births.{child_entry, child_home, child_lives, child_counted, parent_of}
 use Rattle.ix_machine.proofs.forking.add_child.Goals as goal
 

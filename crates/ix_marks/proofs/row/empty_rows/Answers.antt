@@ -1,5 +1,4 @@
-use Rattle.std.proofs.Common.{replicate, ap, ◌∙◌}
-use Rattle.std.proofs.lemmas.Result.{IfOk-weaker}
+use Rattle.std.proofs.{Common.{replicate, ap, ◌∙◌}, lemmas.Result.IfOk-weaker}
 use Rattle.ix_marks.specs.Places.{row_of}
 use Rattle.ix_marks.proofs.row.empty_rows.Goals as goal
 

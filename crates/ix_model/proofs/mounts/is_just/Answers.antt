@@ -1,7 +1,5 @@
 use Rattle.std.proofs.Common.{sym, ap, ◌∙◌}
-use Rattle.ix_model.specs.world.Naming.{same_bytes}
-use Rattle.ix_model.specs.world.NameRefs.{name_of}
-use Rattle.ix_model.proofs.texts.Joining.{same_just}
+use Rattle.ix_model.{specs.world.{Naming.same_bytes, NameRefs.name_of}, proofs.texts.Joining.same_just}
 use Rattle.ix_model.proofs.mounts.is_just.Goals as goal
 
 pub returns : goal.returns

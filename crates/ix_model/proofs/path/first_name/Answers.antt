@@ -1,6 +1,5 @@
 use Rattle.std.proofs.Common.{ap, ◌∙◌, ◌∷◌, [], sym}
-use Rattle.ix_model.specs.world.Texts.{names_in}
-use Rattle.ix_model.proofs.texts.Joining.{cut_at, cut_last}
+use Rattle.ix_model.{specs.world.Texts.names_in, proofs.texts.Joining.{cut_at, cut_last}}
 use Rattle.ix_model.proofs.path.first_name.Goals as goal
 
 pub of-requires : goal.of-requires

@@ -1,5 +1,4 @@
-use Rattle.std.proofs.Common.{arith, sym}
-use Rattle.std.proofs.lemmas.Bool.Decides.{nat_tests}
+use Rattle.std.proofs.{Common.{arith, sym}, lemmas.Bool.Decides.nat_tests}
 use Rattle.ix_model.proofs.texts.Reading.{begin, none_is}
 use Rattle.ix_model.proofs.path.is_path_text.Goals as goal
 

@@ -1,6 +1,5 @@
 use Rattle.std.proofs.Common.{◌≡◌, ◌≤◌, length}
-use Rattle.ix_model.specs.world.Texts.{between_slashes, is_path_text}
-use Rattle.ix_model.proofs.texts.Reading.{to_read}
+use Rattle.ix_model.{specs.world.Texts.{between_slashes, is_path_text}, proofs.texts.Reading.to_read}
 use Rattle.ix_model.proofs.path.is_path_text.Given as goal
 
 abbrev pub invariant-pieces : goal.invariant-pieces

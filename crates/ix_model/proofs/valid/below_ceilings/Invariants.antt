@@ -1,5 +1,4 @@
-use Rattle.std.proofs.Common.{◌≡◌, drop}
-use Rattle.std.specs.List.{list_all}
+use Rattle.std.{proofs.Common.{◌≡◌, drop}, specs.List.list_all}
 use Rattle.ix_label.specs.Category.{leq}
 use Rattle.ix_model.proofs.valid.below_ceilings.Given as goal
 

@@ -1,6 +1,5 @@
 use Rattle.std.proofs.Common.{◌≡◌, ◌+◌, take}
-use Rattle.ix_model.specs.world.World.{fs_at}
-use Rattle.ix_model.specs.opening.Valid.{blocks_taken}
+use Rattle.ix_model.specs.{world.World.fs_at, opening.Valid.blocks_taken}
 use Rattle.ix_model.proofs.valid.has_blocks.Given as goal
 
 abbrev pub invariant-loop-b : goal.invariant-loop-b

@@ -1,7 +1,5 @@
 use Rattle.std.proofs.Common.{◌+◌, ◌∙◌, sym, arith}
-use Rattle.ix_links.specs.Chains.{chain_of}
-use Rattle.ix_links.proofs.Held.{held_below}
-use Rattle.ix_links.proofs.Walked.{none_behind}
+use Rattle.ix_links.{specs.Chains.chain_of, proofs.{Held.held_below, Walked.none_behind}}
 use Rattle.ix_name.proofs.walk.index_at.Goals as goal
 
 pub next-requires : goal.next-requires

@@ -1,8 +1,6 @@
 use Rattle.std.proofs.Common.{◌≡◌, ◌∙◌, Some, None, sym, arith, slice_get}
-use Rattle.ix_links.specs.Chains.{chain_of}
-use Rattle.ix_links.proofs.Held.{held_below}
+use Rattle.ix_links.{specs.Chains.chain_of, proofs.{Held.held_below, Walked.{find_here, find_more, find_ended, find_past, length-chain}}}
 use Rattle.ix_name.specs.Entries.{is_at}
-use Rattle.ix_links.proofs.Walked.{find_here, find_more, find_ended, find_past, length-chain}
 use Rattle.ix_name.proofs.walk.index_of.Goals as goal
 
 pub returns-in_err-index : goal.returns-in_err-index

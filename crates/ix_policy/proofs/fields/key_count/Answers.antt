@@ -1,7 +1,5 @@
-use Rattle.std.proofs.Common.{sym, ap, ◌∙◌}
-use Rattle.std.specs.Option.{option_map_or}
-use Rattle.serde_json.specs.Events.{members_len}
-use Rattle.serde_json.proofs.Views.{members_len-members_view}
+use Rattle.std.{proofs.Common.{sym, ap, ◌∙◌}, specs.Option.option_map_or}
+use Rattle.serde_json.{specs.Events.members_len, proofs.Views.members_len-members_view}
 use Rattle.ix_policy.specs.Fields.{key_count}
 use Rattle.ix_policy.proofs.fields.key_count.Goals as goal
 

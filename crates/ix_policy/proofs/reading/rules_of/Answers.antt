@@ -1,8 +1,6 @@
-use Rattle.std.proofs.Common.{sym, ◌∙◌, arith}
-use Rattle.std.proofs.lemmas.Result.{err_from_is_err_and}
+use Rattle.std.proofs.{Common.{sym, ◌∙◌, arith}, lemmas.Result.err_from_is_err_and}
 use Rattle.serde_json.specs.View.{view, items_view}
-use Rattle.ix_policy.specs.Policies.{next_rules, rules_of}
-use Rattle.ix_policy.proofs.Walking.{too_many, not_too_many, one_more, one_wrong, none_left, cause_of}
+use Rattle.ix_policy.{specs.Policies.{next_rules, rules_of}, proofs.Walking.{too_many, not_too_many, one_more, one_wrong, none_left, cause_of}}
 use Rattle.ix_policy.proofs.reading.rules_of.Goals as goal
 
 pub returns-then-elements-gt256-clause-err : goal.returns-then-elements-gt256-clause-err

@@ -1,10 +1,7 @@
 use Rattle.std.proofs.Common.{◌≡◌, ◌<◌, ◌+◌, ℕ, Bool, true, false, List, length, Option, Some, is_some, slice_index_or, sym, ap, ◌∙◌, subst}
-use Rattle.std.specs.List.{find}
-use Rattle.std.proofs.lemmas.List.{get_or_read}
+use Rattle.std.{specs.List.find, proofs.lemmas.List.get_or_read}
 use Rattle.ix_links.specs.Chains.{chain_of}
-use Rattle.ix_proc.specs.Slots.{record_at, nobody}
-use Rattle.ix_proc.specs.declared.slot.Record.{Record}
-use Rattle.ix_proc.proofs.Walking.{rest_from, found_here, found_later, less_left}
+use Rattle.ix_proc.{specs.{Slots.{record_at, nobody}, declared.slot.Record.Record}, proofs.Walking.{rest_from, found_here, found_later, less_left}}
 use Rattle.ix_proc.proofs.search.first_ended.Goals as goal
 
 -- whether the record of a link has ended, as it was read

@@ -1,8 +1,6 @@
-use Rattle.std.proofs.Common.{◌≡◌, ℕ, length, slice_get, is_some}
-use Rattle.std.specs.List.{find}
+use Rattle.std.{proofs.Common.{◌≡◌, ℕ, length, slice_get, is_some}, specs.List.find}
 use Rattle.ix_links.specs.Chains.{chain_of}
-use Rattle.ix_proc.specs.Slots.{record_at}
-use Rattle.ix_proc.proofs.Walking.{rest_from}
+use Rattle.ix_proc.{specs.Slots.record_at, proofs.Walking.rest_from}
 use Rattle.ix_proc.proofs.search.first_ended.Given as goal
 
 abbrev pub invariant-loop-next : goal.invariant-loop-next

@@ -1,7 +1,5 @@
-use Rattle.std.proofs.Common.{◌≡◌, ◌++◌, [], ℕ, List, Result, Ok, Err, sym, ap, ◌∙◌, subst, OnOk}
-use Rattle.std.specs.Option.{option_copied}
-use Rattle.ix_model.specs.history.Calls.{op_of}
-use Rattle.ix_model.specs.history.Made.{entry}
+use Rattle.std.{proofs.Common.{◌≡◌, ◌++◌, [], ℕ, List, Result, Ok, Err, sym, ap, ◌∙◌, subst, OnOk}, specs.Option.option_copied}
+use Rattle.ix_model.specs.history.{Calls.op_of, Made.entry}
 use Rattle.ix_report.specs.LineText.{entry_line}
 use Rattle.ix_report.proofs.report.entry_line.Goals as goal
 

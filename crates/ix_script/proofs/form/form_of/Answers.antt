@@ -1,7 +1,5 @@
 -- Each word is its form's, whichever is asked for first.
-use Rattle.std.proofs.Common.{◌≡◌, ℕ, List, Option, true, refl, sym, ap, ◌∙◌}
-use Rattle.std.specs.Prelude.{codes}
-use Rattle.std.specs.Cmp.Lexicographic.{same_text}
+use Rattle.std.{proofs.Common.{◌≡◌, ℕ, List, Option, true, refl, sym, ap, ◌∙◌}, specs.{Prelude.codes, Cmp.Lexicographic.same_text}}
 use Rattle.ix_model.specs.world.Naming.{same_bytes}
 use Rattle.ix_script.specs.declared.form.Form.{Form}
 use Rattle.ix_script.specs.lines.Forms.{plain_of, on_path_of, on_fd_of, counted_of, frame_form, group_form, file_form, process_form, form_of}

@@ -1,6 +1,4 @@
-use Rattle.std.proofs.Common.{◌≡◌, drop}
-use Rattle.std.specs.Cmp.Lexicographic.{slice_cmp}
-use Rattle.std.specs.Ordering.{nat_cmp}
+use Rattle.std.{proofs.Common.{◌≡◌, drop}, specs.{Cmp.Lexicographic.slice_cmp, Ordering.nat_cmp}}
 use Rattle.ix_script.proofs.index.order.Given as goal
 
 abbrev pub invariant-bytes : goal.invariant-bytes

@@ -1,6 +1,5 @@
 use Rattle.std.proofs.Common.{◌≡◌, suc, sym, ap, ◌∙◌, arith}
-use Rattle.ix_script.specs.scripts.Packed.{begin_at}
-use Rattle.ix_script.proofs.reader.Packing.{begin_later}
+use Rattle.ix_script.{specs.scripts.Packed.begin_at, proofs.reader.Packing.begin_later}
 use Rattle.ix_script.proofs.packed.begin.Goals as goal
 
 pub returns-in-Some : goal.returns-in-Some

@@ -1,6 +1,4 @@
-use Rattle.std.proofs.Common.{◌≡◌, take}
-use Rattle.std.specs.Prelude.{is_some}
-use Rattle.std.specs.List.{list_all}
+use Rattle.std.{proofs.Common.{◌≡◌, take}, specs.{Prelude.is_some, List.list_all}}
 use Rattle.ix_script.specs.texts.Payloads.{digit_of}
 use Rattle.ix_script.proofs.payload.are_digits.Given as goal
 

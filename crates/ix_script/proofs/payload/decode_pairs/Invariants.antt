@@ -1,5 +1,4 @@
-use Rattle.std.proofs.Common.{◌≡◌, ◌++◌, ◌*◌, [], length, take, drop, unwrap_or}
-use Rattle.std.specs.Prelude.{IsSome}
+use Rattle.std.{proofs.Common.{◌≡◌, ◌++◌, ◌*◌, [], length, take, drop, unwrap_or}, specs.Prelude.IsSome}
 use Rattle.ix_script.specs.texts.Payloads.{pairs_of}
 use Rattle.ix_script.proofs.payload.decode_pairs.Given as goal
 

@@ -1,5 +1,4 @@
-use Rattle.std.proofs.Common.{◌≡◌, ◌++◌, [], length, take, unwrap_or}
-use Rattle.std.specs.Prelude.{IsSome}
+use Rattle.std.{proofs.Common.{◌≡◌, ◌++◌, [], length, take, unwrap_or}, specs.Prelude.IsSome}
 use Rattle.ix_script.specs.texts.Payloads.{quoted_from}
 use Rattle.ix_script.specs.declared.payload.Escape.TheVariants as escape
 use Rattle.ix_script.proofs.payload.decode_quoted.Given as goal

@@ -1,6 +1,5 @@
 use Rattle.std.proofs.Common.{◌∙◌, ◌/◌, length, sym, arith}
-use Rattle.ix_script.specs.texts.Payloads.{pairs_of}
-use Rattle.ix_script.proofs.texts.Spelling.{no_spelling, pairs_odd, pairs_bad, pairs_even}
+use Rattle.ix_script.{specs.texts.Payloads.pairs_of, proofs.texts.Spelling.{no_spelling, pairs_odd, pairs_bad, pairs_even}}
 use Rattle.ix_script.proofs.payload.pairs.Goals as goal
 
 pub returns-then-text-ne0 : goal.returns-then-text-ne0

@@ -1,5 +1,4 @@
-use Rattle.std.proofs.Common.{◌∙◌, ◌+◌, length, sym, arith}
-use Rattle.std.proofs.lemmas.Bool.{eq-eqb, ne_eqb}
+use Rattle.std.proofs.{Common.{◌∙◌, ◌+◌, length, sym, arith}, lemmas.Bool.{eq-eqb, ne_eqb}}
 use Rattle.ix_script.specs.texts.Payloads.{quoted_from}
 use Rattle.ix_script.specs.declared.payload.Escape.TheVariants as escape
 use Rattle.ix_script.proofs.texts.Spelling.{bytes_counted, no_spelling, quoted_counted, quoted_broken, quoted_done, quoted_early, quoted_past}

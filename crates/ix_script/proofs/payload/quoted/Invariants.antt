@@ -1,7 +1,6 @@
 use Rattle.std.proofs.Common.{drop}
-use Rattle.ix_script.specs.texts.Payloads.{quoted_from}
+use Rattle.ix_script.{specs.texts.Payloads.quoted_from, proofs.texts.Spelling.Counted}
 use Rattle.ix_script.specs.declared.payload.Escape.TheVariants as escape
-use Rattle.ix_script.proofs.texts.Spelling.{Counted}
 use Rattle.ix_script.proofs.payload.quoted.Given as goal
 
 abbrev pub invariant-bytes : goal.invariant-bytes

@@ -1,9 +1,5 @@
 use Rattle.std.proofs.Common.{◌≡◌, ◌+◌, drop, map, option_map}
-use Rattle.ix_script.specs.lines.Kinds.{places_fault}
-use Rattle.ix_script.specs.lines.Forms.{places_from}
-use Rattle.ix_script.specs.reader.Placing.{kind_in}
-use Rattle.ix_script.specs.declared.fail.Rule.{Rule}
-use Rattle.ix_script.proofs.lines.Readings.{lesser}
+use Rattle.ix_script.{specs.{lines.{Kinds.places_fault, Forms.places_from}, reader.Placing.kind_in, declared.fail.Rule.Rule}, proofs.lines.Readings.lesser}
 use Rattle.ix_script.proofs.places.fault_from.Given as goal
 
 abbrev pub invariant-kinds : goal.invariant-kinds

@@ -1,11 +1,6 @@
-use Rattle.std.proofs.Common.{◌≡◌, ℕ, List, ◌+◌, length, nat_le, false, sym, ap, ◌∙◌, subst, arith}
-use Rattle.std.proofs.lemmas.List.{length-map}
-use Rattle.std.proofs.lemmas.Bool.{lt-leb}
+use Rattle.std.proofs.{Common.{◌≡◌, ℕ, List, ◌+◌, length, nat_le, false, sym, ap, ◌∙◌, subst, arith}, lemmas.{List.length-map, Bool.lt-leb}}
 use Rattle.ix_label.specs.declared.form.Form.TheVariants.{One}
-use Rattle.ix_script.specs.lines.Forms.{arity, own_places, places_from, tail_of}
-use Rattle.ix_script.specs.lines.Kinds.{Kind}
-use Rattle.ix_script.specs.reader.Placing.{kind_in}
-use Rattle.ix_script.specs.reader.Readers.{IsFault}
+use Rattle.ix_script.specs.{lines.{Forms.{arity, own_places, places_from, tail_of}, Kinds.Kind}, reader.{Placing.kind_in, Readers.IsFault}}
 use Rattle.ix_script.proofs.lines.Readings.{both_faults, tail_there}
 use Rattle.ix_script.proofs.places.places_fault.Goals as goal
 

@@ -1,5 +1,4 @@
-use Rattle.std.proofs.Common.{◌≡◌, ◌&&◌, drop}
-use Rattle.std.specs.List.{list_all}
+use Rattle.std.{proofs.Common.{◌≡◌, ◌&&◌, drop}, specs.List.list_all}
 use Rattle.ix_script.specs.reader.Readers.{in_printable_lines}
 use Rattle.ix_script.proofs.reading.all_printable_lines.Given as goal
 

@@ -1,12 +1,6 @@
-use Rattle.std.proofs.Common.{◌≡◌, ℕ, List, [], length, sym, ◌∙◌, ap, subst}
-use Rattle.std.proofs.lemmas.Bool.{eqb-true}
-use Rattle.std.proofs.lemmas.List.{nil_from_length}
-use Rattle.std.proofs.lemmas.Result.{err_from_is_err_and}
-use Rattle.ix_script.specs.texts.Lines.{cut}
-use Rattle.ix_script.specs.lines.Faults.{fault_from}
-use Rattle.ix_script.specs.scripts.Scripts.{form_in, lines_said}
-use Rattle.ix_script.proofs.reader.Progress.{Reading, start, goes_on, stops, faultless, all_said, lines_cut}
-use Rattle.ix_script.proofs.reader.Staying.{valid_none}
+use Rattle.std.proofs.{Common.{◌≡◌, ℕ, List, [], length, sym, ◌∙◌, ap, subst}, lemmas.{Bool.eqb-true, List.nil_from_length, Result.err_from_is_err_and}}
+use Rattle.ix_script.specs.{texts.Lines.cut, lines.Faults.fault_from, scripts.Scripts.{form_in, lines_said}}
+use Rattle.ix_script.proofs.reader.{Progress.{Reading, start, goes_on, stops, faultless, all_said, lines_cut}, Staying.valid_none}
 use Rattle.ix_script.proofs.texts.Feeds.{cut_printable, first_printable}
 use Rattle.ix_script.proofs.reading.draft_of.Goals as goal
 

@@ -1,9 +1,6 @@
-use Rattle.std.proofs.Common.{◌≡◌, true, length}
-use Rattle.std.specs.Prelude.{IsTrue}
-use Rattle.std.specs.List.{list_all}
+use Rattle.std.{proofs.Common.{◌≡◌, true, length}, specs.{Prelude.IsTrue, List.list_all}}
 use Rattle.ix_model.specs.opening.Valid.{is_within}
-use Rattle.ix_script.specs.texts.Lines.{cut}
-use Rattle.ix_script.proofs.reader.Progress.{Reading}
+use Rattle.ix_script.{specs.texts.Lines.cut, proofs.reader.Progress.Reading}
 use Rattle.ix_script.proofs.reading.draft_of.Given as goal
 
 abbrev pub invariant-lines : goal.invariant-lines

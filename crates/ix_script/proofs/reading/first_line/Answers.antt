@@ -1,7 +1,5 @@
-use Rattle.std.proofs.Common.{◌∷◌, length, sym, ◌∙◌, arith}
-use Rattle.std.proofs.lemmas.List.{take_all, drop_all}
-use Rattle.ix_script.specs.texts.Lines.{cut}
-use Rattle.ix_script.proofs.texts.Feeds.{feed_at, no_feed}
+use Rattle.std.proofs.{Common.{◌∷◌, length, sym, ◌∙◌, arith}, lemmas.List.{take_all, drop_all}}
+use Rattle.ix_script.{specs.texts.Lines.cut, proofs.texts.Feeds.{feed_at, no_feed}}
 use Rattle.ix_script.proofs.reading.first_line.Goals as goal
 
 pub returns-in-Some-clause-lines : goal.returns-in-Some-clause-lines

@@ -1,9 +1,5 @@
-use Rattle.std.proofs.Common.{Some, List, sym, ap, ◌∙◌}
-use Rattle.std.proofs.lemmas.Bool.{eqb-true}
-use Rattle.std.proofs.lemmas.List.{nil_from_length}
-use Rattle.std.proofs.lemmas.Result.{err_from_is_err_and}
-use Rattle.ix_script.specs.declared.line.Line.{Line}
-use Rattle.ix_script.proofs.reader.Whole.{too_long, no_bytes, has_cause, script_is}
+use Rattle.std.proofs.{Common.{Some, List, sym, ap, ◌∙◌}, lemmas.{Bool.eqb-true, List.nil_from_length, Result.err_from_is_err_and}}
+use Rattle.ix_script.{specs.declared.line.Line.Line, proofs.reader.Whole.{too_long, no_bytes, has_cause, script_is}}
 use Rattle.ix_script.proofs.reading.read_with.Goals as goal
 
 pub returns-then-bytes-gt16777216-clause-fail : goal.returns-then-bytes-gt16777216-clause-fail
@@ -21,4 +17,4 @@ returns-in_err-draft-clause-fail g c =
 pub returns-clause-script : goal.returns-clause-script
 returns-clause-script g c =
     script_is c.args.bytes.now c.in_ok-draft.draft.lines c.if-bytes-gt16777216.false c.in_ok-draft.ensures.faultless c.in_ok-draft.ensures.said
-    ∙ ap (λ (ls : List Line). Some ls) (sym c.in_ok-script.ensures)
+    ∙ ap (λ (ls : List Line). Some ls) (sym (c.in_ok-script.ensures ∙ c.parts-lines.ensures.lines))

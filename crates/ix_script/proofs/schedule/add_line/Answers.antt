@@ -1,13 +1,10 @@
 use Rattle.std.proofs.Common.{◌≡◌, ℕ, ◌+◌, ◌<◌, ◌++◌, ◌∷◌, [], List, length, drop, get_or, Some, slice_get, Bool, cond, sym, ap, ◌∙◌, arith}
 use Rattle.std.proofs.lemmas.List.{get_or_default, take_rest}
-use Rattle.ix_script.specs.declared.role.Role.{Role}
-use Rattle.ix_script.specs.lines.Before.{form_told}
-use Rattle.ix_script.specs.scripts.Schedule.{seat_from}
-use Rattle.ix_script.specs.declared.line.Line.{Line}
-use Rattle.ix_script.specs.declared.line.Line.TheVariants as line
-use Rattle.ix_script.specs.declared.schedule.Stretch.{Stretch}
-use Rattle.ix_script.proofs.reader.Scheduling.{phase_role, lane_role, begun_here, none_here, unseated, other_phase, other_lane, seat_low, part_within, added, stretch_here}
+use Rattle.ix_script.specs.{declared.{role.Role.Role, line.Line.Line, schedule.Stretch.Stretch}, lines.Before.form_told, scripts.Schedule.seat_from}
 use Rattle.ix_script.proofs.back.LaneBack.{lane_at}
+use Rattle.ix_script.specs.declared.line.Line.TheVariants as line
+use Rattle.ix_script.proofs.reader.Scheduling.{phase_role, lane_role, begun_here, none_here, unseated, other_phase, other_lane, seat_low, part_within, added}
+use Rattle.ix_script.proofs.reader.Scheduling.{stretch_here}
 use Rattle.ix_script.proofs.schedule.add_line.Goals as goal
 
 pub returns-in-Phase-clause-begun : goal.returns-in-Phase-clause-begun

@@ -1,5 +1,4 @@
-use Rattle.std.proofs.Common.{◌<◌, [], length, sym, ap, ◌∙◌, arith}
-use Rattle.std.proofs.lemmas.List.{get_or_default}
+use Rattle.std.proofs.{Common.{◌<◌, [], length, sym, ap, ◌∙◌, arith}, lemmas.List.get_or_default}
 use Rattle.ix_model.specs.world.Naming.{same_bytes}
 use Rattle.ix_script.proofs.reader.Scheduling.{seat_here, seat_later, seat_none}
 use Rattle.ix_script.proofs.schedule.seat_of.Goals as goal

@@ -1,7 +1,5 @@
-use Rattle.std.proofs.Common.{◌≡◌, ℕ, ◌+◌, ◌*◌, drop, arith}
-use Rattle.std.proofs.lemmas.Grind.{common_steps}
-use Rattle.ix_script.specs.texts.Words.{value_from}
-use Rattle.ix_script.proofs.texts.Digits.{too_great}
+use Rattle.std.proofs.{Common.{◌≡◌, ℕ, ◌+◌, ◌*◌, drop, arith}, lemmas.Grind.common_steps}
+use Rattle.ix_script.{specs.texts.Words.value_from, proofs.texts.Digits.too_great}
 use Rattle.ix_script.proofs.values.value.Goals as goal
 
 pub returns-then-value-gt4294967295 : goal.returns-then-value-gt4294967295

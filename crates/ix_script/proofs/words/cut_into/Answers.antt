@@ -1,12 +1,8 @@
-use Rattle.std.proofs.Common.{◌≡◌, [], ◌∙◌, arith, cond, map, nat_lt, refl, set}
-use Rattle.std.proofs.lemmas.Bool.{lt-ltb, le-ltb}
-use Rattle.std.proofs.lemmas.List.{map-set}
+use Rattle.std.proofs.{Common.{◌≡◌, [], ◌∙◌, ap, arith, cond, map, nat_lt, not, refl, set, sym}, lemmas.{Bool.{lt-ltb, le-ltb}, List.map-set}}
 use Rattle.std.specs.Option.{option_map_or}
-use Rattle.ix_script.specs.texts.Cutting.{pieces}
+use Rattle.ix_script.{specs.texts.Cutting.{is_open, pieces}, proofs.lines.Deciding.none_there, proofs.texts.Words.{begin, next, ended, room}}
+use Rattle.ix_script.proofs.words.cut_into.Goals.{then-count-lt8, else-count-lt8, then-begins, else-begins}
 use Rattle.ix_script.specs.declared.words.Spot.TheVariants as spot
-use Rattle.ix_script.proofs.lines.Deciding.{none_there}
-use Rattle.ix_script.proofs.texts.Words.{begin, next, ended, room}
-use Rattle.ix_script.proofs.words.cut_into.Goals.{then-count-lt8, else-count-lt8}
 use Rattle.ix_script.proofs.words.cut_into.Goals as goal
 
 pub words-init : goal.words-init
@@ -27,7 +23,11 @@ words-preserved c =
       | then-count-lt8 w ↦ rw (w.first-is, lt-ltb c.words.count 8 w.if-count-lt8.true) (map-set (λ s. s.now) c.words.first c.words.count c.first_word.result.0)
       | else-count-lt8 w ↦ rw (w.first-is, le-ltb c.words.count 8 w.if-count-lt8.false) refl
     ] in
-    rw (c.is_empty-has_empty.ensures ∙ none_there _ c.first_word.result.0.now refl, c.is_open-has_open.ensures)
+    let quoted : c.if-begins.has_open ≡ is_open c.first_word.result.0.now = elim c.if-begins.branch [
+      | then-begins w ↦ rw (w.has_open-is, sym c.begins.ensures ∙ w.if-begins.true) (ap not w.is_closed.ensures)
+      | else-begins w ↦ rw (w.has_open-is, sym c.begins.ensures ∙ w.if-begins.false) w.if-begins.false
+    ] in
+    rw (c.is_empty.ensures ∙ none_there _ c.first_word.result.0.now refl, quoted)
     (next _ _ _ _ _ _ _ c.first_word.result.0.now _ (rw c.in-Some.is c.first_word.ensures.pieces) kept c.words.invariant)
 
 pub returns : goal.returns

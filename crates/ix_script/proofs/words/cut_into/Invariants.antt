@@ -1,8 +1,6 @@
-use Rattle.std.proofs.Common.{[], map, length, suc}
-use Rattle.std.specs.Option.{option_map_or}
-use Rattle.ix_script.specs.texts.Cutting.{pieces, words_of}
+use Rattle.std.{proofs.Common.{[], map, length, suc}, specs.Option.option_map_or}
+use Rattle.ix_script.{specs.texts.Cutting.{pieces, words_of}, proofs.texts.Words.Cutting}
 use Rattle.ix_script.specs.declared.words.Spot.TheVariants as spot
-use Rattle.ix_script.proofs.texts.Words.{Cutting}
 use Rattle.ix_script.proofs.words.cut_into.Given as goal
 
 abbrev pub invariant-words : goal.invariant-words

@@ -1,7 +1,6 @@
 use Rattle.std.proofs.Common.{◌∙◌, sym, arith}
 use Rattle.ix_script.specs.declared.words.Spot.TheVariants as spot
-use Rattle.ix_script.specs.reader.Cut.{end_from}
-use Rattle.ix_script.proofs.texts.Pieces.{end_found, end_next, end_none}
+use Rattle.ix_script.{specs.reader.Cut.end_from, proofs.texts.Pieces.{end_found, end_next, end_none}}
 use Rattle.ix_script.proofs.words.end_of_quoted.Goals as goal
 
 pub bytes-init : goal.bytes-init

@@ -1,10 +1,7 @@
-use Rattle.std.proofs.Common.{◌≡◌, ◌∷◌, ◌+◌, take, sym, ap, ◌∙◌}
-use Rattle.std.proofs.lemmas.List.{take_rest}
-use Rattle.ix_script.specs.reader.Cut.{end_from}
-use Rattle.ix_script.specs.texts.Cutting.{pieces}
+use Rattle.std.proofs.{Common.{◌≡◌, ◌∷◌, ◌+◌, take, sym, ap, ◌∙◌}, lemmas.List.take_rest}
+use Rattle.ix_script.specs.{reader.Cut.end_from, texts.Cutting.pieces}
+use Rattle.ix_script.proofs.{texts.Pieces.{cut_within, cut_whole, plain_end}, words.first_word.Goals.{then-begins, else-begins}}
 use Rattle.ix_script.specs.declared.words.Spot.TheVariants as spot
-use Rattle.ix_script.proofs.texts.Pieces.{cut_within, cut_whole, plain_end}
-use Rattle.ix_script.proofs.words.first_word.Goals.{then-begins, else-begins}
 use Rattle.ix_script.proofs.words.first_word.Goals as goal
 
 pub returns-then-end-text-clause-pieces : goal.returns-then-end-text-clause-pieces

@@ -1,5 +1,4 @@
-use Rattle.std.proofs.Common.{◌≡◌, take}
-use Rattle.std.specs.List.{list_all}
+use Rattle.std.{proofs.Common.{◌≡◌, take}, specs.List.list_all}
 use Rattle.ix_script.specs.texts.Spellings.{stands_quoted}
 use Rattle.ix_script.proofs.writing.are_plain.Given as goal
 

@@ -1,5 +1,4 @@
-use Rattle.std.proofs.Common.{◌≡◌, ◌++◌, drop}
-use Rattle.std.specs.List.{flat_map}
+use Rattle.std.{proofs.Common.{◌≡◌, ◌++◌, drop}, specs.List.flat_map}
 use Rattle.ix_text.specs.Spellings.{hex_pair}
 use Rattle.ix_script.specs.texts.Spellings.{pairs_text}
 use Rattle.ix_script.proofs.writing.pairs.Given as goal

@@ -1,6 +1,4 @@
-use Rattle.std.proofs.Common.{◌≡◌, ◌++◌, drop}
-use Rattle.std.specs.Prelude.{codes}
-use Rattle.std.specs.List.{flat_map}
+use Rattle.std.{proofs.Common.{◌≡◌, ◌++◌, drop}, specs.{Prelude.codes, List.flat_map}}
 use Rattle.ix_script.specs.texts.Spellings.{quoted_byte, quoted_text}
 use Rattle.ix_script.proofs.writing.quoted.Given as goal
 

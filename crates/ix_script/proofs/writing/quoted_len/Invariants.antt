@@ -1,5 +1,4 @@
-use Rattle.std.proofs.Common.{◌≡◌, ◌+◌, ◌*◌, ◌≤◌, length, drop}
-use Rattle.std.specs.List.{flat_map}
+use Rattle.std.{proofs.Common.{◌≡◌, ◌+◌, ◌*◌, ◌≤◌, length, drop}, specs.List.flat_map}
 use Rattle.ix_script.specs.texts.Spellings.{quoted_byte, quoted_text}
 use Rattle.ix_script.proofs.writing.quoted_len.Given as goal
 

@@ -1,16 +1,9 @@
 use Rattle.std.proofs.Common.{◌≡◌, ℕ, List, Some, false, ◌++◌, ◌-◌, length, take, refl, sym, ◌∙◌, subst, append_assoc, arith}
-use Rattle.std.specs.Result.{OnOk}
-use Rattle.std.proofs.lemmas.List.{append-nil}
-use Rattle.std.proofs.lemmas.Option.{same_Some}
-use Rattle.ix_script.specs.texts.Cutting.{words_of, word_at, is_skipped, is_policy_line}
-use Rattle.ix_script.specs.texts.Spellings.{payload_text}
-use Rattle.ix_script.specs.lines.Forms.{form_of}
-use Rattle.ix_script.specs.scripts.Canonical.{line_text}
-use Rattle.ix_script.specs.scripts.Packed.{line_in}
-use Rattle.ix_script.specs.reader.Placing.{payload_place}
+use Rattle.std.{specs.Result.OnOk, proofs.lemmas.{List.append-nil, Option.same_Some}}
+use Rattle.ix_script.specs.{texts.{Cutting.{words_of, word_at, is_skipped, is_policy_line}, Spellings.payload_text}, lines.Forms.form_of}
+use Rattle.ix_script.specs.{scripts.{Canonical.line_text, Packed.line_in}, reader.Placing.payload_place}
 use Rattle.ix_script.proofs.reader.Packing.{said_words}
-use Rattle.ix_script.proofs.back.Respelling.{skipped_text, no_policy, no_version_there, own_words, payload_words}
-use Rattle.ix_script.proofs.back.TextBack.{one_text}
+use Rattle.ix_script.proofs.back.{Respelling.{skipped_text, no_policy, no_version_there, own_words, payload_words}, TextBack.one_text}
 use Rattle.ix_script.proofs.writing.write_line.Goals as goal
 
 pub returns-then-has_one_spelling : goal.returns-then-has_one_spelling

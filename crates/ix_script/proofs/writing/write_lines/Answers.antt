@@ -1,10 +1,6 @@
-use Rattle.std.proofs.Common.{◌≡◌, List, ℕ, ◌+◌, ◌++◌, drop, ap, sym, ◌∙◌, append_assoc}
-use Rattle.std.specs.Prelude.{codes}
+use Rattle.std.{proofs.Common.{◌≡◌, List, ℕ, ◌+◌, ◌++◌, drop, ap, sym, ◌∙◌, append_assoc}, specs.Prelude.codes}
 use Rattle.ix_label.specs.declared.form.Form.{Form}
-use Rattle.ix_script.specs.lines.Before.{form_told}
-use Rattle.ix_script.specs.scripts.Canonical.{line_text, canonical_in}
-use Rattle.ix_script.specs.scripts.Packed.{line_in}
-use Rattle.ix_script.specs.declared.line.Line.{Line}
+use Rattle.ix_script.specs.{lines.Before.form_told, scripts.{Canonical.{line_text, canonical_in}, Packed.line_in}, declared.line.Line.Line}
 use Rattle.ix_script.proofs.reader.Walking.{next_line}
 use Rattle.ix_script.proofs.writing.write_lines.Goals as goal
 

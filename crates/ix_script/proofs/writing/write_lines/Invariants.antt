@@ -1,6 +1,5 @@
 use Rattle.std.proofs.Common.{◌≡◌, ◌++◌, drop}
-use Rattle.ix_script.specs.lines.Before.{form_told}
-use Rattle.ix_script.specs.scripts.Canonical.{canonical_in}
+use Rattle.ix_script.specs.{lines.Before.form_told, scripts.Canonical.canonical_in}
 use Rattle.ix_script.proofs.writing.write_lines.Given as goal
 
 abbrev pub invariant-loop-index : goal.invariant-loop-index

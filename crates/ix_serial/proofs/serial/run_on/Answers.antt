@@ -1,7 +1,6 @@
 use Rattle.std.proofs.Common.{[], None, List, sym, ap, ◌∙◌}
 use Rattle.ix_model.specs.history.History.{History}
-use Rattle.ix_script.specs.declared.line.Line.{Line}
-use Rattle.ix_script.specs.scripts.Scripts.{config_of}
+use Rattle.ix_script.specs.{declared.line.Line.Line, scripts.Scripts.config_of}
 use Rattle.ix_lanes.specs.histories.Serial.{first_names, serial_from}
 use Rattle.ix_serial.proofs.Stepping.{stands_first}
 use Rattle.ix_serial.proofs.serial.run_on.Goals as goal

@@ -1,8 +1,5 @@
 use Rattle.std.proofs.Common.{◌≡◌, ◌+◌, ◌∙◌, ap, length, option_map, Some, subst, sym}
-use Rattle.ix_model.specs.history.Calls.{event_of}
-use Rattle.ix_model.specs.history.Events.{Event}
-use Rattle.ix_model.specs.history.History.{world_of}
-use Rattle.ix_model.specs.declared.reply.Answer.{Answer}
+use Rattle.ix_model.specs.{history.{Calls.event_of, Events.Event, History.world_of}, declared.reply.Answer.Answer}
 use Rattle.ix_core.specs.Stepping.{MakesNext}
 use Rattle.ix_lanes.specs.running.Serially.{next_entry}
 use Rattle.ix_serial.proofs.Stepping.{never_full, stands_next}

@@ -1,6 +1,5 @@
 use Rattle.std.proofs.Common.{◌*◌, ◌-◌, replicate, arith}
-use Rattle.ix_blocks.proofs.Showing.{file_below, file_held, bytes_long, whole_long, held_by, held_laid, free_is, leaves_grown}
-use Rattle.ix_blocks.proofs.Editing.{room_some}
+use Rattle.ix_blocks.proofs.{Showing.{file_below, file_held, bytes_long, whole_long, held_by, held_laid, free_is, leaves_grown}, Editing.room_some}
 use Rattle.ix_blocks.proofs.blocks.Blocks.grow.Goals as goal
 
 pub clear-requires-clause-file : goal.clear-requires-clause-file

@@ -1,5 +1,4 @@
-use Rattle.std.proofs.Common.{sym, ◌∙◌, arith}
-use Rattle.std.proofs.lemmas.List.{get_or_read}
+use Rattle.std.proofs.{Common.{sym, ◌∙◌, arith}, lemmas.List.get_or_read}
 use Rattle.ix_blocks.proofs.Showing.{file_below, bytes_long}
 use Rattle.ix_blocks.proofs.blocks.Blocks.len.Goals as goal
 

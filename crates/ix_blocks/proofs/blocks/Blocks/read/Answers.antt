@@ -1,6 +1,5 @@
 use Rattle.std.proofs.Common.{◌≡◌, ◌++◌, length, take, drop, ap, ◌∙◌, arith, length-take}
-use Rattle.ix_blocks.specs.Files.{bytes_of}
-use Rattle.ix_blocks.proofs.Showing.{file_held, bytes_long, whole_long, held_by, front_of_bytes}
+use Rattle.ix_blocks.{specs.Files.bytes_of, proofs.Showing.{file_held, bytes_long, whole_long, held_by, front_of_bytes}}
 use Rattle.ix_blocks.proofs.blocks.Blocks.read.Goals as goal
 
 pub get-requires-clause-file : goal.get-requires-clause-file

@@ -1,7 +1,5 @@
-use Rattle.std.proofs.Common.{◌+◌, ◌<◌, length, arith}
-use Rattle.std.proofs.lemmas.Bool.Decides.{nat_tests}
-use Rattle.ix_blocks.specs.Files.{has_room}
-use Rattle.ix_blocks.proofs.Editing.{written, ok_only}
+use Rattle.std.proofs.{Common.{◌+◌, ◌<◌, length, arith}, lemmas.Bool.Decides.nat_tests}
+use Rattle.ix_blocks.{specs.Files.has_room, proofs.Editing.{written, ok_only}}
 use Rattle.ix_blocks.proofs.blocks.Blocks.write.Goals as goal
 
 pub returns-clause-bytes : goal.returns-clause-bytes

@@ -1,5 +1,4 @@
-use Rattle.std.proofs.Common.{ap, ◌∙◌, ℕ}
-use Rattle.std.proofs.lemmas.List.{take-replicate}
+use Rattle.std.proofs.{Common.{ap, ◌∙◌, ℕ}, lemmas.List.take-replicate}
 use Rattle.ix_blocks.specs.Wholes.{with_laid_over}
 use Rattle.ix_blocks.proofs.store.Store.clear.Goals as goal
 

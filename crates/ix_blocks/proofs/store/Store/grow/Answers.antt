@@ -1,6 +1,5 @@
 use Rattle.std.proofs.Common.{ap, ◌∙◌}
-use Rattle.ix_blocks.specs.Wholes.{blocks_added}
-use Rattle.ix_blocks.proofs.Counting.{added_more}
+use Rattle.ix_blocks.{specs.Wholes.blocks_added, proofs.Counting.added_more}
 use Rattle.ix_blocks.proofs.store.Store.grow.Goals as goal
 
 pub loop-added-preserved : goal.loop-added-preserved

@@ -1,13 +1,8 @@
 use Rattle.std.proofs.Common.{◌≡◌, ℕ, List, [], length, get_or, replicate, sym, ap, ◌∙◌, arith}
+use Rattle.std.proofs.lemmas.List.{length-replicate, get_or-replicate, Elements.same_from_all_zip, FromFn.length-range_with_len}
 use Rattle.std.specs.List.{range_with_len}
-use Rattle.std.proofs.lemmas.List.{length-replicate, get_or-replicate}
-use Rattle.std.proofs.lemmas.List.Elements.{same_from_all_zip}
-use Rattle.std.proofs.lemmas.List.FromFn.{length-range_with_len}
-use Rattle.ix_links.specs.Chains.{Chains, pool}
-use Rattle.ix_blocks.specs.Wholes.{Wholes}
-use Rattle.ix_blocks.specs.Stored.{flats}
-use Rattle.ix_links.proofs.Held.{pool-all_free}
-use Rattle.ix_blocks.proofs.Storing.{flats-none}
+use Rattle.ix_links.{specs.Chains.{Chains, pool}, proofs.Held.pool-all_free}
+use Rattle.ix_blocks.{specs.{Wholes.Wholes, Stored.flats}, proofs.Storing.flats-none}
 use Rattle.ix_blocks.proofs.store.Store.new.Goals as goal
 
 pub invariant_of-result : goal.invariant_of-result

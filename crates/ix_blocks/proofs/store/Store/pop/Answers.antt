@@ -1,7 +1,6 @@
 use Rattle.std.proofs.Common.{sym, ◌∙◌}
 use Rattle.ix_links.specs.Chains.{chain_of}
-use Rattle.ix_blocks.proofs.Storing.{last_held}
-use Rattle.ix_blocks.proofs.Moving.{popped_rows, popped_shows, some_last}
+use Rattle.ix_blocks.proofs.{Storing.last_held, Moving.{popped_rows, popped_shows, some_last}}
 use Rattle.ix_blocks.proofs.store.Store.pop.Goals as goal
 
 pub remove-requires-clause-held : goal.remove-requires-clause-held

@@ -1,6 +1,5 @@
 use Rattle.std.proofs.Common.{ap, ◌∙◌}
-use Rattle.ix_blocks.specs.Wholes.{blocks_dropped}
-use Rattle.ix_blocks.proofs.Counting.{dropped_more}
+use Rattle.ix_blocks.{specs.Wholes.blocks_dropped, proofs.Counting.dropped_more}
 use Rattle.ix_blocks.proofs.store.Store.shrink.Goals as goal
 
 pub loop-dropped-preserved : goal.loop-dropped-preserved

@@ -1,7 +1,6 @@
 use Rattle.std.proofs.Common.{◌∙◌, ap, length}
 use Rattle.ix_model.specs.world.World.{World}
-use Rattle.ix_core.proofs.Standing.{stands_first, small_journal}
-use Rattle.ix_core.proofs.Keeping.{marked_first}
+use Rattle.ix_core.proofs.{Standing.{stands_first, small_journal}, Keeping.marked_first}
 use Rattle.ix_core.proofs.keeper.Core.boot.Goals as goal
 
 pub invariant_of-result : goal.invariant_of-result

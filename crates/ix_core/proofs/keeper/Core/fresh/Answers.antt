@@ -1,9 +1,6 @@
 use Rattle.std.proofs.Common.{◌∙◌, ap}
-use Rattle.ix_model.specs.history.Freshness.{is_fresh}
-use Rattle.ix_model.specs.history.History.{History}
-use Rattle.ix_model.specs.opening.Opening.{opening_world}
-use Rattle.ix_core.specs.Marking.{way_of}
-use Rattle.ix_core.proofs.Keeping.{fresh_is}
+use Rattle.ix_model.specs.{history.{Freshness.is_fresh, History.History}, opening.Opening.opening_world}
+use Rattle.ix_core.{specs.Marking.way_of, proofs.Keeping.fresh_is}
 use Rattle.ix_core.proofs.keeper.Core.fresh.Goals as goal
 
 pub returns : goal.returns

@@ -1,6 +1,5 @@
 use Rattle.std.proofs.Common.{arith, subst}
-use Rattle.ix_model.specs.laws.Sound.{Sound}
-use Rattle.ix_model.specs.history.History.{History, world_of}
+use Rattle.ix_model.specs.{laws.Sound.Sound, history.History.{History, world_of}}
 use Rattle.ix_core.proofs.Standing.{entries_are_few, small_journal, sound_core}
 use Rattle.ix_core.proofs.keeper.Core.len.Goals as goal
 

@@ -1,7 +1,5 @@
 use Rattle.std.proofs.Common.{◌≡◌, subst}
-use Rattle.ix_model.specs.history.AuditLog.{audit_log}
-use Rattle.ix_model.specs.history.History.{History, world_of}
-use Rattle.ix_model.specs.opening.Opening.{opening_world}
+use Rattle.ix_model.specs.{history.{AuditLog.audit_log, History.{History, world_of}}, opening.Opening.opening_world}
 use Rattle.ix_core.proofs.Standing.{licensed_lines}
 use Rattle.ix_core.proofs.keeper.Core.log_len.Goals as goal
 

@@ -1,17 +1,10 @@
 use Rattle.std.proofs.Common.{◌≡◌, ◌+◌, ℕ, ap, sym, ◌∙◌, subst, refl, arith, length}
-use Rattle.ix_model.specs.history.Calls.{op_of}
-use Rattle.ix_model.specs.history.Events.{Event}
-use Rattle.ix_model.specs.history.History.{History, world_of, next}
-use Rattle.ix_model.specs.history.Shown.{AreShown}
-use Rattle.ix_model.specs.history.Step.{Given, step, put_front}
-use Rattle.ix_model.specs.laws.Sound.{Sound}
-use Rattle.ix_model.specs.world.World.{World}
-use Rattle.ix_model.specs.declared.reply.Reply.{Reply}
+use Rattle.ix_model.specs.history.{Calls.op_of, Events.Event, History.{History, world_of, next}, Shown.AreShown, Step.{Given, step, put_front}}
+use Rattle.ix_model.specs.{laws.Sound.Sound, world.World.World, declared.reply.Reply.Reply}
 use Rattle.ix_model.proofs.clean.Showing.{shown_step}
 use Rattle.ix_iso.proofs.Noninterference.{noninterference}
 use Rattle.ix_journal.specs.Entries.{Entries, Fits}
-use Rattle.ix_core.specs.Marking.{AreKnown, AreReady, AreTold, IsKept, goes_fresh}
-use Rattle.ix_core.proofs.Keeping.{few_raised, goes_by, marked_known, marked_next}
+use Rattle.ix_core.{specs.Marking.{AreKnown, AreReady, AreTold, IsKept, goes_fresh}, proofs.Keeping.{few_raised, goes_by, marked_known, marked_next}}
 use Rattle.ix_core.proofs.Standing.{answers_alike, entries_are_few, fits_next, gives_next, pids_core, rest_stays, shows, small_journal, sound_core, stands_next}
 use Rattle.ix_core.proofs.keeper.Core.step.Goals as goal
 

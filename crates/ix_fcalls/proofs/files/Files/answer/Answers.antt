@@ -1,10 +1,6 @@
 use Rattle.std.proofs.Common.{sym, subst}
-use Rattle.ix_model.specs.declared.call.Call.{Call}
-use Rattle.ix_model.specs.history.Calls.{op_of}
-use Rattle.ix_model.specs.history.Step.{step}
-use Rattle.ix_fcalls.specs.Around.{world_of}
-use Rattle.ix_fcalls.specs.Filed.{Answers, IsLook}
-use Rattle.ix_fcalls.proofs.Turning.{plain_left}
+use Rattle.ix_model.specs.{declared.call.Call.Call, history.{Calls.op_of, Step.step}}
+use Rattle.ix_fcalls.{specs.{Around.world_of, Filed.{Answers, IsLook}}, proofs.Turning.plain_left}
 use Rattle.ix_fcalls.proofs.files.Files.answer.Goals as goal
 
 pub returns-in-ReadFd-clause-step : goal.returns-in-ReadFd-clause-step

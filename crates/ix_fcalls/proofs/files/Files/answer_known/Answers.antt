@@ -1,12 +1,6 @@
 use Rattle.std.proofs.Common.{sym, subst}
-use Rattle.ix_model.specs.declared.call.Call.{Call}
-use Rattle.ix_model.specs.history.Calls.{op_of}
-use Rattle.ix_model.specs.history.Step.{step}
-use Rattle.ix_fcalls.specs.Around.{frame_of, world_of}
-use Rattle.ix_fcalls.specs.Filed.{Answers}
-use Rattle.ix_fcalls.specs.Moving.{reply_of}
-use Rattle.ix_fcalls.specs.Tested.{IsKnown}
-use Rattle.ix_fcalls.proofs.KnownSteps.{known_left}
+use Rattle.ix_model.specs.{declared.call.Call.Call, history.{Calls.op_of, Step.step}}
+use Rattle.ix_fcalls.{specs.{Around.{frame_of, world_of}, Filed.Answers, Moving.reply_of, Tested.IsKnown}, proofs.KnownSteps.known_left}
 use Rattle.ix_fcalls.proofs.files.Files.answer_known.Goals as goal
 
 pub read_known-requires-clause-known : goal.read_known-requires-clause-known

@@ -1,12 +1,7 @@
 use Rattle.std.proofs.Common.{◌≤◌, sym, subst}
-use Rattle.ix_model.specs.laws.Sound.{Sound}
-use Rattle.ix_model.specs.world.World.{World}
+use Rattle.ix_model.specs.{laws.Sound.Sound, world.World.World, history.{Calls.op_of, Step.step}}
 use Rattle.ix_tables.specs.Parts.{Parts}
-use Rattle.ix_model.specs.history.Calls.{op_of}
-use Rattle.ix_model.specs.history.Step.{step}
-use Rattle.ix_fcalls.specs.Around.{around, with_who, world_of}
-use Rattle.ix_fcalls.proofs.Bare.{counted_parts}
-use Rattle.ix_fcalls.proofs.Turning.{world_there, answers_there, parts_after}
+use Rattle.ix_fcalls.{specs.Around.{around, with_who, world_of}, proofs.{Bare.counted_parts, Turning.{world_there, answers_there, parts_after}}}
 use Rattle.ix_fcalls.proofs.files.Files.call.Goals as goal
 
 pub turn-requires-clause-sound : goal.turn-requires-clause-sound

@@ -1,15 +1,7 @@
 use Rattle.std.proofs.Common.{sym, subst, List, Option}
-use Rattle.ix_model.specs.laws.Sound.{Sound}
-use Rattle.ix_model.specs.world.World.{World, Process}
-use Rattle.ix_model.specs.history.Calls.{op_of}
-use Rattle.ix_model.specs.history.Step.{step}
-use Rattle.ix_fcalls.specs.Around.{around, with_who, world_of}
-use Rattle.ix_fcalls.specs.Counted.{IsCounted}
-use Rattle.ix_fcalls.specs.Filed.{Answers}
-use Rattle.ix_fcalls.specs.Moving.{reply_of}
-use Rattle.ix_fcalls.specs.Tested.{IsKnown}
-use Rattle.ix_fcalls.proofs.Bare.{counted_parts}
-use Rattle.ix_fcalls.proofs.Turning.{world_there, answers_there, parts_after}
+use Rattle.ix_model.specs.{laws.Sound.Sound, world.World.{World, Process}, history.{Calls.op_of, Step.step}}
+use Rattle.ix_fcalls.specs.{Around.{around, with_who, world_of}, Counted.IsCounted, Filed.Answers, Moving.reply_of, Tested.IsKnown}
+use Rattle.ix_fcalls.proofs.{Bare.counted_parts, Turning.{world_there, answers_there, parts_after}}
 use Rattle.ix_fcalls.proofs.files.Files.call_fresh.Goals as goal
 
 pub turn_known-requires-clause-known : goal.turn_known-requires-clause-known

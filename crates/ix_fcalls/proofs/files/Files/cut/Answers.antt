@@ -1,10 +1,5 @@
-use Rattle.std.proofs.Common.{refl, sym, ◌∙◌, nat_lt}
-use Rattle.std.proofs.lemmas.Bool.{ltb-false, or_parts}
-use Rattle.ix_fcalls.specs.Around.{frame_of}
-use Rattle.ix_fcalls.specs.Views.{behind_of}
-use Rattle.ix_fcalls.specs.Telling.{told_of}
-use Rattle.ix_fcalls.proofs.Serving.{serves_found, serves_still}
-use Rattle.ix_fcalls.proofs.Unmoved.{pipe_same}
+use Rattle.std.proofs.{Common.{refl, sym, ◌∙◌, nat_lt}, lemmas.Bool.{ltb-false, or_parts}}
+use Rattle.ix_fcalls.{specs.{Around.frame_of, Views.behind_of, Telling.told_of}, proofs.Serving.{serves_found, serves_still}, proofs.Unmoved.pipe_same}
 use Rattle.ix_fcalls.proofs.CutSteps.{cut_floats, cut_room, answers_cut_none, answers_no_cut, answers_uncut, answers_cut}
 use Rattle.ix_fcalls.proofs.files.Files.cut.Goals as goal
 

@@ -1,12 +1,7 @@
-use Rattle.std.proofs.Common.{◌≡◌, ◌∙◌, ℕ, sym, ap, subst, true, false, slice_set, slice_index_or}
-use Rattle.std.specs.Option.{option_map_or}
-use Rattle.ix_model.specs.world.World.{at, is_file}
-use Rattle.ix_model.specs.world.Contents.{holds_nothing, with_side, cut_to}
-use Rattle.ix_tables.specs.Views.{has_room}
-use Rattle.ix_tables.specs.Parts.{Parts}
-use Rattle.ix_fcalls.proofs.Serving.{serves_file}
-use Rattle.ix_fcalls.proofs.Lengths.{cut_has_room}
-use Rattle.ix_fcalls.proofs.Edits.{edited_frame, edited_counted, cut_short}
+use Rattle.std.{proofs.Common.{◌≡◌, ◌∙◌, ℕ, sym, ap, subst, true, false, slice_set, slice_index_or}, specs.Option.option_map_or}
+use Rattle.ix_model.specs.world.{World.{at, is_file}, Contents.{holds_nothing, with_side, cut_to}}
+use Rattle.ix_tables.specs.{Views.has_room, Parts.Parts}
+use Rattle.ix_fcalls.proofs.{Serving.serves_file, Lengths.cut_has_room, Edits.{edited_frame, edited_counted, cut_short}}
 use Rattle.ix_fcalls.proofs.files.Files.cut_bytes.Goals as goal
 
 -- a file cut to a length

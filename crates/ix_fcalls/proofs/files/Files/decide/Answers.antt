@@ -1,8 +1,6 @@
 use Rattle.std.proofs.Common.{sym, ◌∙◌}
 use Rattle.ix_model.specs.history.Calls.{op_of}
-use Rattle.ix_fcalls.specs.Filed.{lets_go}
-use Rattle.ix_fcalls.specs.Telling.{told_of}
-use Rattle.ix_fcalls.proofs.Deciding.{leaves_raised, leaves_all}
+use Rattle.ix_fcalls.{specs.{Filed.lets_go, Telling.told_of}, proofs.Deciding.{leaves_raised, leaves_all}}
 use Rattle.ix_fcalls.proofs.files.Files.decide.Goals as goal
 
 pub returns-then-keeps_label-clause-content : goal.returns-then-keeps_label-clause-content

@@ -1,8 +1,7 @@
 use Rattle.std.proofs.Common.{◌∙◌, ap, is_some}
 use Rattle.ix_model.specs.world.World.{at}
 use Rattle.ix_tables.specs.Parts.{Parts}
-use Rattle.ix_fcalls.specs.Views.{behind_of}
-use Rattle.ix_fcalls.proofs.GivenUp.{given_up, entry_stands, entry_low}
+use Rattle.ix_fcalls.{specs.Views.behind_of, proofs.GivenUp.{given_up, entry_stands, entry_low}}
 use Rattle.ix_fcalls.proofs.files.Files.give_up.Goals as goal
 
 pub let_go_claim-requires-clause-end : goal.let_go_claim-requires-clause-end

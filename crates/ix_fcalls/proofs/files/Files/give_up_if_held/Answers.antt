@@ -1,9 +1,6 @@
 use Rattle.std.proofs.Common.{sym, subst}
-use Rattle.ix_model.specs.laws.Sound.{Sound}
-use Rattle.ix_model.specs.world.World.{Content}
-use Rattle.ix_fcalls.specs.Around.{frame_of, world_of}
-use Rattle.ix_fcalls.specs.Views.{behind_of}
-use Rattle.ix_fcalls.proofs.Bare.{sound_given_up, nothing_taken}
+use Rattle.ix_model.specs.{laws.Sound.Sound, world.World.Content}
+use Rattle.ix_fcalls.{specs.{Around.{frame_of, world_of}, Views.behind_of}, proofs.Bare.{sound_given_up, nothing_taken}}
 use Rattle.ix_fcalls.proofs.files.Files.give_up_if_held.Goals as goal
 
 pub returns-in-Some-clause-sound : goal.returns-in-Some-clause-sound

@@ -1,6 +1,5 @@
 use Rattle.std.proofs.Common.{◌≡◌, ◌∙◌, true, sym}
-use Rattle.ix_model.specs.rows.Walks.{node}
-use Rattle.ix_model.specs.world.World.{is_pipe}
+use Rattle.ix_model.specs.{rows.Walks.node, world.World.is_pipe}
 use Rattle.ix_tables.specs.Views.{object_by}
 use Rattle.ix_fcalls.proofs.files.Files.has_to_wait.Goals as goal
 

@@ -1,5 +1,4 @@
-use Rattle.ix_fcalls.specs.Views.{behind_of}
-use Rattle.ix_fcalls.proofs.Serving.{low_entry}
+use Rattle.ix_fcalls.{specs.Views.behind_of, proofs.Serving.low_entry}
 use Rattle.ix_fcalls.proofs.files.Files.is_claimed_by_another.Goals as goal
 
 pub claimant-requires-clause-end : goal.claimant-requires-clause-end

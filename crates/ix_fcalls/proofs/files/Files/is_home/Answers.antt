@@ -1,7 +1,6 @@
 use Rattle.std.proofs.Common.{◌∙◌, ◌==◌, ℕ, List, not, length, slice_index_or, ap, arith}
 use Rattle.ix_tables.specs.Parts.{Parts}
-use Rattle.ix_fcalls.proofs.Counting.{homes_long}
-use Rattle.ix_fcalls.proofs.Unnaming.{home_is}
+use Rattle.ix_fcalls.proofs.{Counting.homes_long, Unnaming.home_is}
 use Rattle.ix_fcalls.proofs.files.Files.is_home.Goals as goal
 
 pub is_home-requires : goal.is_home-requires

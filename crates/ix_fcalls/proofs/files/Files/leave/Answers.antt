@@ -1,8 +1,6 @@
 use Rattle.std.proofs.Common.{◌<◌, ◌-◌, length, slice_index_or, slice_set, sym, ap, ◌∙◌, subst}
 use Rattle.ix_tables.specs.Parts.{Parts}
-use Rattle.ix_fcalls.specs.Around.{process_of, with_who}
-use Rattle.ix_fcalls.proofs.Callers.{who_set}
-use Rattle.ix_fcalls.proofs.Bare.{home_within, home_some, left_content, left_counted}
+use Rattle.ix_fcalls.{specs.Around.{process_of, with_who}, proofs.{Callers.who_set, Bare.{home_within, home_some, left_content, left_counted}}}
 use Rattle.ix_fcalls.proofs.files.Files.leave.Goals as goal
 
 pub leave-requires-clause-within : goal.leave-requires-clause-within

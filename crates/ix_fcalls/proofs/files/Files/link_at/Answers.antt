@@ -1,21 +1,11 @@
-use Rattle.std.proofs.Common.{◌≡◌, ◌∙◌, Some, None, true, false, length, nat_lt, refl, sym, ap}
-use Rattle.std.specs.Option.{option_map_or}
-use Rattle.std.proofs.lemmas.Bool.{eq-eqb}
+use Rattle.std.{proofs.{Common.{◌≡◌, ◌∙◌, Some, None, true, false, length, nat_lt, refl, sym, ap}, lemmas.Bool.eq-eqb}, specs.Option.option_map_or}
 use Rattle.ix_label.specs.Category.{Categories}
-use Rattle.ix_model.specs.world.World.{Frame, Object, at, change, is_file}
-use Rattle.ix_model.specs.world.Naming.{last_name}
-use Rattle.ix_model.specs.world.Numbers.{fs_number}
-use Rattle.ix_model.specs.world.Directories.{with_name}
-use Rattle.ix_model.specs.world.Owners.{names_in_all}
-use Rattle.ix_model.specs.rows.Rows.{affect}
-use Rattle.ix_model.specs.rows.Walks.{node, child}
-use Rattle.ix_tables.specs.Parts.{Parts}
-use Rattle.ix_tables.specs.Views.{object_by}
-use Rattle.ix_fcalls.specs.Around.{frame_of}
-use Rattle.ix_fcalls.specs.Views.{sought_of}
-use Rattle.ix_fcalls.proofs.Chaining.{link_is, link_full}
-use Rattle.ix_fcalls.proofs.Leading.{dir_then, absent_then, file_then, dir_still, child_still, link_still, room_still, counted_named, kept_named, no_dir, room_is}
-use Rattle.ix_model.specs.world.Paths.{path_of}
+use Rattle.ix_model.specs.{world.World.{Frame, Object, at, change, is_file}, world.Naming.last_name, world.Numbers.fs_number, world.Directories.with_name}
+use Rattle.ix_model.specs.{world.Owners.names_in_all, world.Paths.path_of, rows.{Rows.affect, Walks.{node, child}}}
+use Rattle.ix_tables.specs.{Parts.Parts, Views.object_by}
+use Rattle.ix_fcalls.{specs.{Around.frame_of, Views.sought_of}, proofs.Chaining.{link_is, link_full}}
+use Rattle.ix_fcalls.proofs.Leading.{dir_then, absent_then, file_then, dir_still, child_still, link_still, room_still, counted_named, kept_named, no_dir}
+use Rattle.ix_fcalls.proofs.Leading.{room_is}
 use Rattle.ix_fcalls.proofs.files.Files.link_at.Goals as goal
 
 pub last_name-requires : goal.last_name-requires

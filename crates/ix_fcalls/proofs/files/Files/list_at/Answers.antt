@@ -1,12 +1,7 @@
 use Rattle.std.proofs.Common.{◌∙◌, sym, ap, slice_get, arith}
-use Rattle.ix_model.specs.world.World.{Object, is_dir}
-use Rattle.ix_model.specs.rows.Walks.{node, nothing}
-use Rattle.ix_model.specs.declared.reply.Kind.{Kind}
-use Rattle.ix_tables.specs.Parts.{Parts}
-use Rattle.ix_tables.specs.Views.{object_by}
-use Rattle.ix_fcalls.specs.Around.{frame_of}
-use Rattle.ix_fcalls.proofs.Chaining.{list_ends, list_is}
-use Rattle.ix_model.specs.world.Paths.{path_of}
+use Rattle.ix_model.specs.{world.{World.{Object, is_dir}, Paths.path_of}, rows.Walks.{node, nothing}, declared.reply.Kind.Kind}
+use Rattle.ix_tables.specs.{Parts.Parts, Views.object_by}
+use Rattle.ix_fcalls.{specs.Around.frame_of, proofs.Chaining.{list_ends, list_is}}
 use Rattle.ix_fcalls.proofs.files.Files.list_at.Goals as goal
 
 pub returns-in_default-name_at-clause-row : goal.returns-in_default-name_at-clause-row

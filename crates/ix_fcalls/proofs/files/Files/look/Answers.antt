@@ -1,5 +1,4 @@
-use Rattle.ix_model.specs.history.Calls.{op_of}
-use Rattle.ix_model.specs.rows.Telling.{nothing_told}
+use Rattle.ix_model.specs.{history.Calls.op_of, rows.Telling.nothing_told}
 use Rattle.ix_fcalls.proofs.LookSteps.{answers_look, tells_file, look_filed}
 use Rattle.ix_fcalls.proofs.files.Files.look.Goals as goal
 

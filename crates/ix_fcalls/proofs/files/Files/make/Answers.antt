@@ -1,19 +1,11 @@
 use Rattle.std.proofs.Common.{◌<◌, ◌∙◌, ℕ, Some, None, length, nat_lt, sym, ap, subst}
 use Rattle.ix_label.specs.Category.{Categories}
-use Rattle.ix_model.specs.world.World.{Frame, Object, at, put, change}
-use Rattle.ix_model.specs.world.Naming.{last_name}
-use Rattle.ix_model.specs.world.Numbers.{fs_number}
-use Rattle.ix_model.specs.world.Directories.{with_name}
-use Rattle.ix_model.specs.world.Owners.{names_in_all}
-use Rattle.ix_model.specs.rows.OnPaths.{new_object}
-use Rattle.ix_model.specs.rows.Rows.{affect}
-use Rattle.ix_model.specs.rows.Walks.{node, child}
-use Rattle.ix_tables.specs.Parts.{Parts}
-use Rattle.ix_tables.specs.Views.{object_by, vacant_inode}
-use Rattle.ix_fcalls.specs.Around.{frame_of}
-use Rattle.ix_fcalls.proofs.Chaining.{make_is}
-use Rattle.ix_fcalls.proofs.Leading.{fs_missing, dir_missing, absent_missing, dir_still, child_still, room_still, fs_still, vacant_still, counted_made, kept_made, free_is, room_is}
-use Rattle.ix_model.specs.world.Paths.{path_of}
+use Rattle.ix_model.specs.{world.World.{Frame, Object, at, put, change}, world.Naming.last_name, world.Numbers.fs_number, world.Directories.with_name}
+use Rattle.ix_model.specs.{world.Owners.names_in_all, world.Paths.path_of, rows.{OnPaths.new_object, Rows.affect, Walks.{node, child}}}
+use Rattle.ix_tables.specs.{Parts.Parts, Views.{object_by, vacant_inode}}
+use Rattle.ix_fcalls.{specs.Around.frame_of, proofs.Chaining.make_is}
+use Rattle.ix_fcalls.proofs.Leading.{fs_missing, dir_missing, absent_missing, dir_still, child_still, room_still, fs_still, vacant_still, counted_made, free_is}
+use Rattle.ix_fcalls.proofs.Leading.{kept_made, room_is}
 use Rattle.ix_fcalls.proofs.files.Files.make.Goals as goal
 
 pub vacant_inode-requires : goal.vacant_inode-requires

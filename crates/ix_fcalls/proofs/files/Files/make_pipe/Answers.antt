@@ -1,18 +1,11 @@
 use Rattle.std.proofs.Common.{◌≡◌, ◌<◌, ◌∙◌, ℕ, [], Option, Some, refl, sym, ap, subst, inl, inr, count_by, is_none, arith}
 use Rattle.std.specs.Option.{option_map_or}
 use Rattle.ix_label.specs.Category.{bottom}
-use Rattle.ix_model.specs.laws.Sound.{Sound}
-use Rattle.ix_model.specs.world.World.{Frame, Process, at, put, living, lowest_free}
-use Rattle.ix_model.specs.rows.Outcomes.{Refuse}
-use Rattle.ix_model.specs.rows.OnDescriptors.{make_pipe}
+use Rattle.ix_model.specs.{laws.Sound.Sound, world.World.{Frame, Process, at, put, living, lowest_free}, rows.{Outcomes.Refuse, OnDescriptors.make_pipe}}
 use Rattle.ix_model.specs.declared.call.Mode.TheVariants as mode
 use Rattle.ix_model.specs.declared.refusal.Refusal.TheVariants as refusal
-use Rattle.ix_tables.specs.Parts.{Parts}
-use Rattle.ix_tables.specs.Views.{vacant_pipe}
-use Rattle.ix_fcalls.specs.Around.{frame_of, world_of, process_of}
-use Rattle.ix_fcalls.specs.Counted.{Keeps}
-use Rattle.ix_fcalls.proofs.Ends.{few_free, kept_made}
-use Rattle.ix_fcalls.proofs.Giving.{free_there}
+use Rattle.ix_tables.specs.{Parts.Parts, Views.vacant_pipe}
+use Rattle.ix_fcalls.{specs.{Around.{frame_of, world_of, process_of}, Counted.Keeps}, proofs.{Ends.{few_free, kept_made}, Giving.free_there}}
 use Rattle.ix_fcalls.proofs.files.Files.make_pipe.Goals as goal
 
 -- with a pipe and both descriptors found, the row refuses where fewer than two entries are free

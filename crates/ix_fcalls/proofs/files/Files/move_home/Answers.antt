@@ -1,7 +1,6 @@
 use Rattle.std.proofs.Common.{◌≡◌, ◌+◌, ◌-◌, ◌<◌, ap, sym, subst, ◌∙◌, length, length-set, slice_set, slice_index_or, arith}
 use Rattle.ix_tables.specs.Parts.{Parts}
-use Rattle.ix_fcalls.proofs.Counting.{homes_long}
-use Rattle.ix_fcalls.proofs.Moving.{is_there, few_left, moved_is, counted_moved}
+use Rattle.ix_fcalls.proofs.{Counting.homes_long, Moving.{is_there, few_left, moved_is, counted_moved}}
 use Rattle.ix_fcalls.proofs.files.Files.move_home.Goals as goal
 
 pub leave-requires-clause-within : goal.leave-requires-clause-within

@@ -1,8 +1,6 @@
 use Rattle.std.proofs.Common.{◌≡◌, subst}
-use Rattle.ix_model.specs.rows.OnPaths.{links_of}
-use Rattle.ix_model.specs.rows.Walks.{node}
-use Rattle.ix_tables.specs.Parts.{Parts}
-use Rattle.ix_tables.specs.Views.{frame_alone, object_by}
+use Rattle.ix_model.specs.rows.{OnPaths.links_of, Walks.node}
+use Rattle.ix_tables.specs.{Parts.Parts, Views.{frame_alone, object_by}}
 use Rattle.ix_fcalls.proofs.files.Files.object_row_at.Goals as goal
 
 pub returns-clause-links : goal.returns-clause-links

@@ -1,7 +1,5 @@
 use Rattle.std.proofs.Common.{refl}
-use Rattle.ix_fcalls.specs.Around.{frame_of, process_of}
-use Rattle.ix_fcalls.proofs.Observing.{looked_in_vain}
-use Rattle.ix_fcalls.proofs.Counting.{counted_relabelled}
+use Rattle.ix_fcalls.{specs.Around.{frame_of, process_of}, proofs.{Observing.looked_in_vain, Counting.counted_relabelled}}
 use Rattle.ix_fcalls.proofs.files.Files.observe.Goals as goal
 
 pub returns-in-Ok-Some-clause-counted : goal.returns-in-Ok-Some-clause-counted

@@ -1,7 +1,6 @@
 use Rattle.std.proofs.Common.{sym, subst}
 use Rattle.ix_tables.specs.Parts.{Parts}
-use Rattle.ix_fcalls.specs.Counted.{IsCounted, IsClear}
-use Rattle.ix_fcalls.proofs.Giving.{counted_opened}
+use Rattle.ix_fcalls.{specs.Counted.{IsCounted, IsClear}, proofs.Giving.counted_opened}
 use Rattle.ix_fcalls.proofs.files.Files.open_under.Goals as goal
 
 pub returns-clause-counted : goal.returns-clause-counted

@@ -1,8 +1,6 @@
 use Rattle.std.proofs.Common.{refl, sym}
-use Rattle.ix_fcalls.specs.Views.{behind_of}
-use Rattle.ix_fcalls.specs.Telling.{told_of}
-use Rattle.ix_fcalls.proofs.Serving.{serves_found, serves_still}
-use Rattle.ix_fcalls.proofs.ReadSteps.{read_floats, read_few, answers_read_none, answers_unread, answers_read}
+use Rattle.ix_fcalls.specs.{Views.behind_of, Telling.told_of}
+use Rattle.ix_fcalls.proofs.{Serving.{serves_found, serves_still}, ReadSteps.{read_floats, read_few, answers_read_none, answers_unread, answers_read}}
 use Rattle.ix_fcalls.proofs.files.Files.read.Goals as goal
 
 pub returns-in_default-clause-step : goal.returns-in_default-clause-step

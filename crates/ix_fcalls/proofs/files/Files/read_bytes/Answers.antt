@@ -1,9 +1,7 @@
 use Rattle.std.proofs.Common.{◌≡◌, ◌+◌, ◌∙◌, sym, ap, subst, true, ℕ, List, length, take, is_some, slice_set, arith}
-use Rattle.ix_model.specs.world.World.{at}
-use Rattle.ix_model.specs.history.Step.{put_front}
+use Rattle.ix_model.specs.{world.World.at, history.Step.put_front}
 use Rattle.ix_tables.specs.Parts.{Parts}
-use Rattle.ix_fcalls.proofs.Serving.{serves_pipe, serves_file}
-use Rattle.ix_fcalls.proofs.Edits.{edited_frame, edited_counted, readable_pipe, readable_file, took, moved_past}
+use Rattle.ix_fcalls.proofs.{Serving.{serves_pipe, serves_file}, Edits.{edited_frame, edited_counted, readable_pipe, readable_file, took, moved_past}}
 use Rattle.ix_fcalls.proofs.files.Files.read_bytes.Goals as goal
 
 pub take_bytes-requires-clause-pipe : goal.take_bytes-requires-clause-pipe

@@ -1,18 +1,10 @@
-use Rattle.std.proofs.Common.{◌∙◌, sym, ap, subst}
-use Rattle.std.proofs.lemmas.Result.{err_from_is_err_and}
+use Rattle.std.proofs.{Common.{◌∙◌, sym, ap, subst}, lemmas.Result.err_from_is_err_and}
 use Rattle.ix_label.specs.Category.{Categories}
-use Rattle.ix_model.specs.rows.Outcomes.{Pass}
-use Rattle.ix_model.specs.rows.Rows.{observe}
-use Rattle.ix_model.specs.rows.Walks.{node}
+use Rattle.ix_model.specs.rows.{Outcomes.Pass, Rows.observe, Walks.node}
 use Rattle.ix_model.specs.declared.reply.Reply.TheVariants as reply
-use Rattle.ix_tables.specs.Views.{object_by}
-use Rattle.ix_tables.specs.Parts.{Parts}
-use Rattle.ix_fcalls.specs.Around.{frame_of, process_of}
-use Rattle.ix_fcalls.specs.Counted.{IsCounted}
-use Rattle.ix_fcalls.specs.Views.{behind_of}
-use Rattle.ix_fcalls.specs.Telling.{told_of}
-use Rattle.ix_fcalls.proofs.Marking.{counted_marked}
-use Rattle.ix_fcalls.proofs.ReadRow.{floats_none, floats_in, read_refused, read_waits, read_passes}
+use Rattle.ix_tables.specs.{Views.object_by, Parts.Parts}
+use Rattle.ix_fcalls.specs.{Around.{frame_of, process_of}, Counted.IsCounted, Views.behind_of, Telling.told_of}
+use Rattle.ix_fcalls.proofs.{Marking.counted_marked, ReadRow.{floats_none, floats_in, read_refused, read_waits, read_passes}}
 use Rattle.ix_fcalls.proofs.files.Files.read_fd.Goals as goal
 
 pub returns-in_err-observe-clause-row : goal.returns-in_err-observe-clause-row

@@ -1,10 +1,7 @@
 use Rattle.std.proofs.Common.{◌∙◌, sym}
 use Rattle.ix_model.specs.rows.Walks.{node}
 use Rattle.ix_tables.specs.Views.{object_by}
-use Rattle.ix_fcalls.specs.Around.{frame_of}
-use Rattle.ix_fcalls.specs.Views.{behind_of}
-use Rattle.ix_fcalls.specs.Telling.{told_of}
-use Rattle.ix_fcalls.proofs.KnownRow.{known_read_waits, known_read_passes}
+use Rattle.ix_fcalls.{specs.{Around.frame_of, Views.behind_of, Telling.told_of}, proofs.KnownRow.{known_read_waits, known_read_passes}}
 use Rattle.ix_fcalls.proofs.files.Files.read_fd_known.Goals as goal
 
 pub returns-then-has_to_wait : goal.returns-then-has_to_wait

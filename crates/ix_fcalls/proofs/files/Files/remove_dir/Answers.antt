@@ -1,23 +1,11 @@
-use Rattle.std.proofs.Common.{◌≡◌, ◌<◌, ◌==◌, ◌∙◌, ℕ, Some, None, true, length, unwrap_or, sym, ap, subst}
-use Rattle.std.proofs.lemmas.Bool.{eqb-true}
-use Rattle.std.proofs.lemmas.List.{nil_from_length}
+use Rattle.std.proofs.{Common.{◌≡◌, ◌<◌, ◌==◌, ◌∙◌, ℕ, Some, None, true, length, unwrap_or, sym, ap, subst}, lemmas.{Bool.eqb-true, List.nil_from_length}}
 use Rattle.ix_label.specs.Category.{Categories}
-use Rattle.ix_model.specs.world.World.{Frame, Object, at, put, change, is_dir}
-use Rattle.ix_model.specs.world.Naming.{last_name}
-use Rattle.ix_model.specs.world.Numbers.{first_inode}
-use Rattle.ix_model.specs.world.Directories.{without_name}
-use Rattle.ix_model.specs.rows.Rows.{affect}
-use Rattle.ix_model.specs.rows.Walks.{node, nothing, child}
-use Rattle.ix_model.specs.declared.reply.Kind.{Kind}
-use Rattle.ix_tables.specs.Parts.{Parts}
-use Rattle.ix_tables.specs.Views.{object_by}
-use Rattle.ix_fcalls.specs.Around.{frame_of}
-use Rattle.ix_fcalls.specs.Views.{spot_of}
-use Rattle.ix_fcalls.proofs.Chaining.{remove_is}
-use Rattle.ix_fcalls.proofs.Leading.{dir_spot, child_spot, processes_spot, dir_still, child_still, fs_of_dir}
+use Rattle.ix_model.specs.{world.World.{Frame, Object, at, put, change, is_dir}, world.Naming.last_name, world.Numbers.first_inode, world.NameRefs.name_of}
+use Rattle.ix_model.specs.{world.Directories.without_name, world.Paths.path_of, rows.{Rows.affect, Walks.{node, nothing, child}}, declared.reply.Kind.Kind}
+use Rattle.ix_tables.specs.{Parts.Parts, Views.object_by}
+use Rattle.ix_fcalls.specs.{Around.frame_of, Views.spot_of}
+use Rattle.ix_fcalls.proofs.{Chaining.remove_is, Leading.{dir_spot, child_spot, processes_spot, dir_still, child_still, fs_of_dir}}
 use Rattle.ix_fcalls.proofs.Unnaming.{counted_left, content_left, processes_seen, processes_twice}
-use Rattle.ix_model.specs.world.NameRefs.{name_of}
-use Rattle.ix_model.specs.world.Paths.{path_of}
 use Rattle.ix_fcalls.proofs.files.Files.remove_dir.Goals as goal
 
 pub is_root-requires : goal.is_root-requires

@@ -1,14 +1,9 @@
-use Rattle.std.proofs.Common.{◌∙◌, sym, ap, subst, option_map}
-use Rattle.std.proofs.lemmas.Bool.{lt-leb, le-leb}
-use Rattle.ix_model.specs.rows.Outcomes.{Pass}
+use Rattle.std.proofs.{Common.{◌∙◌, sym, ap, subst, option_map}, lemmas.Bool.{lt-leb, le-leb}}
+use Rattle.ix_model.specs.{rows.Outcomes.Pass, world.World.at}
 use Rattle.ix_model.specs.declared.reply.Reply.TheVariants as reply
-use Rattle.ix_model.specs.world.World.{at}
 use Rattle.ix_tables.specs.Parts.{Parts}
-use Rattle.ix_fcalls.specs.Around.{frame_of, process_of}
-use Rattle.ix_fcalls.specs.Counted.{IsCounted}
-use Rattle.ix_fcalls.specs.Views.{behind_of}
-use Rattle.ix_fcalls.proofs.Marking.{counted_marked}
-use Rattle.ix_fcalls.proofs.SeekSteps.{seek_pipe, seek_past, seek_passed}
+use Rattle.ix_fcalls.specs.{Around.{frame_of, process_of}, Counted.IsCounted, Views.behind_of}
+use Rattle.ix_fcalls.proofs.{Marking.counted_marked, SeekSteps.{seek_pipe, seek_past, seek_passed}}
 use Rattle.ix_fcalls.proofs.files.Files.seek_fd.Goals as goal
 
 pub returns-then-is_pipe-clause-row : goal.returns-then-is_pipe-clause-row

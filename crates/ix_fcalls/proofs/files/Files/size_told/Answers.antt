@@ -1,11 +1,7 @@
-use Rattle.std.proofs.Common.{◌≡◌, ◌∙◌, sym, ap, subst, true, false, length, slice_index_or}
-use Rattle.std.specs.Option.{option_map_or}
-use Rattle.ix_model.specs.world.World.{at, is_file}
-use Rattle.ix_model.specs.world.Contents.{holds_nothing}
-use Rattle.ix_model.specs.declared.reply.Kind.{Kind}
+use Rattle.std.{proofs.Common.{◌≡◌, ◌∙◌, sym, ap, subst, true, false, length, slice_index_or}, specs.Option.option_map_or}
+use Rattle.ix_model.specs.{world.{World.{at, is_file}, Contents.holds_nothing}, declared.reply.Kind.Kind}
 use Rattle.ix_tables.specs.Parts.{Parts}
-use Rattle.ix_fcalls.specs.Telling.{FileThere, size_told}
-use Rattle.ix_fcalls.proofs.LookSteps.{unsized_kind}
+use Rattle.ix_fcalls.{specs.Telling.{FileThere, size_told}, proofs.LookSteps.unsized_kind}
 use Rattle.ix_fcalls.proofs.files.Files.size_told.Goals as goal
 
 pub size-requires : goal.size-requires

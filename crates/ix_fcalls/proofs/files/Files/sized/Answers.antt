@@ -1,8 +1,7 @@
 use Rattle.std.proofs.Common.{◌∙◌, ℕ, sym, ap, subst}
 use Rattle.ix_model.specs.declared.reply.Reply.{Reply}
 use Rattle.ix_model.specs.declared.reply.Reply.TheVariants as reply
-use Rattle.ix_fcalls.specs.Telling.{TellsOfFile, with_size}
-use Rattle.ix_fcalls.proofs.LookSteps.{unsized}
+use Rattle.ix_fcalls.{specs.Telling.{TellsOfFile, with_size}, proofs.LookSteps.unsized}
 use Rattle.ix_fcalls.proofs.files.Files.sized.Goals as goal
 
 pub size_told-told-requires : goal.size_told-told-requires

@@ -1,9 +1,6 @@
-use Rattle.ix_model.specs.world.World.{Object}
-use Rattle.ix_model.specs.rows.Walks.{node}
+use Rattle.ix_model.specs.{world.{World.Object, Paths.path_of}, rows.Walks.node}
 use Rattle.ix_tables.specs.Views.{object_by}
-use Rattle.ix_fcalls.specs.Around.{frame_of}
-use Rattle.ix_fcalls.proofs.Chaining.{stat_is}
-use Rattle.ix_model.specs.world.Paths.{path_of}
+use Rattle.ix_fcalls.{specs.Around.frame_of, proofs.Chaining.stat_is}
 use Rattle.ix_fcalls.proofs.files.Files.stat_at.Goals as goal
 
 pub returns-clause-row : goal.returns-clause-row

@@ -1,8 +1,6 @@
 use Rattle.std.proofs.Common.{◌<◌, ◌∙◌, ap, sym, subst, length, arith}
 use Rattle.ix_tables.specs.Parts.{Parts}
-use Rattle.ix_fcalls.specs.Counted.{IsCounted}
-use Rattle.ix_fcalls.proofs.Counting.{owners_long, homes_long}
-use Rattle.ix_fcalls.proofs.Sharing.{owners_bounded, homes_bounded, counted_taken}
+use Rattle.ix_fcalls.{specs.Counted.IsCounted, proofs.{Counting.{owners_long, homes_long}, Sharing.{owners_bounded, homes_bounded, counted_taken}}}
 use Rattle.ix_fcalls.proofs.files.Files.take_up.Goals as goal
 
 pub share_all-requires-clause-long : goal.share_all-requires-clause-long

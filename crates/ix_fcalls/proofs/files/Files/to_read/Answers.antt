@@ -1,7 +1,6 @@
 use Rattle.std.proofs.Common.{◌∙◌, sym, ap, option_map}
 use Rattle.ix_model.proofs.words.Standing.{behind_is}
-use Rattle.ix_fcalls.specs.Around.{frame_of}
-use Rattle.ix_fcalls.specs.Views.{behind_of}
+use Rattle.ix_fcalls.specs.{Around.frame_of, Views.behind_of}
 use Rattle.ix_fcalls.proofs.files.Files.to_read.Goals as goal
 
 pub is_claimed_by_another-requires-clause-entry : goal.is_claimed_by_another-requires-clause-entry

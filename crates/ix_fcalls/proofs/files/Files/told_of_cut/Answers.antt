@@ -1,10 +1,7 @@
-use Rattle.std.proofs.Common.{◌≡◌, ◌∙◌, sym, ap, subst, true, false}
-use Rattle.std.specs.Option.{option_map_or}
+use Rattle.std.{proofs.Common.{◌≡◌, ◌∙◌, sym, ap, subst, true, false}, specs.Option.option_map_or}
 use Rattle.ix_model.specs.world.World.{at, is_file}
-use Rattle.ix_tables.specs.Parts.{Parts}
-use Rattle.ix_tables.specs.Views.{has_room}
-use Rattle.ix_fcalls.proofs.Serving.{serves_file}
-use Rattle.ix_fcalls.proofs.Lengths.{told_cut}
+use Rattle.ix_tables.specs.{Parts.Parts, Views.has_room}
+use Rattle.ix_fcalls.proofs.{Serving.serves_file, Lengths.told_cut}
 use Rattle.ix_fcalls.proofs.files.Files.told_of_cut.Goals as goal
 
 pub has_room-room-requires-clause-file : goal.has_room-room-requires-clause-file

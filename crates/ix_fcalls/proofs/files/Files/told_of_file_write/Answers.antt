@@ -1,11 +1,7 @@
-use Rattle.std.proofs.Common.{◌≡◌, ◌≤◌, ◌∙◌, sym, ap, subst, true, false, length, slice_index_or, ℕ}
-use Rattle.std.specs.Option.{option_map_or}
-use Rattle.ix_model.specs.world.World.{at, is_file}
-use Rattle.ix_model.specs.world.Contents.{holds_nothing}
-use Rattle.ix_tables.specs.Parts.{Parts}
-use Rattle.ix_tables.specs.Views.{has_room}
-use Rattle.ix_fcalls.proofs.Serving.{serves_file}
-use Rattle.ix_fcalls.proofs.Lengths.{told_too_big, told_file_write, few_at, ends_at, then_low}
+use Rattle.std.{proofs.Common.{◌≡◌, ◌≤◌, ◌∙◌, sym, ap, subst, true, false, length, slice_index_or, ℕ}, specs.Option.option_map_or}
+use Rattle.ix_model.specs.world.{World.{at, is_file}, Contents.holds_nothing}
+use Rattle.ix_tables.specs.{Parts.Parts, Views.has_room}
+use Rattle.ix_fcalls.proofs.{Serving.serves_file, Lengths.{told_too_big, told_file_write, few_at, ends_at, then_low}}
 use Rattle.ix_fcalls.proofs.files.Files.told_of_file_write.Goals as goal
 
 pub returns-then-is_too_big : goal.returns-then-is_too_big

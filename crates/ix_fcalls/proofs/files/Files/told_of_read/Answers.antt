@@ -1,11 +1,7 @@
-use Rattle.std.proofs.Common.{◌≡◌, ◌∙◌, sym, ap, subst, true, false, length, slice_index_or}
-use Rattle.std.specs.Option.{option_map_or}
-use Rattle.ix_model.specs.world.World.{at, is_pipe, is_file}
-use Rattle.ix_model.specs.world.Contents.{holds_nothing, side}
-use Rattle.ix_model.specs.rows.Walks.{node}
+use Rattle.std.{proofs.Common.{◌≡◌, ◌∙◌, sym, ap, subst, true, false, length, slice_index_or}, specs.Option.option_map_or}
+use Rattle.ix_model.specs.{world.{World.{at, is_pipe, is_file}, Contents.{holds_nothing, side}}, rows.Walks.node}
 use Rattle.ix_tables.specs.Parts.{Parts}
-use Rattle.ix_fcalls.proofs.Serving.{serves_pipe, serves_file}
-use Rattle.ix_fcalls.proofs.Lengths.{told_read_pipe, told_read_file}
+use Rattle.ix_fcalls.proofs.{Serving.{serves_pipe, serves_file}, Lengths.{told_read_pipe, told_read_file}}
 use Rattle.ix_fcalls.proofs.files.Files.told_of_read.Goals as goal
 
 pub left-there-requires-clause-pipe : goal.left-there-requires-clause-pipe

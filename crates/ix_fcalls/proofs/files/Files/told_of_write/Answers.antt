@@ -1,11 +1,7 @@
 use Rattle.std.proofs.Common.{◌≡◌, ◌∙◌, sym, subst, true, length, slice_index_or}
-use Rattle.ix_model.specs.world.World.{is_pipe}
-use Rattle.ix_model.specs.world.Contents.{holds_nothing, side}
-use Rattle.ix_model.specs.rows.Walks.{node}
+use Rattle.ix_model.specs.{world.{World.is_pipe, Contents.{holds_nothing, side}}, rows.Walks.node}
 use Rattle.ix_tables.specs.Parts.{Parts}
-use Rattle.ix_fcalls.specs.Telling.{told_of}
-use Rattle.ix_fcalls.proofs.Serving.{serves_pipe}
-use Rattle.ix_fcalls.proofs.Lengths.{told_write_pipe, told_write_file}
+use Rattle.ix_fcalls.{specs.Telling.told_of, proofs.{Serving.serves_pipe, Lengths.{told_write_pipe, told_write_file}}}
 use Rattle.ix_fcalls.proofs.files.Files.told_of_write.Goals as goal
 
 pub left-there-requires-clause-pipe : goal.left-there-requires-clause-pipe

@@ -1,11 +1,6 @@
 use Rattle.std.proofs.Common.{◌≡◌, ◌∙◌, sym, subst, List, Option}
-use Rattle.ix_model.specs.world.World.{Process}
-use Rattle.ix_model.specs.history.Calls.{op_of}
-use Rattle.ix_model.specs.history.Step.{step}
-use Rattle.ix_fcalls.specs.Around.{world_of, with_who}
-use Rattle.ix_fcalls.specs.Counted.{IsCounted}
-use Rattle.ix_fcalls.specs.Filed.{Answers}
-use Rattle.ix_fcalls.proofs.Callers.{who_set}
+use Rattle.ix_model.specs.{world.World.Process, history.{Calls.op_of, Step.step}}
+use Rattle.ix_fcalls.{specs.{Around.{world_of, with_who}, Counted.IsCounted, Filed.Answers}, proofs.Callers.who_set}
 use Rattle.ix_fcalls.proofs.files.Files.turn.Goals as goal
 
 pub returns-clause-step : goal.returns-clause-step

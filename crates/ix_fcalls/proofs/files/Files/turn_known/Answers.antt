@@ -1,11 +1,6 @@
 use Rattle.std.proofs.Common.{sym, subst, List, Option}
-use Rattle.ix_model.specs.world.World.{Process}
-use Rattle.ix_model.specs.history.Calls.{op_of}
-use Rattle.ix_model.specs.history.Step.{step}
-use Rattle.ix_fcalls.specs.Around.{frame_of, world_of}
-use Rattle.ix_fcalls.specs.Filed.{Answers}
-use Rattle.ix_fcalls.specs.Moving.{reply_of}
-use Rattle.ix_fcalls.specs.Tested.{IsKnown}
+use Rattle.ix_model.specs.{world.World.Process, history.{Calls.op_of, Step.step}}
+use Rattle.ix_fcalls.specs.{Around.{frame_of, world_of}, Filed.Answers, Moving.reply_of, Tested.IsKnown}
 use Rattle.ix_fcalls.proofs.files.Files.turn_known.Goals as goal
 
 pub answer_known-requires-clause-known : goal.answer_known-requires-clause-known

@@ -1,19 +1,10 @@
 use Rattle.std.proofs.Common.{◌≡◌, ◌∙◌, ℕ, List, Some, true, unwrap_or, sym, ap}
 use Rattle.ix_label.specs.Category.{Categories}
-use Rattle.ix_model.specs.world.World.{Frame, Object, at, change, is_file}
-use Rattle.ix_model.specs.world.Naming.{last_name}
-use Rattle.ix_model.specs.world.Directories.{without_name}
-use Rattle.ix_model.specs.rows.Rows.{affect}
-use Rattle.ix_model.specs.rows.Walks.{node, nothing, child}
-use Rattle.ix_tables.specs.Parts.{Parts}
-use Rattle.ix_tables.specs.Views.{object_by, object_let_go}
-use Rattle.ix_fcalls.specs.Around.{frame_of}
-use Rattle.ix_fcalls.specs.Views.{spot_of}
-use Rattle.ix_fcalls.proofs.Chaining.{unlink_is}
+use Rattle.ix_model.specs.world.{World.{Frame, Object, at, change, is_file}, Naming.last_name, Directories.without_name, NameRefs.name_of, Paths.path_of}
+use Rattle.ix_model.specs.rows.{Rows.affect, Walks.{node, nothing, child}}
+use Rattle.ix_tables.specs.{Parts.Parts, Views.{object_by, object_let_go}}
+use Rattle.ix_fcalls.{specs.{Around.frame_of, Views.spot_of}, proofs.Chaining.unlink_is, proofs.Unnaming.{letting_go, counted_left, content_left, let_go_after}}
 use Rattle.ix_fcalls.proofs.Leading.{dir_spot, child_spot, file_spot, processes_spot, dir_still, child_still, file_still, no_dir}
-use Rattle.ix_fcalls.proofs.Unnaming.{letting_go, counted_left, content_left, let_go_after}
-use Rattle.ix_model.specs.world.NameRefs.{name_of}
-use Rattle.ix_model.specs.world.Paths.{path_of}
 use Rattle.ix_fcalls.proofs.files.Files.unlink_at.Goals as goal
 
 pub drop_name-requires-clause-dir : goal.drop_name-requires-clause-dir

@@ -1,8 +1,6 @@
 use Rattle.std.proofs.Common.{◌≡◌, ◌<◌, ◌≤◌, IsSome, length, option_map, None, if◌then◌else◌}
-use Rattle.ix_model.specs.rows.Walks.{walk_from}
-use Rattle.ix_model.specs.world.Paths.{names_left, path_of}
-use Rattle.ix_fcalls.specs.Views.{seen_in}
-use Rattle.ix_fcalls.proofs.Walking.{raised}
+use Rattle.ix_model.specs.{rows.Walks.walk_from, world.Paths.{names_left, path_of}}
+use Rattle.ix_fcalls.{specs.Views.seen_in, proofs.Walking.raised}
 use Rattle.ix_fcalls.proofs.files.Files.walk.Given as goal
 
 abbrev pub invariant-names : goal.invariant-names

@@ -1,8 +1,6 @@
 use Rattle.std.proofs.Common.{refl, sym}
-use Rattle.ix_fcalls.specs.Views.{behind_of}
-use Rattle.ix_fcalls.specs.Telling.{told_of}
-use Rattle.ix_fcalls.proofs.Serving.{serves_found, serves_still}
-use Rattle.ix_fcalls.proofs.WriteSteps.{write_floats, write_room, answers_write_none, answers_unwritten, answers_write}
+use Rattle.ix_fcalls.specs.{Views.behind_of, Telling.told_of}
+use Rattle.ix_fcalls.proofs.{Serving.{serves_found, serves_still}, WriteSteps.{write_floats, write_room, answers_write_none, answers_unwritten, answers_write}}
 use Rattle.ix_fcalls.proofs.files.Files.write.Goals as goal
 
 pub returns-in_default-clause-step : goal.returns-in_default-clause-step

@@ -1,13 +1,8 @@
 use Rattle.std.proofs.Common.{◌≡◌, ◌+◌, ◌-◌, ◌≤◌, ◌∙◌, ◌++◌, ℕ, List, sym, ap, subst, true, false, length, is_some, slice_set, slice_index_or, arith}
 use Rattle.std.specs.Option.{option_map_or}
-use Rattle.ix_model.specs.world.World.{at, is_pipe, is_file}
-use Rattle.ix_model.specs.world.Contents.{holds_nothing, side, with_side, spliced}
-use Rattle.ix_model.specs.rows.Telling.{length_then}
-use Rattle.ix_model.specs.rows.Walks.{node}
-use Rattle.ix_tables.specs.Views.{has_room}
-use Rattle.ix_tables.specs.Parts.{Parts}
-use Rattle.ix_fcalls.proofs.Serving.{serves_pipe, serves_file}
-use Rattle.ix_fcalls.proofs.Lengths.{pipe_room, write_few, write_ends, write_low, write_has_room}
+use Rattle.ix_model.specs.{world.{World.{at, is_pipe, is_file}, Contents.{holds_nothing, side, with_side, spliced}}, rows.{Telling.length_then, Walks.node}}
+use Rattle.ix_tables.specs.{Views.has_room, Parts.Parts}
+use Rattle.ix_fcalls.proofs.{Serving.{serves_pipe, serves_file}, Lengths.{pipe_room, write_few, write_ends, write_low, write_has_room}}
 use Rattle.ix_fcalls.proofs.Edits.{edited_frame, edited_counted, appended, written}
 use Rattle.ix_fcalls.proofs.files.Files.write_bytes.Goals as goal
 

@@ -1,15 +1,9 @@
-use Rattle.std.proofs.Common.{◌∙◌, sym, ap}
-use Rattle.std.proofs.lemmas.Result.{err_from_is_err_and}
-use Rattle.ix_model.specs.rows.Outcomes.{Pass}
-use Rattle.ix_model.specs.rows.Walks.{node}
+use Rattle.std.proofs.{Common.{◌∙◌, sym, ap}, lemmas.Result.err_from_is_err_and}
+use Rattle.ix_model.specs.rows.{Outcomes.Pass, Walks.node}
 use Rattle.ix_model.specs.declared.reply.Reply.TheVariants as reply
-use Rattle.ix_tables.specs.Views.{object_by}
-use Rattle.ix_tables.specs.Parts.{Parts}
-use Rattle.ix_fcalls.specs.Around.{frame_of, process_of}
-use Rattle.ix_fcalls.specs.Views.{behind_of}
-use Rattle.ix_fcalls.specs.Telling.{told_of}
-use Rattle.ix_fcalls.proofs.ReadRow.{floats_none, floats_in}
-use Rattle.ix_fcalls.proofs.WriteRow.{write_refused, write_passes}
+use Rattle.ix_tables.specs.{Views.object_by, Parts.Parts}
+use Rattle.ix_fcalls.specs.{Around.{frame_of, process_of}, Views.behind_of, Telling.told_of}
+use Rattle.ix_fcalls.proofs.{ReadRow.{floats_none, floats_in}, WriteRow.{write_refused, write_passes}}
 use Rattle.ix_fcalls.proofs.files.Files.write_fd.Goals as goal
 
 pub returns-in_err-affect-clause-row : goal.returns-in_err-affect-clause-row

@@ -1,9 +1,6 @@
 use Rattle.ix_model.specs.rows.Walks.{node}
 use Rattle.ix_tables.specs.Views.{object_by}
-use Rattle.ix_fcalls.specs.Around.{frame_of}
-use Rattle.ix_fcalls.specs.Views.{behind_of}
-use Rattle.ix_fcalls.specs.Telling.{told_of}
-use Rattle.ix_fcalls.proofs.KnownRow.{known_write_passes}
+use Rattle.ix_fcalls.{specs.{Around.frame_of, Views.behind_of, Telling.told_of}, proofs.KnownRow.known_write_passes}
 use Rattle.ix_fcalls.proofs.files.Files.write_fd_known.Goals as goal
 
 pub returns : goal.returns

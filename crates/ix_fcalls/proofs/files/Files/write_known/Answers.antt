@@ -1,8 +1,5 @@
 use Rattle.std.proofs.Common.{◌≡◌, ◌∙◌, Some, None, sym}
-use Rattle.ix_fcalls.specs.Views.{behind_of}
-use Rattle.ix_fcalls.specs.Telling.{told_of}
-use Rattle.ix_fcalls.proofs.Serving.{serves_found}
-use Rattle.ix_fcalls.proofs.KnownSteps.{known_room, known_write, known_unwritten}
+use Rattle.ix_fcalls.{specs.{Views.behind_of, Telling.told_of}, proofs.{Serving.serves_found, KnownSteps.{known_room, known_write, known_unwritten}}}
 use Rattle.ix_fcalls.proofs.files.Files.write_known.Goals as goal
 
 pub told_of_write-told-requires : goal.told_of_write-told-requires

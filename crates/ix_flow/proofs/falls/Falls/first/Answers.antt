@@ -1,12 +1,7 @@
-use Rattle.std.proofs.Common.{◌≤◌, ◌-◌, ◌∙◌, ℕ, List, Some, IfSome, is_some, sym, ap, subst, arith}
-use Rattle.std.specs.Prelude.{slice_get}
-use Rattle.std.specs.BTreeMap.Range.{IsEntryInRange, IsLeBy}
-use Rattle.std.specs.Ordering.{nat_cmp}
-use Rattle.std.specs.declared.ops.Bound.TheVariants.{Included}
-use Rattle.std.proofs.lemmas.Map.Keys.{le_from_not_gt}
+use Rattle.std.proofs.{Common.{◌≤◌, ◌-◌, ◌∙◌, ℕ, List, Some, IfSome, is_some, sym, ap, subst, arith}, lemmas.Map.Keys.le_from_not_gt}
+use Rattle.std.specs.{Prelude.slice_get, BTreeMap.Range.{IsEntryInRange, IsLeBy}, Ordering.nat_cmp, declared.ops.Bound.TheVariants.Included}
 use Rattle.ix_model.specs.opening.Opening.{opening_world}
-use Rattle.ix_flow.proofs.FirstFall.{first_noted, none_noted, not_above}
-use Rattle.ix_flow.proofs.Pushing.{none_later}
+use Rattle.ix_flow.proofs.{FirstFall.{first_noted, none_noted, not_above}, Pushing.none_later}
 use Rattle.ix_flow.proofs.falls.Falls.first.Goals as goal
 
 pub returns-then-after-eq4294967295 : goal.returns-then-after-eq4294967295

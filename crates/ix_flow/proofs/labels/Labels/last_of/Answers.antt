@@ -1,5 +1,4 @@
-use Rattle.std.proofs.Common.{◌≡◌, ◌∙◌, true, Some, length, sym, ap, get_or}
-use Rattle.std.proofs.lemmas.Option.{slice_get_read}
+use Rattle.std.proofs.{Common.{◌≡◌, ◌∙◌, true, Some, length, sym, ap, get_or}, lemmas.Option.slice_get_read}
 use Rattle.ix_label.specs.Category.{same}
 use Rattle.ix_flow.proofs.Labelled.{same_is}
 use Rattle.ix_flow.proofs.labels.Labels.last_of.Goals as goal

@@ -1,8 +1,6 @@
 use Rattle.std.proofs.Common.{◌≡◌, ◌≤◌, ◌<◌, ◌∙◌, ℕ, ap, max, subst}
-use Rattle.ix_flow.specs.Sides.{source_in}
+use Rattle.ix_flow.{specs.Sides.source_in, proofs.{Likeness.{appended_like, none_appended}, Sourced.appended_sources}}
 use Rattle.ix_flow.specs.declared.source.Source.TheVariants as source
-use Rattle.ix_flow.proofs.Likeness.{appended_like, none_appended}
-use Rattle.ix_flow.proofs.Sourced.{appended_sources}
 use Rattle.ix_flow.proofs.side.Side.append.Goals as goal
 
 pub returns-then-count-eq0-clause-like : goal.returns-then-count-eq0-clause-like

@@ -1,7 +1,6 @@
 use Rattle.std.proofs.Common.{◌∙◌, sym, ap, arith}
-use Rattle.ix_flow.specs.Sides.{source_in}
+use Rattle.ix_flow.{specs.Sides.source_in, proofs.LastSource.{ascends, insert_before, insert_behind, insert_there, none_same}}
 use Rattle.ix_flow.specs.declared.source.Source.TheVariants as source
-use Rattle.ix_flow.proofs.LastSource.{ascends, insert_before, insert_behind, insert_there, none_same}
 use Rattle.ix_flow.proofs.side.Side.begin.Goals as goal
 
 pub returns-in-Gap-Gap-clause-there : goal.returns-in-Gap-Gap-clause-there

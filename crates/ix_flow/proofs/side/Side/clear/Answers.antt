@@ -1,7 +1,6 @@
 use Rattle.std.proofs.Common.{◌∙◌, sym, ap, subst}
-use Rattle.ix_flow.specs.Sides.{Begins, source_in}
+use Rattle.ix_flow.{specs.Sides.{Begins, source_in}, proofs.LastSource.{ascends, early, remove_before, remove_begins, remove_behind}}
 use Rattle.ix_flow.specs.declared.source.Source.TheVariants as source
-use Rattle.ix_flow.proofs.LastSource.{ascends, early, remove_before, remove_begins, remove_behind}
 use Rattle.ix_flow.proofs.side.Side.clear.Goals as goal
 
 pub loop-number-preserved : goal.loop-number-preserved

@@ -1,7 +1,5 @@
 use Rattle.std.proofs.Common.{◌∙◌, sym, ap, subst, arith}
-use Rattle.ix_flow.specs.Sides.{Begins, source_in}
-use Rattle.ix_flow.specs.declared.side.Side.{Side}
-use Rattle.ix_flow.proofs.side.Side.lay.Goals.{then-to-self+in_ok-split, else-to-self}
+use Rattle.ix_flow.{specs.{Sides.{Begins, source_in}, declared.side.Side.Side}, proofs.side.Side.lay.Goals.{then-to-self+in_ok-split, else-to-self}}
 use Rattle.ix_flow.proofs.side.Side.lay.Goals as goal
 
 pub returns-clause-there : goal.returns-clause-there

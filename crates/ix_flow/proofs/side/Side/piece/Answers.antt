@@ -1,10 +1,6 @@
 use Rattle.std.proofs.Common.{◌≡◌, ◌<◌, ◌+◌, ◌-◌, ◌∷◌, ◌∙◌, ℕ, false, sym, ap, arith}
-use Rattle.ix_flow.specs.Lines.{pieces_from}
-use Rattle.ix_flow.specs.Reads.{between}
-use Rattle.ix_flow.specs.Sides.{origin_at, same_origin, source_in}
-use Rattle.ix_flow.specs.declared.source.Source.{Source}
-use Rattle.ix_flow.proofs.LongestPieces.{longest_piece}
-use Rattle.ix_flow.proofs.side.Side.piece.Goals.{then-loop-until-test+else-same_origin, else-loop-until-test}
+use Rattle.ix_flow.specs.{Lines.pieces_from, Reads.between, Sides.{origin_at, same_origin, source_in}, declared.source.Source.Source}
+use Rattle.ix_flow.proofs.{LongestPieces.longest_piece, side.Side.piece.Goals.{then-loop-until-test+else-same_origin, else-loop-until-test}}
 use Rattle.ix_flow.proofs.side.Side.piece.Goals as goal
 
 pub returns-clause-longest : goal.returns-clause-longest

@@ -1,6 +1,5 @@
 use Rattle.std.proofs.Common.{◌∙◌, refl, sym, ap, subst}
-use Rattle.ix_flow.specs.Sides.{Begins, source_in}
-use Rattle.ix_flow.proofs.LastSource.{ascends, insert_begins, split_same}
+use Rattle.ix_flow.{specs.Sides.{Begins, source_in}, proofs.LastSource.{ascends, insert_begins, split_same}}
 use Rattle.ix_flow.proofs.side.Side.split.Goals as goal
 
 pub returns-in-Ok : goal.returns-in-Ok

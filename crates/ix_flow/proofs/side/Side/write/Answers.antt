@@ -1,8 +1,6 @@
 use Rattle.std.proofs.Common.{◌≡◌, ◌≤◌, ◌<◌, ◌∙◌, ℕ, ap, max, subst}
-use Rattle.ix_flow.specs.Sides.{source_in}
+use Rattle.ix_flow.{specs.Sides.source_in, proofs.{Likeness.{none_written, some, written_like}, Sourced.written_sources}}
 use Rattle.ix_flow.specs.declared.source.Source.TheVariants as source
-use Rattle.ix_flow.proofs.Likeness.{none_written, some, written_like}
-use Rattle.ix_flow.proofs.Sourced.{written_sources}
 use Rattle.ix_flow.proofs.side.Side.write.Goals as goal
 
 pub returns-then-count-eq0-clause-like : goal.returns-then-count-eq0-clause-like

@@ -1,8 +1,6 @@
-use Rattle.std.proofs.Common.{◌∙◌, ◌++◌, true, true≢false, sym, ap, subst}
-use Rattle.std.proofs.lemmas.List.{map-append}
+use Rattle.std.proofs.{Common.{◌∙◌, ◌++◌, true, true≢false, sym, ap, subst}, lemmas.List.map-append}
 use Rattle.ix_model.specs.world.Contents.{held_at, side}
-use Rattle.ix_flow.specs.Origins.{Marked, Written, marked_from, origins_of}
-use Rattle.ix_flow.specs.Sides.{IsLike, numbered}
+use Rattle.ix_flow.specs.{Origins.{Marked, Written, marked_from, origins_of}, Sides.{IsLike, numbered}}
 use Rattle.ix_flow.proofs.SideEdits.{edited_sides, found_tracked, labelled_from, labelled_write, origins_marked}
 use Rattle.ix_flow.proofs.sides.Sides.append.Goals as goal
 

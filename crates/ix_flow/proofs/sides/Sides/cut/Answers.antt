@@ -1,9 +1,7 @@
 use Rattle.std.proofs.Common.{◌∙◌, false, refl, sym, subst}
 use Rattle.ix_model.specs.world.Contents.{held_at, resized, side}
-use Rattle.ix_flow.specs.Origins.{Marked, gap_mark}
-use Rattle.ix_flow.specs.Sides.{IsLike}
-use Rattle.ix_flow.proofs.Mapping.{resized_map}
-use Rattle.ix_flow.proofs.SideEdits.{edited_sides, found_first, found_tracked, labelled_from}
+use Rattle.ix_flow.specs.{Origins.{Marked, gap_mark}, Sides.IsLike}
+use Rattle.ix_flow.proofs.{Mapping.resized_map, SideEdits.{edited_sides, found_first, found_tracked, labelled_from}}
 use Rattle.ix_flow.proofs.sides.Sides.cut.Goals as goal
 
 pub returns : goal.returns

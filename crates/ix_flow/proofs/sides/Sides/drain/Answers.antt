@@ -1,9 +1,6 @@
-use Rattle.std.proofs.Common.{◌∙◌, true, true≢false, drop, subst}
-use Rattle.std.proofs.lemmas.List.{drop-map}
+use Rattle.std.proofs.{Common.{◌∙◌, true, true≢false, drop, subst}, lemmas.List.drop-map}
 use Rattle.ix_model.specs.world.Contents.{held_at, side}
-use Rattle.ix_flow.specs.Origins.{Marked}
-use Rattle.ix_flow.specs.Sides.{IsLike}
-use Rattle.ix_flow.proofs.SideEdits.{edited_sides, found_tracked, labelled_less}
+use Rattle.ix_flow.{specs.{Origins.Marked, Sides.IsLike}, proofs.SideEdits.{edited_sides, found_tracked, labelled_less}}
 use Rattle.ix_flow.proofs.sides.Sides.drain.Goals as goal
 
 pub returns : goal.returns

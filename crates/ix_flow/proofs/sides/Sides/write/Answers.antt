@@ -1,9 +1,7 @@
 use Rattle.std.proofs.Common.{◌∙◌, false, refl, sym, ap, subst}
 use Rattle.ix_model.specs.world.Contents.{held_at, side, written_over}
-use Rattle.ix_flow.specs.Origins.{Gap, Marked, Written, gap_mark, marked_from, origins_of}
-use Rattle.ix_flow.specs.Sides.{IsLike, numbered}
-use Rattle.ix_flow.proofs.Mapping.{over_map}
-use Rattle.ix_flow.proofs.SideEdits.{edited_sides, found_first, found_tracked, labelled_from, labelled_write, origins_marked}
+use Rattle.ix_flow.specs.{Origins.{Gap, Marked, Written, gap_mark, marked_from, origins_of}, Sides.{IsLike, numbered}}
+use Rattle.ix_flow.proofs.{Mapping.over_map, SideEdits.{edited_sides, found_first, found_tracked, labelled_from, labelled_write, origins_marked}}
 use Rattle.ix_flow.proofs.sides.Sides.write.Goals as goal
 
 pub returns : goal.returns

@@ -1,11 +1,8 @@
 use Rattle.std.proofs.Common.{◌∙◌, refl, ap, sym}
 use Rattle.ix_fcalls.specs.Spots.{view_through}
-use Rattle.ix_model.specs.history.History.{History, world_of, with_entry}
+use Rattle.ix_model.specs.history.{History.{History, world_of, with_entry}, Made.entry, Views.size_at}
 use Rattle.ix_model.specs.history.Events as op
-use Rattle.ix_model.specs.history.Made.{entry}
-use Rattle.ix_model.specs.history.Views.{size_at}
-use Rattle.ix_flow.proofs.Arms.{few_then, led, told_then}
-use Rattle.ix_flow.proofs.Claims.{claim_empty, claim_left, claim_none}
+use Rattle.ix_flow.proofs.{Arms.{few_then, led, told_then}, Claims.{claim_empty, claim_left, claim_none}}
 use Rattle.ix_flow.proofs.tracks.Tracks.claim.Goals as goal
 
 pub returns-in_default : goal.returns-in_default

@@ -1,13 +1,8 @@
 use Rattle.std.proofs.Common.{◌∙◌, ℕ, refl, sym, ap}
 use Rattle.ix_model.specs.history.Events as op
-use Rattle.ix_model.specs.history.Events.{Op}
-use Rattle.ix_model.specs.history.Made.{entry}
-use Rattle.ix_model.specs.declared.ids.Pid.{Pid}
+use Rattle.ix_model.specs.{history.{Events.Op, Made.entry}, declared.ids.Pid.Pid}
 use Rattle.ix_model.specs.declared.reply.Reply.TheVariants as reply
-use Rattle.ix_flow.specs.Following.{Follows}
-use Rattle.ix_flow.specs.declared.tracks.Tracks.{Tracks}
-use Rattle.ix_flow.proofs.Arms.{few_then, led}
-use Rattle.ix_flow.proofs.Making.{MakesOne, File, Dir, not_told, told_one}
+use Rattle.ix_flow.{specs.{Following.Follows, declared.tracks.Tracks.Tracks}, proofs.{Arms.{few_then, led}, Making.{MakesOne, File, Dir, not_told, told_one}}}
 use Rattle.ix_flow.proofs.tracks.Tracks.make.Goals as goal
 
 pub returns-in_default : goal.returns-in_default

@@ -1,7 +1,6 @@
 use Rattle.std.proofs.Common.{◌≡◌, length, ℕ, arith, subst}
 use Rattle.ix_model.specs.history.History.{world_of}
-use Rattle.ix_flow.specs.Tracking.{AreOpened}
-use Rattle.ix_flow.proofs.Opened.{opened_all}
+use Rattle.ix_flow.{specs.Tracking.AreOpened, proofs.Opened.opened_all}
 use Rattle.ix_flow.proofs.tracks.Tracks.new.Goals as goal
 
 pub returns : goal.returns

@@ -1,14 +1,8 @@
 use Rattle.std.proofs.Common.{◌≡◌, ◌≤◌, ◌-◌, ◌∙◌, ℕ, Bool, true, false, Option, Some, None, Bor, option_map, drop, if◌then◌else◌, refl, sym, ap, subst}
-use Rattle.ix_model.specs.world.Contents.{on_side}
-use Rattle.ix_model.specs.history.Made.{entry}
+use Rattle.ix_model.specs.{world.Contents.on_side, history.Made.entry}
 use Rattle.ix_model.specs.declared.reply.Reply.TheVariants as reply
-use Rattle.ix_flow.specs.Marks.{marks_of}
-use Rattle.ix_flow.specs.Tracking.{AreSides, HasEnd}
-use Rattle.ix_flow.specs.declared.side.Side.{Side}
-use Rattle.ix_flow.specs.declared.sides.Sides.{Sides}
-use Rattle.ix_flow.specs.declared.tracks.Tracks.{Tracks}
-use Rattle.ix_flow.proofs.ReadFollowed.{followed, has_side, idle, is_opened}
-use Rattle.ix_flow.proofs.tracks.Tracks.read.Goals.{then-piped, else-piped}
+use Rattle.ix_flow.specs.{Marks.marks_of, Tracking.{AreSides, HasEnd}, declared.{side.Side.Side, sides.Sides.Sides, tracks.Tracks.Tracks}}
+use Rattle.ix_flow.proofs.{ReadFollowed.{followed, has_side, idle, is_opened}, tracks.Tracks.read.Goals.{then-piped, else-piped}}
 use Rattle.ix_flow.proofs.tracks.Tracks.read.Goals as goal
 
 none_given : (count k : ℕ) → count ≡ 0 → reply.Bytes count ≡ reply.Bytes k → k ≡ 0

@@ -1,13 +1,8 @@
-use Rattle.std.proofs.Common.{◌∙◌, false, [], ◌∷◌, length, refl, sym, ap, arith}
-use Rattle.std.specs.Option.{option_map_or}
-use Rattle.std.proofs.lemmas.List.{length-append}
+use Rattle.std.{proofs.{Common.{◌∙◌, false, [], ◌∷◌, length, refl, sym, ap, arith}, lemmas.List.length-append}, specs.Option.option_map_or}
 use Rattle.ix_fcalls.specs.Spots.{view_through}
-use Rattle.ix_model.specs.history.History.{History, world_of, with_entry}
+use Rattle.ix_model.specs.{history.{History.{History, world_of, with_entry}, Made.entry}, world.World.{at, is_pipe}}
 use Rattle.ix_model.specs.history.Events as op
-use Rattle.ix_model.specs.history.Made.{entry}
-use Rattle.ix_model.specs.world.World.{at, is_pipe}
-use Rattle.ix_flow.proofs.Arms.{few_then, led, shown_then, told_then}
-use Rattle.ix_flow.proofs.Writes.{write_living, write_opened, write_refused, write_to_file, write_to_pipe}
+use Rattle.ix_flow.proofs.{Arms.{few_then, led, shown_then, told_then}, Writes.{write_living, write_opened, write_refused, write_to_file, write_to_pipe}}
 use Rattle.ix_flow.proofs.tracks.Tracks.write.Goals as goal
 
 pub returns-in_default : goal.returns-in_default

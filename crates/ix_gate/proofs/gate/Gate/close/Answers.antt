@@ -1,8 +1,5 @@
-use Rattle.std.proofs.Common.{◌≡◌, Some, refl, ap, sym, ◌∙◌, subst, arith, IsSome}
-use Rattle.std.specs.Prelude.{All}
-use Rattle.ix_gate.specs.Gate.{GateState}
-use Rattle.ix_gate.specs.Seat.{StandsFor}
-use Rattle.ix_gate.proofs.Closing.{closes}
+use Rattle.std.{proofs.Common.{◌≡◌, Some, refl, ap, sym, ◌∙◌, subst, arith, IsSome}, specs.Prelude.All}
+use Rattle.ix_gate.{specs.{Gate.GateState, Seat.StandsFor}, proofs.Closing.closes}
 use Rattle.ix_gate.proofs.gate.Gate.close.Goals as goal
 
 pub unwrap-machine-requires : goal.unwrap-machine-requires

@@ -1,11 +1,7 @@
 use Rattle.std.proofs.Common.{rules, ◌≡◌, ◌+◌, [], ◌∷◌, Some, ap, sym, ◌∙◌, subst}
 use Rattle.atomic_table.specs.Table.{opening}
-use Rattle.ix_gate.specs.declared.view.Role.TheVariants.{Next}
-use Rattle.ix_gate.specs.View.{fresh, first_view}
-use Rattle.ix_gate.specs.Rule.{Obeys}
-use Rattle.ix_gate.specs.Seat.{new_seat}
-use Rattle.ix_gate.proofs.Numbering.{opening_obeys}
-use Rattle.ix_gate.proofs.Filled.{filled}
+use Rattle.ix_gate.specs.{declared.view.Role.TheVariants.Next, View.{fresh, first_view}, Rule.Obeys, Seat.new_seat}
+use Rattle.ix_gate.proofs.{Numbering.opening_obeys, Filled.filled}
 use Rattle.ix_gate.proofs.gate.Gate.new.Goals as goal
 
 pub new-requires : goal.new-requires

@@ -1,7 +1,5 @@
 use Rattle.std.proofs.Common.{◌≡◌, ℕ, ◌<◌, [], Some, slice_get, vec_len, vec_capacity}
-use Rattle.ix_gate.specs.declared.view.Role.TheVariants.{Next}
-use Rattle.ix_gate.specs.View.{fresh}
-use Rattle.ix_gate.specs.Seat.{new_seat}
+use Rattle.ix_gate.specs.{declared.view.Role.TheVariants.Next, View.fresh, Seat.new_seat}
 use Rattle.ix_gate.proofs.gate.Gate.new.Given as goal
 
 abbrev pub invariant-loop-number : goal.invariant-loop-number

@@ -1,8 +1,6 @@
 use Rattle.std.proofs.Common.{rules, ℕ, ◌∷◌, Some, ap, sym, ◌∙◌, subst}
 use Rattle.atomic_table.specs.Table.{rest}
-use Rattle.ix_gate.specs.History.{Grows}
-use Rattle.ix_gate.proofs.Passing.{pass_on_allowed}
-use Rattle.ix_gate.proofs.Resting.{holds_of, at_rest_after_give}
+use Rattle.ix_gate.{specs.History.Grows, proofs.{Passing.pass_on_allowed, Resting.{holds_of, at_rest_after_give}}}
 use Rattle.ix_gate.proofs.seat.Seat.give.Goals as goal
 
 pub fetch_add-requires : goal.fetch_add-requires

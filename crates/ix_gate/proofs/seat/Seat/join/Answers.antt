@@ -1,9 +1,6 @@
 use Rattle.std.proofs.Common.{rules, ◌≤◌, length, refl, ap, sym, ◌∙◌, subst}
-use Rattle.ix_gate.specs.View.{with_seat, IsServed}
-use Rattle.ix_gate.specs.Seat.{LearnsServed}
-use Rattle.ix_gate.proofs.Looking.{free_look_allowed}
-use Rattle.ix_gate.proofs.Meeting.{end_allowed}
-use Rattle.ix_gate.proofs.Resting.{idle_of, at_rest_after_look, learns}
+use Rattle.ix_gate.specs.{View.{with_seat, IsServed}, Seat.LearnsServed}
+use Rattle.ix_gate.proofs.{Looking.free_look_allowed, Meeting.end_allowed, Resting.{idle_of, at_rest_after_look, learns}}
 use Rattle.ix_gate.proofs.seat.Seat.join.Goals as goal
 
 pub join_seat-requires : goal.join_seat-requires

@@ -1,10 +1,6 @@
 use Rattle.std.proofs.Common.{rules, ◌≤◌, length, refl, ap, sym, ◌∙◌, subst}
-use Rattle.ix_gate.specs.AtRest.{IsAtRest}
-use Rattle.ix_gate.specs.View.{with_note, IsServed}
-use Rattle.ix_gate.specs.Seat.{LearnsServed}
-use Rattle.ix_gate.proofs.Looking.{free_look_allowed}
-use Rattle.ix_gate.proofs.Meeting.{note_allowed, take_note_allowed}
-use Rattle.ix_gate.proofs.Resting.{idle_of, at_rest_after_look, learns}
+use Rattle.ix_gate.specs.{AtRest.IsAtRest, View.{with_note, IsServed}, Seat.LearnsServed}
+use Rattle.ix_gate.proofs.{Looking.free_look_allowed, Meeting.{note_allowed, take_note_allowed}, Resting.{idle_of, at_rest_after_look, learns}}
 use Rattle.ix_gate.proofs.seat.Seat.meet.Goals as goal
 
 pub split_seat-note-requires : goal.split_seat-note-requires

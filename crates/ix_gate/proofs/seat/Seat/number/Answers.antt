@@ -1,6 +1,5 @@
 use Rattle.std.proofs.Common.{subst}
-use Rattle.ix_gate.specs.History.{KeepsEnded}
-use Rattle.ix_gate.specs.Seat.{SeatState}
+use Rattle.ix_gate.specs.{History.KeepsEnded, Seat.SeatState}
 use Rattle.ix_gate.proofs.seat.Seat.number.Goals as goal
 
 pub returns-clause-ended : goal.returns-clause-ended

@@ -1,8 +1,5 @@
 use Rattle.std.proofs.Common.{rules, ap, sym, ◌∙◌, arith, subst}
-use Rattle.ix_gate.specs.History.{KeepsEnded}
-use Rattle.ix_gate.specs.Seat.{LearnsServed}
-use Rattle.ix_gate.proofs.Drawing.{draw_allowed}
-use Rattle.ix_gate.proofs.Resting.{idle_of, at_rest_after_take, learns}
+use Rattle.ix_gate.{specs.{History.KeepsEnded, Seat.LearnsServed}, proofs.{Drawing.draw_allowed, Resting.{idle_of, at_rest_after_take, learns}}}
 use Rattle.ix_gate.proofs.seat.Seat.take.Goals as goal
 
 pub fetch_add-ticket-requires : goal.fetch_add-ticket-requires

@@ -1,11 +1,7 @@
 use Rattle.std.proofs.Common.{rules, ◌∷◌, Some, refl, ap, sym, ◌∙◌, subst, arith}
-use Rattle.ix_gate.specs.History.{KeepsEnded}
-use Rattle.ix_gate.specs.Seat.{LearnsServed}
-use Rattle.atomic_table.specs.Table.{rest}
-use Rattle.ix_gate.specs.View.{with_ticket}
-use Rattle.ix_gate.proofs.Looking.{free_look_allowed}
-use Rattle.ix_gate.proofs.Trying.{try_draw_allowed}
+use Rattle.ix_gate.{specs.{History.KeepsEnded, Seat.LearnsServed, View.with_ticket}, proofs.Looking.free_look_allowed, proofs.Trying.try_draw_allowed}
 use Rattle.ix_gate.proofs.Resting.{idle_of, at_rest_after_look, at_rest_after_miss, at_rest_after_take, taking_at_once, learns}
+use Rattle.atomic_table.specs.Table.{rest}
 use Rattle.ix_gate.proofs.seat.Seat.try_take.Goals as goal
 
 pub load-serving-requires : goal.load-serving-requires

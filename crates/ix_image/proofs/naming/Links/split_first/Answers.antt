@@ -1,8 +1,5 @@
-use Rattle.std.proofs.Common.{◌≡◌, ℕ, true, ◌-◌, ap, sym, subst, ◌∙◌}
-use Rattle.std.specs.Result.{is_ok}
-use Rattle.ix_image.specs.Reading.{links_at}
-use Rattle.ix_image.specs.Meant.{link_of, links_read}
-use Rattle.ix_image.proofs.Walking.{none_read, no_fault, one_less, splits}
+use Rattle.std.{proofs.Common.{◌≡◌, ℕ, true, ◌-◌, ap, sym, subst, ◌∙◌}, specs.Result.is_ok}
+use Rattle.ix_image.{specs.{Reading.links_at, Meant.{link_of, links_read}}, proofs.Walking.{none_read, no_fault, one_less, splits}}
 use Rattle.ix_image.proofs.naming.Links.split_first.Goals as goal
 
 pub returns-then-self-eq0 : goal.returns-then-self-eq0

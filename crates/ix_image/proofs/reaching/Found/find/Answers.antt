@@ -1,13 +1,8 @@
-use Rattle.std.proofs.Common.{◌≡◌, ℕ, true, false, List, [], ◌∷◌, set, sym, ap, subst, ◌∙◌, arith, rules}
-use Rattle.std.proofs.lemmas.List.{length-map}
-use Rattle.std.proofs.lemmas.Bool.{true≢false}
-use Rattle.ix_image.specs.Trees.{is_directory}
-use Rattle.ix_image.specs.Found.{marked, Finds}
-use Rattle.ix_image.specs.Meant.{node_of, nodes_of}
-use Rattle.ix_image.proofs.Placing.{at_low, got_node, number_here, not_of_number, same_place}
-use Rattle.ix_image.proofs.Searching.{finds_no_more, finds_one, got_mark}
-use Rattle.ix_image.proofs.reaching.Found.find.Goals as goal
+use Rattle.std.proofs.{Common.{◌≡◌, ℕ, true, false, List, [], ◌∷◌, set, sym, ap, subst, ◌∙◌, arith, rules}, lemmas.{List.length-map, Bool.true≢false}}
+use Rattle.ix_image.specs.{Trees.is_directory, Found.{marked, Finds}, Meant.{node_of, nodes_of}}
+use Rattle.ix_image.proofs.{Placing.{at_low, got_node, number_here, not_of_number, same_place}, Searching.{finds_no_more, finds_one, got_mark}}
 use Rattle.ix_image.proofs.reaching.Found.find.Goals.{then-index-via-then-index, then-index-via-else-index+then-not-is_dir}
+use Rattle.ix_image.proofs.reaching.Found.find.Goals as goal
 
 pub returns-in_default : goal.returns-in_default
 returns-in_default c = finds_no_more (nodes_of c.args.nodes.now) c.args.number c.args.self.now.marks.items c.args.self.now.places.items

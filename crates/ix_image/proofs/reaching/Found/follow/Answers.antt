@@ -1,6 +1,5 @@
 use Rattle.std.proofs.Common.{◌∙◌}
-use Rattle.ix_image.specs.Meant.{link_of, links_in, nodes_of}
-use Rattle.ix_image.proofs.Searching.{finds_begin, finds_more, finds_end}
+use Rattle.ix_image.{specs.Meant.{link_of, links_in, nodes_of}, proofs.Searching.{finds_begin, finds_more, finds_end}}
 use Rattle.ix_image.proofs.reaching.Found.follow.Goals as goal
 
 pub links-init : goal.links-init

@@ -1,6 +1,5 @@
 use Rattle.std.proofs.Common.{length}
-use Rattle.ix_image.specs.Meant.{links_in, nodes_of}
-use Rattle.ix_image.proofs.Searching.{FindsSoFar}
+use Rattle.ix_image.{specs.Meant.{links_in, nodes_of}, proofs.Searching.FindsSoFar}
 use Rattle.ix_image.proofs.reaching.Found.follow.Given as goal
 
 abbrev pub invariant-links : goal.invariant-links

@@ -1,10 +1,6 @@
-use Rattle.std.proofs.Common.{[], length, refl, sym, ap, ◌∙◌}
-use Rattle.std.proofs.lemmas.Bool.{ltb-false}
-use Rattle.std.proofs.lemmas.List.{append-nil}
-use Rattle.ix_image.specs.Trees.{TreeOf}
-use Rattle.ix_image.specs.Lines.{file_system_line}
+use Rattle.std.proofs.{Common.{[], length, refl, sym, ap, ◌∙◌}, lemmas.{Bool.ltb-false, List.append-nil}}
+use Rattle.ix_image.{specs.{Trees.TreeOf, Lines.file_system_line}, proofs.Told.{tells, systems_end, systems_on}}
 use Rattle.ix_image.specs.declared.telling.Next.TheVariants as next
-use Rattle.ix_image.proofs.Told.{tells, systems_end, systems_on}
 use Rattle.ix_image.proofs.telling.Listing.tell_file_system.Goals as goal
 
 pub returns-in_default-clause-ok : goal.returns-in_default-clause-ok

@@ -1,9 +1,6 @@
-use Rattle.std.proofs.Common.{[], refl, sym}
-use Rattle.std.proofs.lemmas.List.{append-nil}
-use Rattle.ix_image.specs.Lines.{link_line}
-use Rattle.ix_image.specs.Meant.{link_of}
+use Rattle.std.proofs.{Common.{[], refl, sym}, lemmas.List.append-nil}
+use Rattle.ix_image.{specs.{Lines.link_line, Meant.link_of}, proofs.Told.{tells, names_end, names_on}}
 use Rattle.ix_image.specs.declared.telling.Next.TheVariants as next
-use Rattle.ix_image.proofs.Told.{tells, names_end, names_on}
 use Rattle.ix_image.proofs.telling.Listing.tell_name.Goals as goal
 
 pub returns-in_default-clause-ok : goal.returns-in_default-clause-ok

@@ -1,11 +1,7 @@
-use Rattle.std.proofs.Common.{List, length, refl, sym, ap, ◌∙◌}
-use Rattle.std.proofs.lemmas.Bool.{ltb-false}
-use Rattle.ix_image.specs.declared.node.Node.{Node}
-use Rattle.ix_image.specs.Trees.{TreeOf}
-use Rattle.ix_image.specs.Lines.{node_line, end_line}
-use Rattle.ix_image.specs.Meant.{node_of, nodes_of}
-use Rattle.ix_image.specs.declared.telling.Next.TheVariants as next
+use Rattle.std.proofs.{Common.{List, length, refl, sym, ap, ◌∙◌}, lemmas.Bool.ltb-false}
+use Rattle.ix_image.specs.{declared.node.Node.Node, Trees.TreeOf, Lines.{node_line, end_line}, Meant.{node_of, nodes_of}}
 use Rattle.ix_image.proofs.Told.{tells, objects_end, objects_on}
+use Rattle.ix_image.specs.declared.telling.Next.TheVariants as next
 use Rattle.ix_image.proofs.telling.Listing.tell_object.Goals as goal
 
 pub returns-in_default-clause-ok : goal.returns-in_default-clause-ok

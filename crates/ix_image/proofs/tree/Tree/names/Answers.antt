@@ -1,9 +1,5 @@
 use Rattle.std.proofs.Common.{List, length, sym, ap, subst, ◌∙◌, arith}
-use Rattle.ix_image.specs.declared.node.Node.{Node}
-use Rattle.ix_image.specs.Trees.{LinkOf}
-use Rattle.ix_image.specs.Image.{IsTree}
-use Rattle.ix_image.specs.Meant.{tree_made}
-use Rattle.ix_image.proofs.Amounts.{names_step}
+use Rattle.ix_image.{specs.{declared.node.Node.Node, Trees.LinkOf, Image.IsTree, Meant.tree_made}, proofs.Amounts.names_step}
 use Rattle.ix_image.proofs.tree.Tree.names.Goals as goal
 
 pub overflow_add-all : goal.overflow_add-all

@@ -1,6 +1,5 @@
 use Rattle.std.proofs.Common.{◌≡◌, ◌*◌, ◌≤◌, take}
-use Rattle.ix_image.specs.Lines.{names_in}
-use Rattle.ix_image.specs.Meant.{nodes_of}
+use Rattle.ix_image.specs.{Lines.names_in, Meant.nodes_of}
 use Rattle.ix_image.proofs.tree.Tree.names.Given as goal
 
 abbrev pub invariant-loop-node : goal.invariant-loop-node

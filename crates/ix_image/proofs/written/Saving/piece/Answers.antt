@@ -1,8 +1,6 @@
 use Rattle.std.proofs.Common.{◌≡◌, ap, arith}
 use Rattle.ix_model.specs.history.History.{world_of}
-use Rattle.ix_image.specs.declared.part.Part.{Part}
-use Rattle.ix_image.specs.Saving.{pieces_left}
-use Rattle.ix_image.specs.Written.{pieces_of}
+use Rattle.ix_image.specs.{declared.part.Part.Part, Saving.pieces_left, Written.pieces_of}
 use Rattle.ix_image.proofs.written.Saving.piece.Goals as goal
 
 pub returns-in-End-clause-text : goal.returns-in-End-clause-text

@@ -1,10 +1,7 @@
 use Rattle.std.proofs.Common.{◌≡◌, ◌∙◌, Bool, true, is_some, Result, Ok, Err, if◌then◌else◌, sym, ap}
-use Rattle.ix_model.specs.world.World.{at}
-use Rattle.ix_model.specs.world.Contents.{cut_to}
-use Rattle.ix_blocks.specs.Files.{bytes_of, has_room}
-use Rattle.ix_blocks.specs.declared.blocks.NoSpace.{NoSpace}
-use Rattle.ix_inode.specs.Nodes.{bytes_at, has_space, holding}
-use Rattle.ix_inode.specs.Volumes.{IsSpot}
+use Rattle.ix_model.specs.world.{World.at, Contents.cut_to}
+use Rattle.ix_blocks.specs.{Files.{bytes_of, has_room}, declared.blocks.NoSpace.NoSpace}
+use Rattle.ix_inode.specs.{Nodes.{bytes_at, has_space, holding}, Volumes.IsSpot}
 use Rattle.ix_inode.proofs.Laid.{view_bytes, view_space, view_held, laid_held, lives_here, file_lives}
 use Rattle.ix_inode.proofs.inodes.Inodes.cut.Goals as goal
 

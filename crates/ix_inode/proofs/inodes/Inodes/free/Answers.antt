@@ -1,5 +1,4 @@
-use Rattle.ix_inode.specs.Volumes.{IsSpot}
-use Rattle.ix_inode.proofs.Laid.{lives_here, files_there, view_gone, laid_gone}
+use Rattle.ix_inode.{specs.Volumes.IsSpot, proofs.Laid.{lives_here, files_there, view_gone, laid_gone}}
 use Rattle.ix_inode.proofs.inodes.Inodes.free.Goals as goal
 
 pub release-requires-clause-lives : goal.release-requires-clause-lives

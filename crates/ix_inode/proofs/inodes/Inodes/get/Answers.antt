@@ -1,10 +1,6 @@
 use Rattle.std.proofs.Common.{◌≡◌, ◌∙◌, ℕ, Some, sym, ap, option_map}
 use Rattle.ix_label.specs.Category.{leq}
-use Rattle.ix_inode.specs.Shown.{told}
-use Rattle.ix_inode.specs.Nodes.{told_at}
-use Rattle.ix_inode.specs.Volumes.{IsSpot, nodes_of}
-use Rattle.ix_inode.specs.declared.node.Inode.{Inode}
-use Rattle.ix_inode.proofs.Laid.{view_at, view_told, below_spec}
+use Rattle.ix_inode.{specs.{Shown.told, Nodes.told_at, Volumes.{IsSpot, nodes_of}, declared.node.Inode.Inode}, proofs.Laid.{view_at, view_told, below_spec}}
 use Rattle.ix_inode.proofs.inodes.Inodes.get.Goals as goal
 
 pub returns-in_err-node-clause-told : goal.returns-in_err-node-clause-told

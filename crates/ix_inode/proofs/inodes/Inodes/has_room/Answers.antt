@@ -1,9 +1,7 @@
 use Rattle.std.proofs.Common.{◌≡◌, ◌∙◌, true, is_some, ap}
 use Rattle.ix_model.specs.world.World.{at}
 use Rattle.ix_blocks.specs.Files.{has_room}
-use Rattle.ix_inode.specs.Nodes.{has_space}
-use Rattle.ix_inode.specs.Volumes.{IsSpot}
-use Rattle.ix_inode.proofs.Laid.{view_space, lives_here, file_lives}
+use Rattle.ix_inode.{specs.{Nodes.has_space, Volumes.IsSpot}, proofs.Laid.{view_space, lives_here, file_lives}}
 use Rattle.ix_inode.proofs.inodes.Inodes.has_room.Goals as goal
 
 pub returns : goal.returns

@@ -1,9 +1,6 @@
 use Rattle.std.proofs.Common.{◌≡◌, ◌+◌, ℕ, Option, option_map, sym, ap, subst}
 use Rattle.ix_model.specs.world.World.{fs_at}
-use Rattle.ix_inode.specs.declared.node.Node.{Node}
-use Rattle.ix_inode.specs.Nodes.{Nodes, blocks_of, free_blocks}
-use Rattle.ix_inode.specs.Volumes.{IsSpot, nodes_of}
-use Rattle.ix_inode.proofs.Laid.{view_counted, fs_here}
+use Rattle.ix_inode.{specs.{declared.node.Node.Node, Nodes.{Nodes, blocks_of, free_blocks}, Volumes.{IsSpot, nodes_of}}, proofs.Laid.{view_counted, fs_here}}
 use Rattle.ix_inode.proofs.inodes.Inodes.lemma_blocks_add_up.Goals as goal
 
 pub returns : goal.returns

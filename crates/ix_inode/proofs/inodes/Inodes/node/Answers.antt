@@ -1,6 +1,5 @@
 use Rattle.std.proofs.Common.{◌∙◌}
-use Rattle.ix_inode.specs.Volumes.{IsSpot}
-use Rattle.ix_inode.proofs.Laid.{lives_here, view_at, below_here}
+use Rattle.ix_inode.{specs.Volumes.IsSpot, proofs.Laid.{lives_here, view_at, below_here}}
 use Rattle.ix_inode.proofs.inodes.Inodes.node.Goals as goal
 
 pub node-requires : goal.node-requires

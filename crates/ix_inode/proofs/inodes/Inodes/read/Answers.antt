@@ -1,8 +1,6 @@
 use Rattle.std.proofs.Common.{◌≡◌, ◌++◌, ◌∙◌, ℕ, List, length, take, drop, min, sym, ap}
 use Rattle.ix_blocks.specs.Files.{bytes_of}
-use Rattle.ix_inode.specs.Nodes.{bytes_at}
-use Rattle.ix_inode.specs.Volumes.{IsSpot}
-use Rattle.ix_inode.proofs.Laid.{view_bytes}
+use Rattle.ix_inode.{specs.{Nodes.bytes_at, Volumes.IsSpot}, proofs.Laid.view_bytes}
 use Rattle.ix_inode.proofs.inodes.Inodes.read.Goals as goal
 
 pub returns-clause-count : goal.returns-clause-count

@@ -1,7 +1,6 @@
 use Rattle.std.proofs.Common.{◌≡◌, true, ◌∙◌, sym, ap, subst}
 use Rattle.ix_label.specs.Category.{leq}
-use Rattle.ix_inode.specs.Nodes.{Nodes, fs_ceiling}
-use Rattle.ix_inode.specs.Volumes.{IsSpot, nodes_of}
+use Rattle.ix_inode.specs.{Nodes.{Nodes, fs_ceiling}, Volumes.{IsSpot, nodes_of}}
 use Rattle.ix_inode.proofs.Laid.{lives_here, lives_by, fs_here, view_node, view_ceiling, laid_node}
 use Rattle.ix_inode.proofs.inodes.Inodes.set.Goals as goal
 

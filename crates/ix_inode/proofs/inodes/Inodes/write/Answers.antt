@@ -1,11 +1,7 @@
 use Rattle.std.proofs.Common.{◌≡◌, ◌≤◌, ◌∙◌, ℕ, Bool, true, List, length, is_some, Result, Ok, Err, if◌then◌else◌, sym, ap, subst}
-use Rattle.ix_model.specs.world.World.{at}
-use Rattle.ix_model.specs.world.Contents.{spliced}
-use Rattle.ix_model.specs.rows.Telling.{length_then}
-use Rattle.ix_blocks.specs.Files.{bytes_of, has_room, most}
-use Rattle.ix_blocks.specs.declared.blocks.NoSpace.{NoSpace}
-use Rattle.ix_inode.specs.Nodes.{bytes_at, has_space, holding, length_after}
-use Rattle.ix_inode.specs.Volumes.{IsSpot}
+use Rattle.ix_model.specs.{world.{World.at, Contents.spliced}, rows.Telling.length_then}
+use Rattle.ix_blocks.specs.{Files.{bytes_of, has_room, most}, declared.blocks.NoSpace.NoSpace}
+use Rattle.ix_inode.specs.{Nodes.{bytes_at, has_space, holding, length_after}, Volumes.IsSpot}
 use Rattle.ix_inode.proofs.Laid.{view_bytes, view_space, view_held, laid_held, lives_here, file_lives}
 use Rattle.ix_inode.proofs.inodes.Inodes.write.Goals as goal
 

@@ -1,7 +1,5 @@
-use Rattle.std.proofs.Common.{◌≡◌, ◌∙◌, ap, sym, arith, None, replicate, ℕ, Option}
-use Rattle.std.proofs.lemmas.List.{replicate_more}
-use Rattle.ix_numbers.specs.Marks.{vacancies}
-use Rattle.ix_numbers.proofs.Tied.{none_stands}
+use Rattle.std.proofs.{Common.{◌≡◌, ◌∙◌, ap, sym, arith, None, replicate, ℕ, Option}, lemmas.List.replicate_more}
+use Rattle.ix_numbers.{specs.Marks.vacancies, proofs.Tied.none_stands}
 use Rattle.ix_inode.specs.declared.node.Node.{Node}
 use Rattle.ix_inode.proofs.table.Table.new.Goals as goal
 

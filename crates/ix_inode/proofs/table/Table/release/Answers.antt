@@ -1,5 +1,4 @@
-use Rattle.std.proofs.Common.{◌∙◌, List, Bool, None, ap}
-use Rattle.std.specs.List.{slice_get}
+use Rattle.std.{proofs.Common.{◌∙◌, List, Bool, None, ap}, specs.List.slice_get}
 use Rattle.ix_numbers.proofs.Tied.{stands_taken, changed}
 use Rattle.ix_inode.proofs.table.Table.release.Goals as goal
 

@@ -1,6 +1,5 @@
 use Rattle.std.proofs.Common.{◌∙◌, Some, ap}
-use Rattle.ix_numbers.specs.Marks.{lowest}
-use Rattle.ix_numbers.proofs.Tied.{lowest_vacant, changed}
+use Rattle.ix_numbers.{specs.Marks.lowest, proofs.Tied.{lowest_vacant, changed}}
 use Rattle.ix_inode.proofs.table.Table.take.Goals as goal
 
 pub invariant_of-self-2 : goal.invariant_of-self-2

@@ -1,6 +1,5 @@
 use Rattle.std.proofs.Common.{◌∙◌, ap}
-use Rattle.ix_numbers.specs.Marks.{lowest}
-use Rattle.ix_numbers.proofs.Tied.{lowest_vacant}
+use Rattle.ix_numbers.{specs.Marks.lowest, proofs.Tied.lowest_vacant}
 use Rattle.ix_inode.proofs.table.Table.vacant.Goals as goal
 
 pub returns : goal.returns

@@ -1,6 +1,5 @@
 use Rattle.std.proofs.Common.{◌∙◌, true, refl}
-use Rattle.ix_inode.specs.Shown.{new_node}
-use Rattle.ix_inode.proofs.Standing.{taken_first}
+use Rattle.ix_inode.{specs.Shown.new_node, proofs.Standing.taken_first}
 use Rattle.ix_inode.proofs.volume.Volume.new.Goals as goal
 
 pub returns : goal.returns

@@ -1,14 +1,9 @@
 use Rattle.std.proofs.Common.{rules, arith, ℕ, ◌-◌, ◌+◌, ◌∷◌, ◌++◌, [], length, refl, ap, ◌∙◌, length-append}
 use Rattle.std.specs.Vec.{vec_capacity}
-use Rattle.ix_model.specs.history.Calls.{op_of}
-use Rattle.ix_model.specs.history.Events.{Event}
-use Rattle.ix_model.specs.declared.call.Call.{Call}
-use Rattle.ix_journal.specs.Heads.{words_of}
-use Rattle.ix_journal.specs.Recorded.{Recorded}
-use Rattle.ix_journal.specs.declared.record.Head.{Head}
-use Rattle.ix_journal.proofs.Growing.{room_for, Grows, grows_for, seen_after}
+use Rattle.ix_model.specs.{history.{Calls.op_of, Events.Event}, declared.call.Call.Call}
+use Rattle.ix_journal.specs.{Heads.words_of, Recorded.Recorded, declared.record.Head.Head}
+use Rattle.ix_journal.proofs.{Growing.{room_for, Grows, grows_for, seen_after}, journal.Journal.keep.Goals.After-push_reserved}
 use Rattle.ix_journal.proofs.journal.Journal.keep.Goals as goal
-use Rattle.ix_journal.proofs.journal.Journal.keep.Goals.{After-push_reserved}
 
 abbrev made : ℕ → ℕ → ℕ → Call → Event
 made seat line pid c = record { seat = seat; line = line; pid = pid; op = op_of c }

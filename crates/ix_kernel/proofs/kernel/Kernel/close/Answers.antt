@@ -1,6 +1,5 @@
 use Rattle.std.proofs.Common.{◌<◌, sym, subst}
-use Rattle.ix_gate.specs.Gate.{GateState}
-use Rattle.ix_gate.specs.Seat.{StandsFor}
+use Rattle.ix_gate.specs.{Gate.GateState, Seat.StandsFor}
 use Rattle.ix_kernel.specs.Seen.{KSeatState}
 use Rattle.ix_kernel.proofs.kernel.Kernel.close.Goals as goal
 

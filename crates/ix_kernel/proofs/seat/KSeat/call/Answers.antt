@@ -1,9 +1,7 @@
 use Rattle.std.proofs.Common.{◌≡◌, ℕ, ap, ◌∙◌, subst}
 use Rattle.ix_gate.specs.History.{Grows}
-use Rattle.ix_model.specs.history.Calls.{op_of}
-use Rattle.ix_model.specs.history.Made.{entry}
-use Rattle.ix_kernel.specs.Seen.{KSeatState, seat_of}
-use Rattle.ix_kernel.proofs.Turning.{Turned, Tells, step_grows, turn_tells}
+use Rattle.ix_model.specs.history.{Calls.op_of, Made.entry}
+use Rattle.ix_kernel.{specs.Seen.{KSeatState, seat_of}, proofs.Turning.{Turned, Tells, step_grows, turn_tells}}
 use Rattle.ix_kernel.proofs.seat.KSeat.call.Goals as goal
 
 pub give-requires-clause-history : goal.give-requires-clause-history

@@ -1,10 +1,7 @@
 use Rattle.std.proofs.Common.{◌≡◌, ℕ, ◌+◌, ap, sym, ◌∙◌, refl, subst, arith}
-use Rattle.ix_gate.specs.History.{Grows}
-use Rattle.ix_gate.specs.Seat.{after_take}
-use Rattle.ix_model.specs.history.Calls.{op_of}
-use Rattle.ix_model.specs.history.Made.{entry}
-use Rattle.ix_kernel.specs.Seen.{KSeatState, seat_of, after_turn}
-use Rattle.ix_kernel.proofs.Turning.{Turned, Tells, step_grows, turn_tells}
+use Rattle.ix_gate.specs.{History.Grows, Seat.after_take}
+use Rattle.ix_model.specs.history.{Calls.op_of, Made.entry}
+use Rattle.ix_kernel.{specs.Seen.{KSeatState, seat_of, after_turn}, proofs.Turning.{Turned, Tells, step_grows, turn_tells}}
 use Rattle.ix_kernel.proofs.seat.KSeat.try_call.Goals as goal
 
 pub give-requires-clause-history : goal.give-requires-clause-history

@@ -1,6 +1,5 @@
 use Rattle.std.proofs.Common.{ap, ◌∙◌}
-use Rattle.ix_kernel.specs.Systems.{SystemState, made_at, SeatGoesOn}
-use Rattle.ix_kernel.proofs.Seated.{meet_goes, made_same, still_fits}
+use Rattle.ix_kernel.{specs.Systems.{SystemState, made_at, SeatGoesOn}, proofs.Seated.{meet_goes, made_same, still_fits}}
 use Rattle.ix_kernel.proofs.system.SeatSys.meet.Goals as goal
 
 pub invariant_of-self : goal.invariant_of-self

@@ -1,11 +1,7 @@
 use Rattle.std.proofs.Common.{◌≡◌, ap, ◌∙◌, subst}
-use Rattle.ix_model.specs.history.Calls.{op_of}
-use Rattle.ix_model.specs.history.Made.{entry}
-use Rattle.ix_model.specs.history.Systems.{made_after}
+use Rattle.ix_model.specs.history.{Calls.op_of, Made.entry, Systems.made_after}
 use Rattle.ix_model.specs.declared.reply.Answer.TheVariants as answer
-use Rattle.ix_kernel.specs.Seen.{KSeatState}
-use Rattle.ix_kernel.specs.Systems.{SystemState, made_at, SeatGoesOn}
-use Rattle.ix_kernel.proofs.Seated.{call_goes, made_call, still_fits, given_else}
+use Rattle.ix_kernel.{specs.{Seen.KSeatState, Systems.{SystemState, made_at, SeatGoesOn}}, proofs.Seated.{call_goes, made_call, still_fits, given_else}}
 use Rattle.ix_kernel.proofs.system.SeatSysSys.call.Goals as goal
 
 pub invariant_of-self-in_default : goal.invariant_of-self-in_default

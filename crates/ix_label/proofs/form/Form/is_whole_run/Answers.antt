@@ -1,9 +1,5 @@
-use Rattle.std.proofs.Common.{◌≡◌, ℕ, Bool, List, nat_eq, sym, ◌∙◌, ap}
-use Rattle.std.specs.Cmp.Lexicographic.{pointwise}
-use Rattle.ix_label.specs.declared.form.Form.{Form}
-use Rattle.ix_label.specs.declared.form.Form.TheVariants.{One, Two}
-use Rattle.ix_label.specs.Forms.{whole_run}
-use Rattle.ix_label.specs.Faults.{is_text}
+use Rattle.std.{proofs.Common.{◌≡◌, ℕ, Bool, List, nat_eq, sym, ◌∙◌, ap}, specs.Cmp.Lexicographic.pointwise}
+use Rattle.ix_label.specs.{declared.form.Form.{Form, TheVariants.{One, Two}}, Forms.whole_run, Faults.is_text}
 use Rattle.ix_label.proofs.form.Form.is_whole_run.Goals as goal
 
 -- what `==` with a constant text tells

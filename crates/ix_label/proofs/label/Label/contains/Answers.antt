@@ -1,8 +1,5 @@
-use Rattle.std.proofs.Common.{◌≡◌, ◌<◌, true, false, sym, arith}
-use Rattle.std.proofs.lemmas.Bool.{le-ltb}
-use Rattle.ix_label.specs.Category.{has}
-use Rattle.ix_label.specs.Words.{members}
-use Rattle.ix_label.proofs.Bits.{tested, none_past}
+use Rattle.std.proofs.{Common.{◌≡◌, ◌<◌, true, false, sym, arith}, lemmas.Bool.le-ltb}
+use Rattle.ix_label.{specs.{Category.has, Words.members}, proofs.Bits.{tested, none_past}}
 use Rattle.ix_label.proofs.label.Label.contains.Goals as goal
 
 pub returns-then-cat-lt512 : goal.returns-then-cat-lt512

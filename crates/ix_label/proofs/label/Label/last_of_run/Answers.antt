@@ -1,7 +1,5 @@
 use Rattle.std.proofs.Common.{◌≡◌, ◌<◌, true, arith}
-use Rattle.ix_label.specs.Category.{has}
-use Rattle.ix_label.specs.Words.{members}
-use Rattle.ix_label.proofs.Bits.{later, runs_to_gap, runs_to_end}
+use Rattle.ix_label.{specs.{Category.has, Words.members}, proofs.Bits.{later, runs_to_gap, runs_to_end}}
 use Rattle.ix_label.proofs.label.Label.last_of_run.Goals as goal
 
 pub overflow_sub-result : goal.overflow_sub-result

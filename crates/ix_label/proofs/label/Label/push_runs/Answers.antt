@@ -1,6 +1,5 @@
 use Rattle.std.proofs.Common.{◌<◌, arith}
-use Rattle.ix_label.proofs.Texts.{length-more}
-use Rattle.ix_label.proofs.Walk.{IsSpelledBelow-none, IsSpelledBelow-more, IsSpelledBelow-all}
+use Rattle.ix_label.proofs.{Texts.length-more, Walk.{IsSpelledBelow-none, IsSpelledBelow-more, IsSpelledBelow-all}}
 use Rattle.ix_label.proofs.label.Label.push_runs.Goals as goal
 
 pub loop-first-init : goal.loop-first-init

@@ -1,7 +1,5 @@
-use Rattle.std.proofs.Common.{◌≡◌, ℕ, Bool, List, nat_eq, sym, ◌∙◌, ap}
-use Rattle.std.specs.Cmp.Lexicographic.{pointwise}
-use Rattle.ix_label.specs.Faults.{is_text}
-use Rattle.ix_label.proofs.Spelled.{Reads-none, Reads-bottom, Reads-star, Reads-all, Reads-items}
+use Rattle.std.{proofs.Common.{◌≡◌, ℕ, Bool, List, nat_eq, sym, ◌∙◌, ap}, specs.Cmp.Lexicographic.pointwise}
+use Rattle.ix_label.{specs.Faults.is_text, proofs.Spelled.{Reads-none, Reads-bottom, Reads-star, Reads-all, Reads-items}}
 use Rattle.ix_label.proofs.label.Label.read.Goals as goal
 
 -- what `==` with a constant text tells

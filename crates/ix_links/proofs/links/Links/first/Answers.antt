@@ -1,6 +1,5 @@
 use Rattle.std.proofs.Common.{◌<◌, length, sym, subst, ap, ◌∙◌, slice_get}
-use Rattle.ix_links.specs.Chains.{Chains, chain_of}
-use Rattle.ix_links.proofs.Calls.{first_is}
+use Rattle.ix_links.{specs.Chains.{Chains, chain_of}, proofs.Calls.first_is}
 use Rattle.ix_links.proofs.links.Links.first.Goals as goal
 
 pub returns : goal.returns

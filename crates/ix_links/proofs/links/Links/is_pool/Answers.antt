@@ -1,6 +1,5 @@
 use Rattle.std.proofs.Common.{subst}
-use Rattle.ix_links.specs.Whole.{IsPool}
-use Rattle.ix_links.proofs.Calls.{is_pool}
+use Rattle.ix_links.{specs.Whole.IsPool, proofs.Calls.is_pool}
 use Rattle.ix_links.proofs.links.Links.is_pool.Goals as goal
 
 pub returns : goal.returns

@@ -1,7 +1,5 @@
-use Rattle.std.proofs.Common.{◌<◌, length, sym, subst, ap, ◌∙◌, None}
-use Rattle.std.specs.List.{last_or}
-use Rattle.ix_links.specs.Chains.{Chains, chain_of}
-use Rattle.ix_links.proofs.Calls.{last_is}
+use Rattle.std.{proofs.Common.{◌<◌, length, sym, subst, ap, ◌∙◌, None}, specs.List.last_or}
+use Rattle.ix_links.{specs.Chains.{Chains, chain_of}, proofs.Calls.last_is}
 use Rattle.ix_links.proofs.links.Links.last.Goals as goal
 
 pub returns : goal.returns

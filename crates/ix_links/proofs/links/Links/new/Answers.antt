@@ -1,10 +1,5 @@
-use Rattle.std.proofs.Common.{◌≡◌, replicate, None, refl, ◌∙◌, subst, arith, rules}
-use Rattle.std.specs.List.{range_with_len}
-use Rattle.std.specs.Vec.{with_items}
-use Rattle.std.proofs.lemmas.List.{with_items_is}
-use Rattle.ix_links.specs.declared.link.Ends.{Ends}
-use Rattle.ix_links.specs.Standing.{IsChain}
-use Rattle.ix_links.proofs.Making.{last_of_range, one_more, new_pool}
+use Rattle.std.{proofs.{Common.{◌≡◌, replicate, None, refl, ◌∙◌, subst, arith, rules}, lemmas.List.with_items_is}, specs.{List.range_with_len, Vec.with_items}}
+use Rattle.ix_links.{specs.{declared.link.Ends.Ends, Standing.IsChain}, proofs.Making.{last_of_range, one_more, new_pool}}
 use Rattle.ix_links.proofs.links.Links.new.Goals as goal
 
 pub insert-requires-clause-previous : goal.insert-requires-clause-previous

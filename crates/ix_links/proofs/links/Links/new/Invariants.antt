@@ -1,5 +1,4 @@
-use Rattle.std.proofs.Common.{◌≡◌, length}
-use Rattle.std.specs.List.{range_with_len}
+use Rattle.std.{proofs.Common.{◌≡◌, length}, specs.List.range_with_len}
 use Rattle.ix_links.specs.Standing.{IsChain}
 use Rattle.ix_links.proofs.links.Links.new.Given as goal
 

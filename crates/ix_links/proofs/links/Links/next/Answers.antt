@@ -1,6 +1,5 @@
 use Rattle.std.proofs.Common.{◌≡◌, ◌+◌, Some, sym, subst, ap, ◌∙◌, slice_get}
-use Rattle.ix_links.specs.Chains.{Chains, chain_of}
-use Rattle.ix_links.proofs.Calls.{next_in_chain, next_in_free}
+use Rattle.ix_links.{specs.Chains.{Chains, chain_of}, proofs.Calls.{next_in_chain, next_in_free}}
 use Rattle.ix_links.proofs.links.Links.next.Goals as goal
 
 pub returns-clause-chain : goal.returns-clause-chain

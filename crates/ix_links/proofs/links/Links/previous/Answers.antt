@@ -1,6 +1,5 @@
 use Rattle.std.proofs.Common.{◌≡◌, Some, sym, subst, ap, ◌∙◌, slice_get}
-use Rattle.ix_links.specs.Chains.{Chains, chain_of, before}
-use Rattle.ix_links.proofs.Calls.{previous_in_chain, previous_in_free}
+use Rattle.ix_links.{specs.Chains.{Chains, chain_of, before}, proofs.Calls.{previous_in_chain, previous_in_free}}
 use Rattle.ix_links.proofs.links.Links.previous.Goals as goal
 
 pub returns-clause-chain : goal.returns-clause-chain

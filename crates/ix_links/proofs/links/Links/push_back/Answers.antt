@@ -1,7 +1,5 @@
 use Rattle.std.proofs.Common.{◌<◌, length, sym, ap, ◌∙◌, subst}
-use Rattle.ix_links.specs.Chains.{Chains, pushed_back}
-use Rattle.ix_links.proofs.Running.{length-unlinked}
-use Rattle.ix_links.proofs.Calls.{last_within, closes_back}
+use Rattle.ix_links.{specs.Chains.{Chains, pushed_back}, proofs.{Running.length-unlinked, Calls.{last_within, closes_back}}}
 use Rattle.ix_links.proofs.links.Links.push_back.Goals as goal
 
 pub insert-requires-clause-previous : goal.insert-requires-clause-previous

@@ -1,7 +1,5 @@
 use Rattle.std.proofs.Common.{◌<◌, length, sym, ap, ◌∙◌, subst}
-use Rattle.ix_links.specs.Chains.{Chains, pushed_front}
-use Rattle.ix_links.proofs.Running.{length-unlinked}
-use Rattle.ix_links.proofs.Calls.{first_within, closes_front}
+use Rattle.ix_links.{specs.Chains.{Chains, pushed_front}, proofs.{Running.length-unlinked, Calls.{first_within, closes_front}}}
 use Rattle.ix_links.proofs.links.Links.push_front.Goals as goal
 
 pub insert-requires-clause-next : goal.insert-requires-clause-next

@@ -1,9 +1,6 @@
-use Rattle.std.proofs.Common.{◌≡◌, ◌<◌, length, sym, ap, ◌∙◌, subst, arith}
-use Rattle.std.specs.List.{Contains}
-use Rattle.ix_links.specs.Chains.{Chains, chain_of, removed}
-use Rattle.ix_links.specs.Linking.{link_at, Within}
-use Rattle.ix_links.proofs.Running.{length-unlinked}
-use Rattle.ix_links.proofs.Calls.{item_within, previous_within, next_within, unused_within, room_for_one, closes_removed}
+use Rattle.std.{proofs.Common.{◌≡◌, ◌<◌, length, sym, ap, ◌∙◌, subst, arith}, specs.List.Contains}
+use Rattle.ix_links.specs.{Chains.{Chains, chain_of, removed}, Linking.{link_at, Within}}
+use Rattle.ix_links.proofs.{Running.length-unlinked, Calls.{item_within, previous_within, next_within, unused_within, room_for_one, closes_removed}}
 use Rattle.ix_links.proofs.links.Links.remove.Goals as goal
 
 pub unlink-requires-clause-within : goal.unlink-requires-clause-within

@@ -1,6 +1,5 @@
 use Rattle.std.proofs.Common.{refl, ap, ◌∙◌}
-use Rattle.ix_model.specs.world.World.{World, at}
-use Rattle.ix_model.proofs.tables.Tables.{seen_changed}
+use Rattle.ix_model.{specs.world.World.{World, at}, proofs.tables.Tables.seen_changed}
 use Rattle.ix_machine.specs.Views.{is_inode}
 use Rattle.ix_machine.proofs.machine.Machine.affect.Goals as goal
 

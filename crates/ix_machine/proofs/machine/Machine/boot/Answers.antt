@@ -1,7 +1,6 @@
 use Rattle.std.proofs.Common.{◌≤◌, List, length, sym, ap, subst, ◌∙◌}
 use Rattle.ix_model.specs.declared.config.ProcSpec.{ProcSpec}
-use Rattle.ix_machine.specs.Opened.{opened}
-use Rattle.ix_machine.proofs.Booting.{opens, valid_few, valid_room}
+use Rattle.ix_machine.{specs.Opened.opened, proofs.Booting.{opens, valid_few, valid_room}}
 use Rattle.ix_machine.proofs.machine.Machine.boot.Goals as goal
 
 pub opened-requires-clause-room : goal.opened-requires-clause-room

@@ -1,7 +1,5 @@
 use Rattle.std.proofs.Common.{sym, subst, ◌∙◌}
-use Rattle.ix_model.specs.declared.call.Call.{Call}
-use Rattle.ix_model.specs.history.Calls.{op_of}
-use Rattle.ix_model.specs.history.Step.{step}
+use Rattle.ix_model.specs.{declared.call.Call.Call, history.{Calls.op_of, Step.step}}
 use Rattle.ix_fcalls.specs.Filed.{Answers}
 use Rattle.ix_machine.proofs.Stepped.{dead_step}
 use Rattle.ix_machine.proofs.machine.Machine.call.Goals as goal

@@ -1,9 +1,6 @@
 use Rattle.std.proofs.Common.{ap, sym, ◌∙◌}
-use Rattle.ix_model.specs.history.Calls.{op_of}
-use Rattle.ix_model.specs.rows.Telling.{nothing_told}
-use Rattle.ix_model.specs.world.World.{World}
-use Rattle.ix_machine.proofs.Restoring.{set_back}
-use Rattle.ix_machine.proofs.Stepped.{label_of_caller, settled_back}
+use Rattle.ix_model.specs.{history.Calls.op_of, rows.Telling.nothing_told, world.World.World}
+use Rattle.ix_machine.proofs.{Restoring.set_back, Stepped.{label_of_caller, settled_back}}
 use Rattle.ix_machine.proofs.machine.Machine.decide.Goals as goal
 
 pub returns-else-keeps_label-clause-frame : goal.returns-else-keeps_label-clause-frame

@@ -1,6 +1,5 @@
 use Rattle.std.proofs.Common.{refl, ap, ◌∙◌}
-use Rattle.ix_model.specs.world.Privs.{without}
-use Rattle.ix_model.specs.declared.views.Caller.{Caller}
+use Rattle.ix_model.specs.{world.Privs.without, declared.views.Caller.Caller}
 use Rattle.ix_fcalls.specs.Around.{with_who}
 use Rattle.ix_licence.specs.declared.privs.Privs.{Privs}
 use Rattle.ix_proc.specs.Table.{ProcTable}

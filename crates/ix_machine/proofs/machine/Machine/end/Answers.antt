@@ -1,16 +1,8 @@
-use Rattle.std.proofs.Common.{◌≡◌, true, sym, ap, subst, ◌∙◌}
-use Rattle.std.specs.List.{list_any}
-use Rattle.ix_model.specs.world.World.{World, Process, change, lives}
-use Rattle.ix_model.specs.world.Contents.{after_exit, carried}
-use Rattle.ix_model.specs.rows.Lifetimes.{let_go_all}
-use Rattle.ix_model.specs.rows.OnProcesses.{is_child}
-use Rattle.ix_model.specs.rows.Outcomes.{Pass}
-use Rattle.ix_fcalls.specs.Around.{with_who}
-use Rattle.ix_fcalls.specs.Counted.{IsCounted}
-use Rattle.ix_machine.specs.Joined.{joined}
-use Rattle.ix_machine.specs.OwnCalls.{let_go_and_end}
-use Rattle.ix_machine.proofs.Ends.{put_lives, end_asks, ends_so, leaves_so, joined_so}
-use Rattle.ix_machine.proofs.Moved.{parts_joined}
+use Rattle.std.{proofs.Common.{◌≡◌, true, sym, ap, subst, ◌∙◌}, specs.List.list_any}
+use Rattle.ix_model.specs.world.{World.{World, Process, change, lives}, Contents.{after_exit, carried}}
+use Rattle.ix_model.specs.rows.{Lifetimes.let_go_all, OnProcesses.is_child, Outcomes.Pass}
+use Rattle.ix_fcalls.specs.{Around.with_who, Counted.IsCounted}
+use Rattle.ix_machine.{specs.{Joined.joined, OwnCalls.let_go_and_end}, proofs.{Ends.{put_lives, end_asks, ends_so, leaves_so, joined_so}, Moved.parts_joined}}
 use Rattle.ix_machine.proofs.machine.Machine.end.Goals as goal
 
 pub let_go-requires : goal.let_go-requires

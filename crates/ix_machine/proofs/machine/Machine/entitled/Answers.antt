@@ -1,8 +1,7 @@
 use Rattle.ix_machine.proofs.Exercising.{entitled_is}
-use Rattle.ix_model.specs.world.Callers.{with_caller}
+use Rattle.ix_model.specs.world.{Callers.with_caller, World.at}
 use Rattle.ix_fcalls.specs.Around.{no_process}
 use Rattle.std.proofs.Common.{unwrap_or}
-use Rattle.ix_model.specs.world.World.{at}
 use Rattle.ix_machine.proofs.machine.Machine.entitled.Goals as goal
 
 pub returns : goal.returns

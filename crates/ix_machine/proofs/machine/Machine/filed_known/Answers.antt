@@ -1,10 +1,7 @@
 use Rattle.std.proofs.Common.{◌≡◌, ◌∙◌, ℕ, true, sym, subst}
-use Rattle.ix_model.specs.world.World.{World, lives}
-use Rattle.ix_model.specs.history.Calls.{op_of}
-use Rattle.ix_fcalls.specs.Around.{with_who}
-use Rattle.ix_fcalls.specs.Tested.{IsKnown}
-use Rattle.ix_machine.proofs.Knowing.{known_lives}
-use Rattle.ix_machine.proofs.Moved.{moved_still, parts_joined}
+use Rattle.ix_model.specs.{world.World.{World, lives}, history.Calls.op_of}
+use Rattle.ix_fcalls.specs.{Around.with_who, Tested.IsKnown}
+use Rattle.ix_machine.proofs.{Knowing.known_lives, Moved.{moved_still, parts_joined}}
 use Rattle.ix_machine.proofs.machine.Machine.filed_known.Goals as goal
 
 pub who-requires : goal.who-requires

@@ -1,8 +1,6 @@
 use Rattle.std.proofs.Common.{◌≡◌, true, unwrap_or, sym, ◌∙◌}
-use Rattle.ix_model.specs.world.World.{Process, at}
-use Rattle.ix_model.specs.rows.OnProcesses.{has_kept}
+use Rattle.ix_model.specs.{world.{World.{Process, at}, Callers.with_caller}, rows.OnProcesses.has_kept}
 use Rattle.ix_fcalls.specs.Around.{no_process}
-use Rattle.ix_model.specs.world.Callers.{with_caller}
 use Rattle.ix_proc.specs.Table.{child_of}
 use Rattle.ix_machine.proofs.Births.{fork_is, kept_same, born_carried}
 use Rattle.ix_machine.proofs.machine.Machine.fork.Goals as goal

@@ -1,7 +1,5 @@
 use Rattle.std.proofs.Common.{refl, ap, ◌∙◌}
-use Rattle.ix_model.specs.world.Privs.{either_of}
-use Rattle.ix_model.specs.declared.privs.PrivSet.{PrivSet}
-use Rattle.ix_model.specs.declared.views.Caller.{Caller}
+use Rattle.ix_model.specs.{world.Privs.either_of, declared.{privs.PrivSet.PrivSet, views.Caller.Caller}}
 use Rattle.ix_fcalls.specs.Around.{with_who}
 use Rattle.ix_proc.specs.Table.{ProcTable}
 use Rattle.ix_machine.proofs.Rows.{joined_put}

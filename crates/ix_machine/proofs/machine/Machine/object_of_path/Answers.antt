@@ -1,9 +1,7 @@
 use Rattle.std.proofs.Common.{◌∙◌, refl, sym, ap}
-use Rattle.ix_model.specs.history.AuditLog.{object_sought}
-use Rattle.ix_fcalls.specs.Views.{sought_of}
-use Rattle.ix_fcalls.specs.declared.walks.Outcome.{Outcome}
+use Rattle.ix_model.specs.{history.AuditLog.object_sought, world.Paths.path_of}
+use Rattle.ix_fcalls.specs.{Views.sought_of, declared.walks.Outcome.Outcome}
 use Rattle.ix_machine.proofs.Standing.{no_object, none_found, object_walked}
-use Rattle.ix_model.specs.world.Paths.{path_of}
 use Rattle.ix_machine.proofs.machine.Machine.object_of_path.Goals as goal
 
 pub returns-then-not-lives : goal.returns-then-not-lives

@@ -1,6 +1,5 @@
 use Rattle.std.proofs.Common.{sym, arith}
-use Rattle.ix_marks.proofs.Spots.{row_low}
-use Rattle.ix_marks.proofs.Changed.{clear_spots, clear_kept}
+use Rattle.ix_marks.proofs.{Spots.row_low, Changed.{clear_spots, clear_kept}}
 use Rattle.ix_marks.proofs.marks.Marks.clear.Goals as goal
 
 pub index_mut-requires : goal.index_mut-requires

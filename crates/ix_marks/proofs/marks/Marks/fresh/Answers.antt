@@ -1,7 +1,5 @@
 use Rattle.std.proofs.Common.{sym, ap, ◌∙◌, arith}
-use Rattle.ix_marks.proofs.Spots.{row_low}
-use Rattle.ix_marks.specs.Known.{sum_at}
-use Rattle.ix_marks.proofs.Changed.{fresh_told}
+use Rattle.ix_marks.{proofs.{Spots.row_low, Changed.fresh_told}, specs.Known.sum_at}
 use Rattle.ix_marks.proofs.marks.Marks.fresh.Goals as goal
 
 pub index-row-requires : goal.index-row-requires

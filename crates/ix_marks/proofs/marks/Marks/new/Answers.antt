@@ -1,6 +1,5 @@
 use Rattle.std.proofs.Common.{◌≡◌, replicate, is_some, ap, ◌∙◌, rules}
-use Rattle.ix_marks.specs.RowIndex.{row_of}
-use Rattle.ix_marks.proofs.Changed.{none_kept, none_spots, no_row_of}
+use Rattle.ix_marks.{specs.RowIndex.row_of, proofs.Changed.{none_kept, none_spots, no_row_of}}
 use Rattle.ix_marks.proofs.marks.Marks.new.Goals as goal
 
 pub invariant_of-result : goal.invariant_of-result

@@ -1,6 +1,5 @@
 use Rattle.std.proofs.Common.{sym, ap, arith}
-use Rattle.ix_marks.proofs.Spots.{row_low}
-use Rattle.ix_marks.proofs.Changed.{raised_fits, process_spots, process_kept}
+use Rattle.ix_marks.proofs.{Spots.row_low, Changed.{raised_fits, process_spots, process_kept}}
 use Rattle.ix_marks.proofs.marks.Marks.relabel_process.Goals as goal
 
 pub index_mut-requires : goal.index_mut-requires

@@ -1,6 +1,5 @@
 use Rattle.std.proofs.Common.{◌≡◌, ◌+◌, length, count_by, is_some, sym, ap, ◌∙◌, subst}
-use Rattle.ix_marks.specs.RowIndex.{RowOwners, AreDifferent}
-use Rattle.ix_marks.proofs.Room.{room}
+use Rattle.ix_marks.{specs.RowIndex.{RowOwners, AreDifferent}, proofs.Room.room}
 use Rattle.ix_marks.proofs.marks.Marks.room.Goals as goal
 
 pub returns : goal.returns

@@ -1,9 +1,5 @@
 use Rattle.std.proofs.Common.{Option, Some, if◌then◌else◌, ap, ◌∙◌, arith}
-use Rattle.ix_marks.specs.declared.row.Spot.{Spot}
-use Rattle.ix_marks.specs.RowIndex.{row_of}
-use Rattle.ix_marks.specs.Known.{is_it, sum_at}
-use Rattle.ix_marks.proofs.Spots.{row_low}
-use Rattle.ix_marks.proofs.Changed.{set_spots, set_kept}
+use Rattle.ix_marks.{specs.{declared.row.Spot.Spot, RowIndex.row_of, Known.{is_it, sum_at}}, proofs.{Spots.row_low, Changed.{set_spots, set_kept}}}
 use Rattle.ix_marks.proofs.marks.Marks.set.Goals as goal
 
 pub index_mut-requires : goal.index_mut-requires

@@ -1,6 +1,5 @@
 use Rattle.std.proofs.Common.{sym, ap, ◌∙◌}
-use Rattle.ix_marks.specs.RowIndex.{row_of}
-use Rattle.ix_marks.proofs.Seated.{row_read}
+use Rattle.ix_marks.{specs.RowIndex.row_of, proofs.Seated.row_read}
 use Rattle.ix_marks.proofs.row_index.RowIndex.find.Goals as goal
 
 pub returns : goal.returns

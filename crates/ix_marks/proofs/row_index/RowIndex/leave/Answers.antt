@@ -1,7 +1,6 @@
 use Rattle.std.proofs.Common.{◌≡◌, ◌==◌, ℕ, Bool, true, false, List, Option, Some, None, refl, sym, ap, ◌∙◌, arith, if◌then◌else◌, length}
 use Rattle.std.proofs.lemmas.Bool.{eqb-true}
-use Rattle.ix_marks.specs.RowIndex.{row_of, RowOwners}
-use Rattle.ix_marks.proofs.Seated.{row_read, row_low, row_held, seated_fewer, rows_fewer}
+use Rattle.ix_marks.{specs.RowIndex.{row_of, RowOwners}, proofs.Seated.{row_read, row_low, row_held, seated_fewer, rows_fewer}}
 use Rattle.ix_marks.proofs.row_index.RowIndex.leave.Goals as goal
 
 -- nothing changes where there is no row

@@ -1,5 +1,4 @@
-use Rattle.std.proofs.Common.{◌≡◌, length, replicate, None, refl, ◌∙◌, ap, arith, rules}
-use Rattle.std.proofs.lemmas.List.FromFn.{length-range_with_len}
+use Rattle.std.proofs.{Common.{◌≡◌, length, replicate, None, refl, ◌∙◌, ap, arith, rules}, lemmas.List.FromFn.length-range_with_len}
 use Rattle.ix_links.specs.Chains.{Chains}
 use Rattle.ix_marks.proofs.Seated.{none_seated}
 use Rattle.ix_marks.proofs.row_index.RowIndex.new.Goals as goal

@@ -1,6 +1,5 @@
 use Rattle.std.proofs.Common.{◌==◌, Some, sym, ap, ◌∙◌, arith, length, if◌then◌else◌}
-use Rattle.ix_marks.specs.RowIndex.{row_of, RowOwners}
-use Rattle.ix_marks.proofs.Seated.{index_low, seated_more, rows_more, no_one's}
+use Rattle.ix_marks.{specs.RowIndex.{row_of, RowOwners}, proofs.Seated.{index_low, seated_more, rows_more, no_one's}}
 use Rattle.ix_marks.proofs.row_index.RowIndex.take.Goals as goal
 
 pub index_mut-requires : goal.index_mut-requires

@@ -1,7 +1,5 @@
 use Rattle.std.proofs.Common.{◌≡◌, ◌&&◌, nat_eq, length, sym, ap, ◌∙◌, arith}
-use Rattle.ix_model.specs.world.Naming.{same_bytes}
-use Rattle.ix_model.proofs.texts.Runs.{differ, by_byte}
-use Rattle.ix_model.proofs.contents.Contents.same.Goals.{then-eq, else-eq}
+use Rattle.ix_model.{specs.world.Naming.same_bytes, proofs.{texts.Runs.{differ, by_byte}, contents.Contents.same.Goals.{then-eq, else-eq}}}
 use Rattle.ix_model.proofs.contents.Contents.same.Goals as goal
 
 pub returns-else-self-eq0 : goal.returns-else-self-eq0

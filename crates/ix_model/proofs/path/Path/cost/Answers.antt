@@ -1,5 +1,4 @@
-use Rattle.std.proofs.Common.{arith, ◌<◌, length, sym}
-use Rattle.std.proofs.lemmas.Bool.Decides.{nat_tests}
+use Rattle.std.proofs.{Common.{arith, ◌<◌, length, sym}, lemmas.Bool.Decides.nat_tests}
 use Rattle.ix_model.proofs.texts.Joining.{text_cost, text_fits}
 use Rattle.ix_model.proofs.path.Path.cost.Goals as goal
 

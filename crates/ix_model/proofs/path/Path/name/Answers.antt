@@ -1,6 +1,5 @@
 use Rattle.std.proofs.Common.{sym, ap, ◌∙◌, not, arith, ◌≡◌, drop}
-use Rattle.ix_model.specs.world.Texts.{names_in}
-use Rattle.ix_model.proofs.texts.Reading.{told, ended, went}
+use Rattle.ix_model.{specs.world.Texts.names_in, proofs.texts.Reading.{told, ended, went}}
 use Rattle.ix_model.proofs.path.Path.name.Goals as goal
 
 pub returns-then-is_none : goal.returns-then-is_none

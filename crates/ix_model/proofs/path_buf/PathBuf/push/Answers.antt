@@ -1,6 +1,5 @@
 use Rattle.std.proofs.Common.{arith, ap, ◌∙◌}
-use Rattle.ix_model.specs.world.Texts.{names_in}
-use Rattle.ix_model.proofs.texts.Joining.{grows}
+use Rattle.ix_model.{specs.world.Texts.names_in, proofs.texts.Joining.grows}
 use Rattle.ix_model.proofs.path_buf.PathBuf.push.Goals as goal
 
 pub put_name-len-requires-clause-room : goal.put_name-len-requires-clause-room

@@ -1,7 +1,5 @@
 use Rattle.std.proofs.Common.{sym, ap, ◌∙◌, arith}
-use Rattle.ix_name.specs.Buckets.{bucket_of}
-use Rattle.ix_name.specs.declared.entry.Entry.{Entry}
-use Rattle.ix_name.proofs.Indexed.{index_within, count_fits, indexed_more, shown_more}
+use Rattle.ix_name.{specs.{Buckets.bucket_of, declared.entry.Entry.Entry}, proofs.Indexed.{index_within, count_fits, indexed_more, shown_more}}
 use Rattle.ix_name.proofs.names.Names.add.Goals as goal
 
 pub index_mut-requires : goal.index_mut-requires

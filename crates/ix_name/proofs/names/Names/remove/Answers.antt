@@ -1,6 +1,5 @@
 use Rattle.std.proofs.Common.{sym, ap, ◌∙◌, arith, option_map}
-use Rattle.ix_name.specs.Directories.{removed}
-use Rattle.ix_name.proofs.Found.{missed, hit_within, hit_some, hit_is, hit_its, hit_named}
+use Rattle.ix_name.{specs.Directories.removed, proofs.Found.{missed, hit_within, hit_some, hit_is, hit_its, hit_named}}
 use Rattle.ix_name.proofs.Indexed.{chain_there, count_there, dir_held, bucket_held, count_some, indexed_fewer, shown_fewer}
 use Rattle.ix_name.proofs.names.Names.remove.Goals as goal
 

@@ -1,8 +1,6 @@
 use Rattle.std.proofs.Common.{◌≡◌, ◌∙◌, ◌++◌, ◌∷◌, [], true, arith, refl, ap, subst, ℕ, heap_items, heap_len, List, Bool}
-use Rattle.std.specs.BinaryHeap.{heap_capacity}
-use Rattle.std.proofs.lemmas.List.{replicate_more}
-use Rattle.ix_numbers.specs.Heaped.{AreHeaped}
-use Rattle.ix_numbers.proofs.Heap.{none_heaped, more_heaped, more_marks}
+use Rattle.std.{specs.BinaryHeap.heap_capacity, proofs.lemmas.List.replicate_more}
+use Rattle.ix_numbers.{specs.Heaped.AreHeaped, proofs.Heap.{none_heaped, more_heaped, more_marks}}
 use Rattle.ix_numbers.proofs.numbers.Numbers.new.Goals as goal
 
 pub loop-n-init : goal.loop-n-init

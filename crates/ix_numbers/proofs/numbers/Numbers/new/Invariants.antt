@@ -1,5 +1,4 @@
-use Rattle.std.proofs.Common.{◌≡◌, ◌≤◌, true, replicate, heap_items, heap_len}
-use Rattle.std.specs.BinaryHeap.{heap_capacity}
+use Rattle.std.{proofs.Common.{◌≡◌, ◌≤◌, true, replicate, heap_items, heap_len}, specs.BinaryHeap.heap_capacity}
 use Rattle.ix_numbers.specs.Heaped.{marks_of, AreHeaped}
 use Rattle.ix_numbers.proofs.numbers.Numbers.new.Given as goal
 

@@ -1,9 +1,6 @@
-use Rattle.std.proofs.Common.{◌≡◌, ◌<◌, sym, ◌∙◌, arith, length, get_or, subst, Some}
-use Rattle.ix_open.specs.Table.{OpenTable}
-use Rattle.std.proofs.lemmas.List.{get_or_read}
+use Rattle.std.proofs.{Common.{◌≡◌, ◌<◌, sym, ◌∙◌, arith, length, get_or, subst, Some}, lemmas.List.get_or_read}
+use Rattle.ix_open.{specs.Table.OpenTable, proofs.{Viewed.{lowest_shown, entry_opened, count_below, counted_opened}, Indexed.{index_opened, room_for}}}
 use Rattle.ix_numbers.proofs.Tied.{given_vacant, changed}
-use Rattle.ix_open.proofs.Viewed.{lowest_shown, entry_opened, count_below, counted_opened}
-use Rattle.ix_open.proofs.Indexed.{index_opened, room_for}
 use Rattle.ix_open.proofs.opens.Opens.add.Goals as goal
 
 pub returns-in_err-id-clause-id : goal.returns-in_err-id-clause-id

@@ -1,7 +1,6 @@
 use Rattle.std.proofs.Common.{◌≡◌, ℕ, Option, Some, is_some, sym, ap, ◌∙◌, List}
 use Rattle.ix_model.specs.world.World.{at}
-use Rattle.ix_open.proofs.Viewed.{key_there, opens_at, offset_at, owners_at}
-use Rattle.ix_open.proofs.Indexed.{at_seen_key}
+use Rattle.ix_open.proofs.{Viewed.{key_there, opens_at, offset_at, owners_at}, Indexed.at_seen_key}
 use Rattle.ix_open.proofs.opens.Opens.entry.Goals as goal
 
 pub key_of-requires : goal.key_of-requires

@@ -1,7 +1,6 @@
 use Rattle.std.proofs.Common.{ℕ, Option, ap, ◌∙◌, List}
 use Rattle.ix_model.specs.world.World.{at}
-use Rattle.ix_open.specs.Indexed.{entry_in}
-use Rattle.ix_open.proofs.Viewed.{entry_shown, end_shown}
+use Rattle.ix_open.{specs.Indexed.entry_in, proofs.Viewed.{entry_shown, end_shown}}
 use Rattle.ix_open.proofs.opens.Opens.get.Goals as goal
 
 pub returns-clause-entry : goal.returns-clause-entry

@@ -1,10 +1,5 @@
-use Rattle.std.proofs.Common.{◌≡◌, sym, ap, ◌∙◌, get_or}
-use Rattle.std.proofs.Common.{nat_lt}
-use Rattle.std.proofs.lemmas.Bool.{ltb-true, ltb-false, le-ltb}
-use Rattle.std.proofs.lemmas.List.{get_or_past}
-use Rattle.std.proofs.lemmas.Grind.{get_or_default_zero}
-use Rattle.ix_open.specs.Tally.{place}
-use Rattle.ix_open.proofs.Viewed.{held_shown, not_held_shown}
+use Rattle.std.proofs.{Common.{◌≡◌, sym, ap, ◌∙◌, get_or, nat_lt}, lemmas.{Bool.{ltb-true, ltb-false, le-ltb}, List.get_or_past, Grind.get_or_default_zero}}
+use Rattle.ix_open.{specs.Tally.place, proofs.Viewed.{held_shown, not_held_shown}}
 use Rattle.ix_open.proofs.opens.Opens.held.Goals as goal
 
 pub returns-in-Some : goal.returns-in-Some

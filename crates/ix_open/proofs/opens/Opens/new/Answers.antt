@@ -1,10 +1,6 @@
 use Rattle.std.proofs.Common.{◌≡◌, ◌*◌, ◌-◌, ◌++◌, [], zero, suc, take, ℕ, Option, None, replicate, refl, ap, ◌∙◌, arith}
 use Rattle.ix_numbers.proofs.Tied.{none_stands}
-use Rattle.ix_open.specs.Entries.{table_of}
-use Rattle.ix_open.specs.Indexed.{seen}
-use Rattle.ix_open.proofs.Tabled.{none_tables}
-use Rattle.ix_open.proofs.Indexed.{index_none, seen_none}
-use Rattle.ix_open.proofs.Counted.{counted_none}
+use Rattle.ix_open.{specs.{Entries.table_of, Indexed.seen}, proofs.{Tabled.none_tables, Indexed.{index_none, seen_none}, Counted.counted_none}}
 use Rattle.ix_open.proofs.opens.Opens.new.Goals as goal
 
 -- what a list that was empty is filled up to

@@ -1,10 +1,7 @@
-use Rattle.std.proofs.Common.{◌≡◌, ℕ, Bool, Option, None, Some, is_some, sym, ap, ◌∙◌, arith, List, get_or}
-use Rattle.std.specs.List.{slice_get}
+use Rattle.std.{proofs.{Common.{◌≡◌, ℕ, Bool, Option, None, Some, is_some, sym, ap, ◌∙◌, arith, List, get_or}, lemmas.List.get_or_read}, specs.List.slice_get}
 use Rattle.ix_model.specs.world.World.{at}
-use Rattle.std.proofs.lemmas.List.{get_or_read}
 use Rattle.ix_numbers.proofs.Tied.{stands_taken, changed}
-use Rattle.ix_open.proofs.Viewed.{key_there, entry_gone, count_stands, counted_gone}
-use Rattle.ix_open.proofs.Indexed.{index_released}
+use Rattle.ix_open.proofs.{Viewed.{key_there, entry_gone, count_stands, counted_gone}, Indexed.index_released}
 use Rattle.ix_open.proofs.opens.Opens.remove.Goals as goal
 
 pub key_of-key-requires : goal.key_of-key-requires

@@ -1,7 +1,6 @@
 use Rattle.std.proofs.Common.{◌≡◌, ℕ, Option, Some, is_some, sym, ap, ◌∙◌, List}
 use Rattle.ix_model.specs.world.World.{at}
-use Rattle.ix_open.proofs.Viewed.{key_there, entry_edited, counted_edited, on_some}
-use Rattle.ix_open.proofs.Indexed.{index_edited}
+use Rattle.ix_open.proofs.{Viewed.{key_there, entry_edited, counted_edited, on_some}, Indexed.index_edited}
 use Rattle.ix_open.proofs.opens.Opens.set.Goals as goal
 
 pub key_of-key-requires : goal.key_of-key-requires

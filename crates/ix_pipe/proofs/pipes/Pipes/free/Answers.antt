@@ -1,5 +1,4 @@
-use Rattle.std.proofs.Common.{◌∙◌, ap, None, List, Bool}
-use Rattle.std.specs.List.{slice_get}
+use Rattle.std.{proofs.Common.{◌∙◌, ap, None, List, Bool}, specs.List.slice_get}
 use Rattle.ix_numbers.proofs.Tied.{stands_taken, changed}
 use Rattle.ix_pipe.proofs.pipes.Pipes.free.Goals as goal
 

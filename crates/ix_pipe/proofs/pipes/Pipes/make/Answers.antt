@@ -1,6 +1,5 @@
 use Rattle.std.proofs.Common.{◌∙◌, ap, arith, Some}
-use Rattle.ix_numbers.specs.Marks.{lowest}
-use Rattle.ix_numbers.proofs.Tied.{lowest_vacant, given_vacant, changed}
+use Rattle.ix_numbers.{specs.Marks.lowest, proofs.Tied.{lowest_vacant, given_vacant, changed}}
 use Rattle.ix_pipe.specs.Pipe.{new_pipe}
 use Rattle.ix_pipe.proofs.pipes.Pipes.make.Goals as goal
 

@@ -1,7 +1,5 @@
-use Rattle.std.proofs.Common.{◌≡◌, ◌∙◌, ap, sym, arith, None, replicate, ℕ, Option}
-use Rattle.std.proofs.lemmas.List.{replicate_more}
-use Rattle.ix_numbers.specs.Marks.{vacancies}
-use Rattle.ix_numbers.proofs.Tied.{none_stands}
+use Rattle.std.proofs.{Common.{◌≡◌, ◌∙◌, ap, sym, arith, None, replicate, ℕ, Option}, lemmas.List.replicate_more}
+use Rattle.ix_numbers.{specs.Marks.vacancies, proofs.Tied.none_stands}
 use Rattle.ix_pipe.specs.Pipe.{Pipe}
 use Rattle.ix_pipe.proofs.pipes.Pipes.new.Goals as goal
 

@@ -1,10 +1,6 @@
-use Rattle.std.proofs.Common.{◌≡◌, true, ◌∙◌}
-use Rattle.std.proofs.lemmas.Result.{err_from_is_err_and}
+use Rattle.std.proofs.{Common.{◌≡◌, true, ◌∙◌}, lemmas.Result.err_from_is_err_and}
 use Rattle.serde_json.specs.View.{view}
-use Rattle.ix_policy.specs.Policies.{policy, rules_in}
-use Rattle.ix_policy.proofs.Walking.{cause_of}
-use Rattle.ix_policy.proofs.Fitting.{policy_fits}
-use Rattle.ix_policy.proofs.Values.{policy_of_value, policy_of_none}
+use Rattle.ix_policy.{specs.Policies.{policy, rules_in}, proofs.{Walking.cause_of, Fitting.policy_fits, Values.{policy_of_value, policy_of_none}}}
 use Rattle.ix_policy.proofs.policy.Policy.read.Goals as goal
 
 pub returns-in-Err-clause-err : goal.returns-in-Err-clause-err

@@ -1,16 +1,8 @@
 use Rattle.std.proofs.Common.{◌≡◌, ℕ, List, Some, None, is_some, length, true≢false, sym, ap, ◌∙◌, subst, arith, vec_capacity}
-use Rattle.std.specs.List.{find}
-use Rattle.std.proofs.lemmas.List.{get_or_read}
+use Rattle.std.{specs.List.find, proofs.lemmas.List.get_or_read}
 use Rattle.ix_links.specs.Chains.{chain_of}
-use Rattle.ix_proc.specs.Table.{EndedChild}
-use Rattle.ix_proc.specs.Slots.{lookup, Finds, record_at, nobody}
-use Rattle.ix_proc.specs.Kin.{IsWalk}
-use Rattle.ix_proc.proofs.Found.{slot_of}
-use Rattle.ix_proc.proofs.Hanging.{link_low}
-use Rattle.ix_proc.proofs.Walking.{chain_walk}
-use Rattle.ix_proc.proofs.Asked.{none_without, none_given, child_low, child_ended, child_given}
-use Rattle.ix_proc.specs.declared.slot.Slot.{Slot}
-use Rattle.ix_proc.specs.declared.slot.Record.{Record}
+use Rattle.ix_proc.specs.{Table.EndedChild, Slots.{lookup, Finds, record_at, nobody}, Kin.IsWalk, declared.slot.{Slot.Slot, Record.Record}}
+use Rattle.ix_proc.proofs.{Found.slot_of, Hanging.link_low, Walking.chain_walk, Asked.{none_without, none_given, child_low, child_ended, child_given}}
 use Rattle.ix_proc.proofs.procs.Procs.ended_child.Goals as goal
 
 pub returns-in_err-k : goal.returns-in_err-k

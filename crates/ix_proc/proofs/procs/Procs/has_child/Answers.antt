@@ -1,9 +1,5 @@
 use Rattle.std.proofs.Common.{◌≡◌, List, Some, None, sym, ◌∙◌, subst, arith, vec_capacity}
-use Rattle.ix_proc.specs.Slots.{lookup, Finds}
-use Rattle.ix_proc.proofs.Found.{slot_of}
-use Rattle.ix_proc.proofs.Hanging.{link_low}
-use Rattle.ix_proc.proofs.Asked.{childless_without, has_first}
-use Rattle.ix_proc.specs.declared.slot.Slot.{Slot}
+use Rattle.ix_proc.{specs.{Slots.{lookup, Finds}, declared.slot.Slot.Slot}, proofs.{Found.slot_of, Hanging.link_low, Asked.{childless_without, has_first}}}
 use Rattle.ix_proc.proofs.procs.Procs.has_child.Goals as goal
 
 pub returns-in_default : goal.returns-in_default

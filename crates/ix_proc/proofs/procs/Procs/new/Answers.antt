@@ -1,8 +1,6 @@
 use Rattle.std.proofs.Common.{◌+◌, sym, ap, ◌∙◌, arith, vec_capacity}
 use Rattle.ix_links.specs.Chains.{all_free}
-use Rattle.ix_proc.specs.Table.{no_processes}
-use Rattle.ix_proc.proofs.Laying.{are_none, no_tables}
-use Rattle.ix_proc.proofs.Starting.{kin_none}
+use Rattle.ix_proc.{specs.Table.no_processes, proofs.{Laying.{are_none, no_tables}, Starting.kin_none}}
 use Rattle.ix_proc.proofs.procs.Procs.new.Goals as goal
 
 pub invariant_of-result : goal.invariant_of-result

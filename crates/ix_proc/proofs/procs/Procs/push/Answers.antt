@@ -1,10 +1,6 @@
-use Rattle.std.proofs.Common.{List, refl, sym, ◌∙◌, subst, arith, vec_capacity}
-use Rattle.std.proofs.lemmas.List.{length-set}
-use Rattle.ix_proc.specs.Slots.{new_record}
-use Rattle.ix_proc.specs.Kin.{Parented}
-use Rattle.ix_proc.proofs.Hanging.{hangs_there}
-use Rattle.ix_proc.proofs.Adding.{next_pid_is, parent_there, room, in_records, pushed_are, pushed_kin, pushed_table}
-use Rattle.ix_proc.specs.declared.slot.Slot.{Slot}
+use Rattle.std.proofs.{Common.{List, refl, sym, ◌∙◌, subst, arith, vec_capacity}, lemmas.List.length-set}
+use Rattle.ix_proc.specs.{Slots.new_record, Kin.Parented, declared.slot.Slot.Slot}
+use Rattle.ix_proc.proofs.{Hanging.hangs_there, Adding.{next_pid_is, parent_there, room, in_records, pushed_are, pushed_kin, pushed_table}}
 use Rattle.ix_proc.proofs.procs.Procs.push.Goals as goal
 
 pub chain_behind-chain-requires-clause-parented : goal.chain_behind-chain-requires-clause-parented

@@ -1,10 +1,7 @@
-use Rattle.std.proofs.Common.{◌≡◌, Option, List, Some, None, sym, ap, ◌∙◌, subst, arith, vec_capacity, Bor}
+use Rattle.std.proofs.{Common.{◌≡◌, Option, List, Some, None, sym, ap, ◌∙◌, subst, arith, vec_capacity, Bor}, lemmas.List.get_or_read}
 use Rattle.std.specs.Option.{option_copied, IfSome}
-use Rattle.std.proofs.lemmas.List.{get_or_read}
-use Rattle.ix_proc.specs.Slots.{lookup, Finds, process_of, process_in, status_in, record_at, nobody}
+use Rattle.ix_proc.specs.{Slots.{lookup, Finds, process_of, process_in, status_in, record_at, nobody}, declared.slot.{Slot.Slot, Record.Record}}
 use Rattle.ix_proc.proofs.Found.{slot_of, absent, no_status, process_is, status_is}
-use Rattle.ix_proc.specs.declared.slot.Slot.{Slot}
-use Rattle.ix_proc.specs.declared.slot.Record.{Record}
 use Rattle.ix_proc.proofs.procs.Procs.record.Goals as goal
 
 pub returns-in_err-k : goal.returns-in_err-k

@@ -1,15 +1,8 @@
-use Rattle.std.proofs.Common.{◌≡◌, Option, List, Some, None, sym, ap, subst, arith, vec_capacity}
-use Rattle.std.proofs.lemmas.List.{get_or_read}
-use Rattle.ix_proc.specs.Slots.{lookup, Finds, record_at, nobody}
-use Rattle.ix_proc.specs.Kin.{Parented}
-use Rattle.ix_proc.proofs.Laying.{are_removed}
-use Rattle.ix_proc.proofs.Found.{slot_of, not_there, record_gone}
-use Rattle.ix_proc.proofs.Hanging.{hangs_there}
-use Rattle.ix_proc.proofs.Adding.{own_parent, removed_held, removed_kin}
+use Rattle.std.proofs.{Common.{◌≡◌, Option, List, Some, None, sym, ap, subst, arith, vec_capacity}, lemmas.List.get_or_read}
+use Rattle.ix_proc.specs.{Slots.{lookup, Finds, record_at, nobody}, Kin.Parented, declared.slot.{Slot.Slot, Record.Record}}
+use Rattle.ix_proc.proofs.{Laying.are_removed, Found.{slot_of, not_there, record_gone}, Hanging.hangs_there, Adding.{own_parent, removed_held, removed_kin}}
 use Rattle.ix_proc.proofs.Asked.{childless_anyway}
 use Rattle.ix_model.specs.declared.ids.Pid.{Pid}
-use Rattle.ix_proc.specs.declared.slot.Slot.{Slot}
-use Rattle.ix_proc.specs.declared.slot.Record.{Record}
 use Rattle.ix_proc.proofs.procs.Procs.remove.Goals as goal
 
 pub unreachable-requires : goal.unreachable-requires

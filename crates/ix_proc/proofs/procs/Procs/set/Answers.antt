@@ -1,10 +1,5 @@
-use Rattle.std.proofs.Common.{◌≡◌, List, Some, None, refl, ◌∙◌, subst, arith, vec_capacity}
-use Rattle.std.proofs.lemmas.List.{length-set}
-use Rattle.ix_proc.specs.Slots.{lookup, Finds}
-use Rattle.ix_proc.proofs.Laying.{are_set}
-use Rattle.ix_proc.proofs.Found.{slot_of, not_there, record_set}
-use Rattle.ix_proc.proofs.Adding.{set_kin}
-use Rattle.ix_proc.specs.declared.slot.Slot.{Slot}
+use Rattle.std.proofs.{Common.{◌≡◌, List, Some, None, refl, ◌∙◌, subst, arith, vec_capacity}, lemmas.List.length-set}
+use Rattle.ix_proc.{specs.{Slots.{lookup, Finds}, declared.slot.Slot.Slot}, proofs.{Laying.are_set, Found.{slot_of, not_there, record_set}, Adding.set_kin}}
 use Rattle.ix_proc.proofs.procs.Procs.set.Goals as goal
 
 pub unreachable-requires : goal.unreachable-requires

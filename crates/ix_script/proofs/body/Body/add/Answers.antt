@@ -1,10 +1,8 @@
 use Rattle.std.proofs.Common.{[], ◌∷◌, ℕ, ◌≡◌, ◌++◌, false, List, Option, option_map, Some, sym, ap, ◌∙◌, refl, subst, arith}
-use Rattle.ix_script.specs.lines.Before.{is_command, in_lane, new_fds, new_procs, lanes_after}
-use Rattle.ix_script.specs.reader.Told.{phase_lanes_in}
-use Rattle.ix_script.specs.declared.body.Body.{Body}
-use Rattle.ix_script.specs.declared.line.Line.TheVariants as line
+use Rattle.ix_script.specs.{lines.Before.{is_command, in_lane, new_fds, new_procs, lanes_after}, reader.Told.phase_lanes_in, declared.body.Body.Body}
 use Rattle.ix_script.proofs.reader.Commands.{still, on_ok, one_counted, or_true, or_false, body_next, lane_added, no_more}
 use Rattle.ix_script.proofs.reader.PhaseLanes.{OneMore, ComesNext, comes_next, next_more, other_more}
+use Rattle.ix_script.specs.declared.line.Line.TheVariants as line
 use Rattle.ix_script.proofs.body.Body.add.Goals as goal
 
 pub returns-in-Phase : goal.returns-in-Phase

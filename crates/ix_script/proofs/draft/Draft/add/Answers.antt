@@ -1,13 +1,6 @@
 use Rattle.std.proofs.Common.{◌≡◌, List, [], ◌∷◌, ◌++◌, sym, ap, ◌∙◌, arith}
-use Rattle.ix_script.specs.lines.Before.{form_told}
-use Rattle.ix_script.specs.lines.Roles.{role_of}
-use Rattle.ix_script.specs.scripts.Need.{cost_of_line}
-use Rattle.ix_script.specs.scripts.Packed.{line_in}
-use Rattle.ix_script.specs.declared.line.Line.{Line}
-use Rattle.ix_script.proofs.reader.Counting.{few_commands}
-use Rattle.ix_script.proofs.reader.Keeping.{few_names, few_objects}
-use Rattle.ix_script.proofs.lines.Deciding.{none_there}
-use Rattle.ix_script.proofs.reader.Packing.{right_line}
+use Rattle.ix_script.specs.{lines.{Before.form_told, Roles.role_of}, scripts.{Need.cost_of_line, Packed.line_in}, declared.line.Line.Line}
+use Rattle.ix_script.proofs.{reader.{Commands.on_ok, Counting.few_commands, Keeping.{few_names, few_objects}, Packing.right_line}, lines.Deciding.none_there}
 use Rattle.ix_script.proofs.draft.Draft.add.Goals as goal
 
 pub add-requires-clause-objects : goal.add-requires-clause-objects
@@ -42,14 +35,15 @@ pub returns-clause-lines : goal.returns-clause-lines
 returns-clause-lines c =
     let before : List Line = c.args.self.now.lines in
     let is : line_in c.form_with-form.result c.args.text.now ≡ c.args.line.now = rw c.form_with-form.ensures (right_line before c.args.line.now c.args.text.now c.requires.right).1 in
-    c.in_ok-push.ensures ∙ ap (λ (l : Line). before ++ l ∷ []) is
+    on_ok c.push.result (λ pushed. pushed ∙ ap (λ (l : Line). before ++ l ∷ []) is) c.push.ensures
 
 pub returns-clause-told : goal.returns-clause-told
 returns-clause-told c =
     let before : List Line = c.args.self.now.lines in
     let is : line_in c.form_with-form.result c.args.text.now ≡ c.args.line.now = rw c.form_with-form.ensures (right_line before c.args.line.now c.args.text.now c.requires.right).1 in
-    let lines : c.push.new.self ≡ before ++ c.args.line.now ∷ [] = c.in_ok-push.ensures ∙ ap (λ (l : Line). before ++ l ∷ []) is in
+    on_ok c.push.result (λ pushed.
+    let lines : c.push.new.self ≡ before ++ c.args.line.now ∷ [] = pushed ∙ ap (λ (l : Line). before ++ l ∷ []) is in
     rw lines record {
       header = c.in_ok-add.ensures before (none_there c.len-first.result before c.len-first.ensures) c.requires.told.header c.requires.valid c.requires.right.fits;
       body = c.in_ok-add-2.ensures before c.requires.told.body;
-    }
+    }) c.push.ensures

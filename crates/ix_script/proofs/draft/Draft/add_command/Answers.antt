@@ -1,12 +1,7 @@
 use Rattle.std.proofs.Common.{◌≡◌, List, [], ◌∷◌, ◌++◌, None, refl, sym, ap, ◌∙◌, arith}
-use Rattle.ix_script.specs.lines.Before.{form_told}
-use Rattle.ix_script.specs.lines.Faults.{said_fault, line_fault}
-use Rattle.ix_script.specs.lines.Said.{line_of}
-use Rattle.ix_script.specs.scripts.Packed.{line_in}
-use Rattle.ix_script.specs.reader.Readers.{LineRight}
+use Rattle.ix_script.specs.{lines.{Before.form_told, Faults.{said_fault, line_fault}, Said.line_of}, scripts.Packed.line_in, reader.Readers.LineRight}
 use Rattle.ix_script.specs.declared.line.Line.{Line}
-use Rattle.ix_script.proofs.reader.Commands.{quiet, too_many, few_enough, later_form, header_quiet, body_quiet}
-use Rattle.ix_script.proofs.reader.Packing.{right_line}
+use Rattle.ix_script.proofs.reader.{Commands.{quiet, too_many, few_enough, later_form, header_quiet, body_quiet}, Packing.right_line}
 use Rattle.ix_script.proofs.draft.Draft.add_command.Goals as goal
 
 pub returns-then-self-ge200000-clause-fail : goal.returns-then-self-ge200000-clause-fail

@@ -1,6 +1,4 @@
-use Rattle.ix_script.specs.lines.Before.{form_told}
-use Rattle.ix_script.specs.lines.Forms.{places}
-use Rattle.ix_script.proofs.lines.Readings.{stand}
+use Rattle.ix_script.{specs.lines.{Before.form_told, Forms.places}, proofs.lines.Readings.stand}
 use Rattle.ix_script.proofs.draft.Draft.add_formed.Goals as goal
 
 pub line_by_form-line-requires : goal.line_by_form-line-requires

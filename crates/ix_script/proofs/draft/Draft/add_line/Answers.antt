@@ -1,15 +1,9 @@
-use Rattle.std.proofs.Common.{◌≡◌, List, ℕ, Option, None, Some, false, sym, ap, ◌∙◌, subst}
-use Rattle.std.specs.Option.{option_map_or}
+use Rattle.std.{proofs.Common.{◌≡◌, List, ℕ, Option, None, Some, false, sym, ap, ◌∙◌, subst}, specs.Option.option_map_or}
 use Rattle.ix_text.specs.Bytes.{is_empty}
-use Rattle.ix_script.specs.texts.Cutting.{words_of, is_skipped, is_policy_line}
-use Rattle.ix_script.specs.lines.Before.{form_told}
-use Rattle.ix_script.specs.lines.Faults.{said_fault, command_fault, line_fault}
-use Rattle.ix_script.specs.lines.Said.{line_of}
-use Rattle.ix_script.specs.declared.form.Form.{Form}
-use Rattle.ix_script.specs.declared.line.Line.{Line}
+use Rattle.ix_script.specs.{texts.Cutting.{words_of, is_skipped, is_policy_line}, declared.{form.Form.Form, line.Line.Line}}
+use Rattle.ix_script.specs.lines.{Before.form_told, Faults.{said_fault, command_fault, line_fault}, Said.line_of}
 use Rattle.ix_script.specs.reader.Readers.{FormRight, IsFormed, LineRight}
-use Rattle.ix_script.proofs.lines.Deciding.{whole_fault, some_lines, text_broken, by_words, said_by_form, said_is}
-use Rattle.ix_script.proofs.reader.Commands.{entry_said}
+use Rattle.ix_script.proofs.{lines.Deciding.{whole_fault, some_lines, text_broken, by_words, said_by_form, said_is}, reader.Commands.entry_said}
 use Rattle.ix_script.proofs.draft.Draft.add_line.Goals as goal
 
 pub returns-in-Err-clause-fail : goal.returns-in-Err-clause-fail

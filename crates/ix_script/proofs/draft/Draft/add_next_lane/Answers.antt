@@ -1,18 +1,9 @@
 use Rattle.std.proofs.Common.{◌≡◌, ℕ, ◌∷◌, ◌++◌, [], List, Some, refl, sym, ap, ◌∙◌, drop}
-use Rattle.ix_script.specs.lines.Before.{form_told, lanes_after}
-use Rattle.ix_script.specs.lines.Faults.{line_fault}
-use Rattle.ix_script.specs.lines.Roles.{role_of}
-use Rattle.ix_script.specs.lines.Said.{line_of}
-use Rattle.ix_script.specs.scripts.Need.{cost_of_line}
-use Rattle.ix_script.specs.scripts.Packed.{line_in}
-use Rattle.ix_script.specs.reader.Readers.{LineRight}
-use Rattle.ix_script.specs.declared.draft.Draft.{Draft}
-use Rattle.ix_script.specs.declared.line.Line.{Line}
+use Rattle.ix_script.specs.{lines.{Before.{form_told, lanes_after}, Faults.line_fault, Roles.role_of, Said.line_of}, reader.Readers.LineRight}
+use Rattle.ix_script.specs.{scripts.{Need.cost_of_line, Packed.line_in}, declared.{draft.Draft.Draft, line.Line.Line}}
 use Rattle.ix_script.specs.declared.line.Line.TheVariants as line
-use Rattle.ix_script.proofs.reader.Commands.{later_form, header_quiet, lane_behind, lane_added, on_ok}
-use Rattle.ix_script.proofs.reader.Packing.{right_line}
-use Rattle.ix_script.proofs.reader.PhaseLanes.{ComesNext, comes_next, next_more}
-use Rattle.ix_script.proofs.back.NextLane.{next_right, next_known}
+use Rattle.ix_script.proofs.{reader.Commands.{later_form, header_quiet, lane_behind, lane_added, on_ok}, reader.Packing.right_line}
+use Rattle.ix_script.proofs.{reader.PhaseLanes.{ComesNext, comes_next, next_more}, back.NextLane.{next_right, next_known}}
 use Rattle.ix_script.proofs.draft.Draft.add_next_lane.Goals as goal
 
 pub push-requires-clause-faultless : goal.push-requires-clause-faultless

@@ -1,6 +1,5 @@
 use Rattle.std.proofs.Common.{◌∙◌, [], ◌∷◌, sym}
-use Rattle.ix_script.specs.lines.Rules.{object_above, object_is_misplaced, object_exceeds_limits}
-use Rattle.ix_script.proofs.lines.Refusals.{broken, kept}
+use Rattle.ix_script.{specs.lines.Rules.{object_above, object_is_misplaced, object_exceeds_limits}, proofs.lines.Refusals.{broken, kept}}
 use Rattle.ix_script.proofs.draft.Draft.check_object.Goals as goal
 
 pub returns-then-is_above : goal.returns-then-is_above

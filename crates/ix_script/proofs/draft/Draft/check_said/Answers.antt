@@ -1,7 +1,5 @@
 use Rattle.std.proofs.Common.{◌∙◌, [], ◌∷◌, refl, sym}
-use Rattle.ix_script.specs.lines.Before.{dir_spec, file_spec}
-use Rattle.ix_script.specs.lines.Faults.{said_fault}
-use Rattle.ix_script.specs.lines.Rules.{is_one_too_many, lacks_policy}
+use Rattle.ix_script.specs.lines.{Before.{dir_spec, file_spec}, Faults.said_fault, Rules.{is_one_too_many, lacks_policy}}
 use Rattle.ix_script.proofs.lines.Refusals.{broken, kept, other_said}
 use Rattle.ix_script.proofs.draft.Draft.check_said.Goals as goal
 

@@ -1,11 +1,7 @@
-use Rattle.std.proofs.Common.{◌<◌, ◌∙◌, ℕ, List, sym, ap, length, arith}
-use Rattle.std.specs.List.{list_any}
-use Rattle.ix_model.specs.world.Naming.{same_bytes}
-use Rattle.ix_model.specs.declared.config.FsSpec.{FsSpec}
-use Rattle.ix_script.specs.lines.Before.{form_told, fss_told, what_text, whats_told}
-use Rattle.ix_script.specs.texts.Cutting.{word_at}
-use Rattle.ix_script.proofs.reader.Verdicts.{any_map}
-use Rattle.ix_script.proofs.reader.Keeping.{told_is}
+use Rattle.std.{proofs.Common.{◌<◌, ◌∙◌, ℕ, List, sym, ap, length, arith}, specs.List.list_any}
+use Rattle.ix_model.specs.{world.Naming.same_bytes, declared.config.FsSpec.FsSpec}
+use Rattle.ix_script.specs.{lines.Before.{form_told, fss_told, what_text, whats_told}, texts.Cutting.word_at}
+use Rattle.ix_script.proofs.reader.{Verdicts.any_map, Keeping.told_is}
 use Rattle.ix_script.proofs.draft.Draft.gives_twice.Goals as goal
 
 pub returns-in-Limit : goal.returns-in-Limit

@@ -1,7 +1,6 @@
 use Rattle.std.proofs.Common.{◌∙◌}
 use Rattle.ix_model.specs.world.Paths.{path_of}
-use Rattle.ix_script.specs.lines.Before.{objects_of}
-use Rattle.ix_script.proofs.reader.Making.{not_mount}
+use Rattle.ix_script.{specs.lines.Before.objects_of, proofs.reader.Making.not_mount}
 use Rattle.ix_script.proofs.draft.Draft.is_taken.Goals as goal
 
 pub returns-else-is_mount : goal.returns-else-is_mount

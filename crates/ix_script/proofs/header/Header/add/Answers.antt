@@ -1,11 +1,8 @@
-use Rattle.std.proofs.Common.{ℕ, List, [], ◌∷◌, ◌++◌, refl, sym, ap, subst, arith}
-use Rattle.std.proofs.lemmas.List.{append-nil}
+use Rattle.std.proofs.{Common.{ℕ, List, [], ◌∷◌, ◌++◌, refl, sym, ap, subst, arith}, lemmas.List.append-nil}
 use Rattle.ix_model.specs.world.Naming.{PathOf}
 use Rattle.ix_script.specs.reader.Indexed.{AreNames}
 use Rattle.ix_script.proofs.lines.Follows.{follows}
-use Rattle.ix_script.proofs.reader.Commands.{on_ok, on_both, or_true, or_false}
-use Rattle.ix_script.proofs.reader.Keeping.{header_next, no_names, nothing_made, quiet}
-use Rattle.ix_script.proofs.reader.Validity.{fits_of}
+use Rattle.ix_script.proofs.reader.{Commands.{on_ok, on_both, or_true, or_false}, Keeping.{header_next, no_names, nothing_made, quiet}, Validity.fits_of}
 use Rattle.ix_script.proofs.header.Header.add.Goals as goal
 
 pub returns-in-Limit : goal.returns-in-Limit

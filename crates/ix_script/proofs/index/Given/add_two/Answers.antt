@@ -1,7 +1,5 @@
 use Rattle.std.proofs.Common.{List, [], ◌∷◌, ◌++◌, ℕ, Option, option_map, subst}
-use Rattle.ix_script.specs.lines.Before.{in_lane}
-use Rattle.ix_script.specs.reader.Indexed.{AreIndexed}
-use Rattle.ix_script.proofs.reader.Indexing.{two_in_lane}
+use Rattle.ix_script.{specs.{lines.Before.in_lane, reader.Indexed.AreIndexed}, proofs.reader.Indexing.two_in_lane}
 use Rattle.ix_script.proofs.index.Given.add_two.Goals as goal
 
 pub returns-in_ok-add-in-Some-2 : goal.returns-in_ok-add-in-Some-2

@@ -1,9 +1,6 @@
-use Rattle.std.proofs.Common.{◌≡◌, ◌||◌, ◌&&◌, true, false, sym, ap, ◌∙◌}
-use Rattle.std.specs.BTreeSet.{contains}
-use Rattle.std.specs.List.{list_any}
+use Rattle.std.{proofs.Common.{◌≡◌, ◌||◌, ◌&&◌, true, false, sym, ap, ◌∙◌}, specs.{BTreeSet.contains, List.list_any}}
 use Rattle.ix_model.specs.world.Naming.{same_bytes}
-use Rattle.ix_script.specs.declared.index.Place.{Place}
-use Rattle.ix_script.specs.reader.Indexed.{is_named, place_cmp}
+use Rattle.ix_script.specs.{declared.index.Place.Place, reader.Indexed.{is_named, place_cmp}}
 use Rattle.ix_script.proofs.index.Given.has.Goals as goal
 
 pub returns-then-is_near : goal.returns-then-is_near

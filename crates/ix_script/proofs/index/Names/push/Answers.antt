@@ -1,6 +1,5 @@
 use Rattle.std.proofs.Common.{[], List, ℕ, map, subst}
-use Rattle.ix_script.specs.reader.Indexed.{AreIndexed}
-use Rattle.ix_script.proofs.reader.Indexing.{no_lane_push}
+use Rattle.ix_script.{specs.reader.Indexed.AreIndexed, proofs.reader.Indexing.no_lane_push}
 use Rattle.ix_script.proofs.index.Names.push.Goals as goal
 
 pub returns-clause-names : goal.returns-clause-names

@@ -1,7 +1,5 @@
-use Rattle.std.proofs.Common.{◌∙◌, ◌&&◌, cond, not}
-use Rattle.std.specs.List.{list_any}
-use Rattle.ix_model.specs.world.Naming.{same_names}
-use Rattle.ix_model.specs.world.Paths.{path_of}
+use Rattle.std.{proofs.Common.{◌∙◌, ◌&&◌, cond, not}, specs.List.list_any}
+use Rattle.ix_model.specs.world.{Naming.same_names, Paths.path_of}
 use Rattle.ix_script.proofs.reader.Indexing.{there_by_dir, there_by_file}
 use Rattle.ix_script.proofs.index.Tree.has.Goals as goal
 

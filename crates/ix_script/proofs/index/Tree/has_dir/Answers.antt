@@ -1,5 +1,4 @@
-use Rattle.std.proofs.Common.{◌∙◌, ◌&&◌, cond, not}
-use Rattle.std.specs.List.{list_any}
+use Rattle.std.{proofs.Common.{◌∙◌, ◌&&◌, cond, not}, specs.List.list_any}
 use Rattle.ix_model.specs.world.Naming.{same_names}
 use Rattle.ix_script.proofs.index.Tree.has_dir.Goals as goal
 

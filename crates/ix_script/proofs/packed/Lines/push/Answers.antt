@@ -1,11 +1,7 @@
 use Rattle.std.proofs.Common.{◌≡◌, ℕ, ◌+◌, ◌++◌, ◌∷◌, [], List, length, refl, sym, ap, ◌∙◌, arith}
 use Rattle.ix_label.specs.declared.form.Form.{Form}
-use Rattle.ix_script.specs.lines.Before.{form_told}
-use Rattle.ix_script.specs.lines.Roles.{role_of}
-use Rattle.ix_script.specs.scripts.Packed.{held, line_in}
-use Rattle.ix_script.specs.declared.line.Line.{Line}
-use Rattle.ix_script.proofs.reader.Packing.{lines_after, held_after, length-held}
-use Rattle.ix_script.proofs.reader.Summing.{costs_little, need_little, summed_after}
+use Rattle.ix_script.specs.{lines.{Before.form_told, Roles.role_of}, scripts.Packed.{held, line_in}, declared.line.Line.Line}
+use Rattle.ix_script.proofs.reader.{Packing.{lines_after, held_after, length-held}, Summing.{costs_little, need_little, summed_after}}
 use Rattle.ix_script.proofs.packed.Lines.push.Goals as goal
 
 pub overflow_add-self : goal.overflow_add-self

@@ -1,8 +1,6 @@
-use Rattle.std.proofs.Common.{◌≡◌, ◌∙◌, ◌++◌, refl, sym, ap}
-use Rattle.std.proofs.lemmas.List.{append-nil}
+use Rattle.std.proofs.{Common.{◌≡◌, ◌∙◌, ◌++◌, refl, sym, ap}, lemmas.List.append-nil}
 use Rattle.ix_script.specs.lines.Before.{fs_told, limits_after, proc_told, object_told}
-use Rattle.ix_script.proofs.reader.Pushed.{fss_push, limits_push, procs_push, objects_push}
-use Rattle.ix_script.proofs.plan.Plan.add.Goals.{in-Some+in_ok-push, in_default}
+use Rattle.ix_script.proofs.{reader.Pushed.{fss_push, limits_push, procs_push, objects_push}, plan.Plan.add.Goals.{in-Some+in_ok-push, in_default}}
 use Rattle.ix_script.proofs.plan.Plan.add.Goals as goal
 
 pub returns : goal.returns

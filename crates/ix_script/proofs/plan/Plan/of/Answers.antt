@@ -1,6 +1,5 @@
 use Rattle.std.proofs.Common.{◌<◌, length, sym, ◌∙◌, take, arith}
-use Rattle.ix_script.proofs.reader.Planning.{in_it, plan_more, plan_same, plan_all}
-use Rattle.ix_script.proofs.plan.Plan.of.Goals.{in-Some+in_ok-add, in_default}
+use Rattle.ix_script.proofs.{reader.Planning.{in_it, plan_more, plan_same, plan_all}, plan.Plan.of.Goals.{in-Some+in_ok-add, in_default}}
 use Rattle.ix_script.proofs.plan.Plan.of.Goals as goal
 
 pub lines-preserved : goal.lines-preserved

@@ -1,7 +1,6 @@
 use Rattle.std.proofs.Common.{sym, ◌∙◌, subst}
-use Rattle.ix_script.specs.scripts.Schedule.{SeatsDiffer}
-use Rattle.ix_script.proofs.reader.Seats.{seats_differ}
+use Rattle.ix_script.{specs.scripts.Schedule.SeatsDiffer, proofs.reader.Seats.seats_differ}
 use Rattle.ix_script.proofs.script.Script.of.Goals as goal
 
 pub of-requires-clause-differ : goal.of-requires-clause-differ
-of-requires-clause-differ c = subst SeatsDiffer (sym (c.as_slice.ensures ∙ c.requires.told.body.lanes)) (seats_differ c.args.draft.lines)
+of-requires-clause-differ c = subst SeatsDiffer (sym (c.as_slice.ensures ∙ c.requires.named)) (seats_differ c.args.lines)

@@ -1,14 +1,8 @@
-use Rattle.std.proofs.Common.{◌≡◌, List, Some, false, length, slice_get, sym, ◌∙◌, ap, arith}
-use Rattle.std.specs.List.{position_from}
-use Rattle.std.specs.Option.{option_map_or}
-use Rattle.std.proofs.lemmas.Iterator.Adapters.{position_from-zero}
-use Rattle.std.proofs.lemmas.List.{drop_all}
-use Rattle.ix_script.specs.lines.Before.{is_policy}
-use Rattle.ix_script.specs.lines.Roles.{header_only}
-use Rattle.ix_script.specs.declared.line.Line.{Line}
+use Rattle.std.proofs.{Common.{◌≡◌, List, Some, false, length, slice_get, sym, ◌∙◌, ap, arith}, lemmas.{Iterator.Adapters.position_from-zero, List.drop_all}}
+use Rattle.std.specs.{List.position_from, Option.option_map_or}
+use Rattle.ix_script.specs.{lines.{Before.is_policy, Roles.header_only}, declared.line.Line.Line}
+use Rattle.ix_script.proofs.reader.{Planning.{in_it, not_header}, Walking.{policy_here, policy_later, not_policy, policy_is, policy_none}}
 use Rattle.ix_script.specs.declared.line.Line.TheVariants as line
-use Rattle.ix_script.proofs.reader.Planning.{in_it, not_header}
-use Rattle.ix_script.proofs.reader.Walking.{policy_here, policy_later, not_policy, policy_is, policy_none}
 use Rattle.ix_script.proofs.script.Script.policy.Goals as goal
 
 pub lines-preserved-in_default : goal.lines-preserved-in_default

@@ -1,5 +1,4 @@
-use Rattle.std.proofs.Common.{◌≡◌, drop}
-use Rattle.std.specs.List.{position_from}
+use Rattle.std.{proofs.Common.{◌≡◌, drop}, specs.List.position_from}
 use Rattle.ix_script.specs.lines.Before.{is_policy}
 use Rattle.ix_script.proofs.script.Script.policy.Given as goal
 

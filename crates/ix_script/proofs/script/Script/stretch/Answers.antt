@@ -1,5 +1,4 @@
-use Rattle.std.proofs.Common.{rules, ◌≡◌, [], get_or, ◌∙◌}
-use Rattle.std.specs.List.{slice_get}
+use Rattle.std.{proofs.Common.{rules, ◌≡◌, [], get_or, ◌∙◌}, specs.List.slice_get}
 use Rattle.ix_script.proofs.reader.Scheduling.{stretch_at}
 use Rattle.ix_script.proofs.script.Script.stretch.Goals as goal
 

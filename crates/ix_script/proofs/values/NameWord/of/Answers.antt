@@ -1,5 +1,4 @@
-use Rattle.ix_text.specs.Names.{name_of, is_script_name}
-use Rattle.ix_text.proofs.ScriptNames.{script_name_is_name}
+use Rattle.ix_text.{specs.Names.{name_of, is_script_name}, proofs.ScriptNames.script_name_is_name}
 use Rattle.ix_script.proofs.lines.Readings.{where_some}
 use Rattle.ix_script.proofs.values.NameWord.of.Goals as goal
 

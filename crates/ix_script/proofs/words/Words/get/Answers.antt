@@ -1,5 +1,4 @@
-use Rattle.std.proofs.Common.{List, ℕ, [], sym, ap, ◌∙◌, arith}
-use Rattle.std.proofs.lemmas.List.{get_or-map, length-map}
+use Rattle.std.proofs.{Common.{List, ℕ, [], sym, ap, ◌∙◌, arith}, lemmas.List.{get_or-map, length-map}}
 use Rattle.ix_script.specs.texts.Cutting.{word_at}
 use Rattle.ix_script.proofs.words.Words.get.Goals as goal
 

@@ -1,7 +1,5 @@
 use Rattle.std.proofs.Common.{refl}
-use Rattle.ix_script.proofs.texts.Words.{none_kept}
-use Rattle.ix_script.specs.texts.Cutting.{words_of}
-use Rattle.ix_script.specs.lines.Rules.{has_empty_word, has_open_quote}
+use Rattle.ix_script.{proofs.texts.Words.none_kept, specs.{texts.Cutting.words_of, lines.Rules.{has_empty_word, has_open_quote}}}
 use Rattle.ix_script.proofs.words.Words.none.Goals as goal
 
 pub invariant_of-result : goal.invariant_of-result

@@ -1,8 +1,6 @@
 use Rattle.std.proofs.Common.{◌≡◌, false, refl}
-use Rattle.ix_model.specs.declared.reply.Kind.{Kind}
+use Rattle.ix_model.specs.{declared.reply.Kind.Kind, world.World.is_file, rows.Walks.nothing}
 use Rattle.ix_model.specs.declared.reply.Kind.TheVariants as kind
-use Rattle.ix_model.specs.world.World.{is_file}
-use Rattle.ix_model.specs.rows.Walks.{nothing}
 use Rattle.ix_tables.proofs.row.ObjectRow.is_file.Goals as goal
 
 no_file : (k : Kind) → (k ≡ kind.File → ⊥) → false ≡ is_file (record nothing { kind = k })

@@ -1,8 +1,6 @@
 use Rattle.std.proofs.Common.{◌≡◌, false, refl}
-use Rattle.ix_model.specs.declared.reply.Kind.{Kind}
+use Rattle.ix_model.specs.{declared.reply.Kind.Kind, world.World.is_pipe, rows.Walks.nothing}
 use Rattle.ix_model.specs.declared.reply.Kind.TheVariants as kind
-use Rattle.ix_model.specs.world.World.{is_pipe}
-use Rattle.ix_model.specs.rows.Walks.{nothing}
 use Rattle.ix_tables.proofs.row.ObjectRow.is_pipe.Goals as goal
 
 no_pipe : (k : Kind) → (k ≡ kind.Pipe → ⊥) → false ≡ is_pipe (record nothing { kind = k })

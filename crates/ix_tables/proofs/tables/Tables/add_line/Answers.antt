@@ -1,8 +1,6 @@
 use Rattle.std.proofs.Common.{sym, ap, subst, ◌∙◌}
-use Rattle.ix_model.specs.world.Naming.{PathOf}
-use Rattle.ix_model.specs.opening.Opening.{directory_of}
-use Rattle.ix_tables.specs.Opening.{Leads}
-use Rattle.ix_tables.proofs.OpeningPlaces.{goes_from, fs_there, some_free, placed_there, line_there}
+use Rattle.ix_model.specs.{world.Naming.PathOf, opening.Opening.directory_of}
+use Rattle.ix_tables.{specs.Opening.Leads, proofs.OpeningPlaces.{goes_from, fs_there, some_free, placed_there, line_there}}
 use Rattle.ix_tables.proofs.tables.Tables.add_line.Goals as goal
 
 pub directory_of-dir-requires : goal.directory_of-dir-requires

@@ -1,10 +1,7 @@
 use Rattle.std.proofs.Common.{◌≡◌, ◌∙◌, ◌-◌, ◌++◌, true, Bool, ap, List, Option, refl, if◌then◌else◌}
-use Rattle.ix_model.specs.world.World.{change}
-use Rattle.ix_model.specs.world.Contents.{side, with_side}
+use Rattle.ix_model.specs.world.{World.change, Contents.{side, with_side}}
 use Rattle.ix_pipe.specs.Pipe.{Pipe, fits_at, with_more}
-use Rattle.ix_tables.specs.Joined.{joined}
-use Rattle.ix_tables.proofs.Refusing.{not_refused}
-use Rattle.ix_tables.proofs.Piping.{is_past, is_living, fits_there, filled_there}
+use Rattle.ix_tables.{specs.Joined.joined, proofs.{Refusing.not_refused, Piping.{is_past, is_living, fits_there, filled_there}}}
 use Rattle.ix_tables.proofs.tables.Tables.append.Goals as goal
 
 pub overflow_sub-n : goal.overflow_sub-n

@@ -1,14 +1,10 @@
 use Rattle.std.proofs.Common.{◌≡◌, ◌+◌, ◌≤◌, ℕ, List, length, map, ap, sym, ◌∙◌, arith}
-use Rattle.ix_model.specs.opening.Valid.{all_differ}
-use Rattle.ix_model.specs.world.Numbers.{first_pipe}
-use Rattle.ix_model.specs.declared.config.FsSpec.{FsSpec}
-use Rattle.ix_model.proofs.opening.Validity.{valid_parts}
+use Rattle.ix_model.{specs.{opening.Valid.all_differ, world.Numbers.first_pipe, declared.config.FsSpec.FsSpec}, proofs.opening.Validity.valid_parts}
 use Rattle.ix_inode.specs.Nodes.{Nodes, are_within, opened}
-use Rattle.ix_tables.specs.Joined.{joined}
-use Rattle.ix_open.specs.Table.{none_open}
-use Rattle.ix_tables.specs.Opening.{roots_named, homes_at_first}
+use Rattle.ix_tables.specs.{Joined.joined, Opening.{roots_named, homes_at_first}}
 use Rattle.ix_tables.proofs.OpeningBare.{bare_names, bare_pipes, bare_opens, bare_homes, bare_view}
 use Rattle.ix_tables.proofs.OpeningJoined.{fss_within, some_inode, bare_joined, first_is, joined_as}
+use Rattle.ix_open.specs.Table.{none_open}
 use Rattle.ix_tables.proofs.tables.Tables.bare.Goals as goal
 
 pub count_inodes-first_pipe-requires : goal.count_inodes-first_pipe-requires

@@ -1,9 +1,6 @@
 use Rattle.std.proofs.Common.{◌∙◌, ◌-◌, ap, List, Option}
-use Rattle.ix_pipe.specs.Pipe.{Pipe}
-use Rattle.ix_pipe.specs.Claims.{claim_answer}
-use Rattle.ix_tables.specs.Joined.{joined}
-use Rattle.ix_tables.proofs.Claiming.{claimed_there}
-use Rattle.ix_tables.proofs.Piping.{is_past, is_living, claims_there}
+use Rattle.ix_pipe.specs.{Pipe.Pipe, Claims.claim_answer}
+use Rattle.ix_tables.{specs.Joined.joined, proofs.{Claiming.claimed_there, Piping.{is_past, is_living, claims_there}}}
 use Rattle.ix_tables.proofs.tables.Tables.claim.Goals as goal
 
 pub overflow_sub-pipe : goal.overflow_sub-pipe

@@ -1,11 +1,7 @@
 use Rattle.std.proofs.Common.{◌≡◌, ◌∙◌, Bool, true, ap, if◌then◌else◌}
 use Rattle.ix_model.specs.world.Contents.{cut_to}
-use Rattle.ix_inode.specs.Nodes.{Nodes, has_space, holding, bytes_at}
-use Rattle.ix_inode.proofs.Laid.{file_lives}
-use Rattle.ix_tables.specs.Joined.{joined}
-use Rattle.ix_tables.proofs.Holding.{is_file_there, written_there}
-use Rattle.ix_tables.proofs.Rooms.{room_there}
-use Rattle.ix_tables.proofs.Refusing.{not_refused}
+use Rattle.ix_inode.{specs.Nodes.{Nodes, has_space, holding, bytes_at}, proofs.Laid.file_lives}
+use Rattle.ix_tables.{specs.Joined.joined, proofs.{Holding.{is_file_there, written_there}, Rooms.room_there, Refusing.not_refused}}
 use Rattle.ix_tables.proofs.tables.Tables.cut.Goals as goal
 
 pub lemma_blocks_add_up-requires : goal.lemma_blocks_add_up-requires

@@ -1,6 +1,5 @@
 use Rattle.std.proofs.Common.{◌+◌, arith, sym, ap, ◌∙◌, subst, ℕ, option_map}
-use Rattle.ix_model.specs.world.NameRefs.{name_of}
-use Rattle.ix_model.specs.world.Paths.{path_of}
+use Rattle.ix_model.specs.world.{NameRefs.name_of, Paths.path_of}
 use Rattle.ix_tables.proofs.OpeningLines.{IsOnWay, dir_on, step_on, way_ends}
 use Rattle.ix_tables.proofs.tables.Tables.directory_of.Goals as goal
 

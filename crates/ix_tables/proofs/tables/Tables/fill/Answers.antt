@@ -1,5 +1,4 @@
-use Rattle.ix_tables.proofs.OpeningLines.{filled}
-use Rattle.ix_tables.proofs.Repeating.{filled_up, room_filled_up}
+use Rattle.ix_tables.proofs.{OpeningLines.filled, Repeating.{filled_up, room_filled_up}}
 use Rattle.ix_tables.proofs.tables.Tables.fill.Goals as goal
 
 pub write_times-requires-clause-room : goal.write_times-requires-clause-room

@@ -1,7 +1,6 @@
 use Rattle.std.proofs.Common.{◌∙◌}
 use Rattle.ix_inode.proofs.Laid.{file_lives}
-use Rattle.ix_tables.proofs.Holding.{is_file_there}
-use Rattle.ix_tables.proofs.Rooms.{room_there}
+use Rattle.ix_tables.proofs.{Holding.is_file_there, Rooms.room_there}
 use Rattle.ix_tables.proofs.tables.Tables.has_room.Goals as goal
 
 pub lemma_blocks_add_up-requires : goal.lemma_blocks_add_up-requires

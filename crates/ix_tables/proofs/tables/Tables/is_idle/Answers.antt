@@ -1,8 +1,6 @@
 use Rattle.std.proofs.Common.{◌≡◌, ◌∙◌, ◌&&◌, nat_eq, true, not, Bool, ap, sym}
-use Rattle.ix_model.specs.world.World.{held}
-use Rattle.ix_tables.specs.Parts.{Parts}
-use Rattle.ix_model.specs.declared.reply.Kind.{Kind}
-use Rattle.ix_tables.proofs.Unmaking.{goes, only_files, some_links, idle_is, none_idle}
+use Rattle.ix_model.specs.{world.World.held, declared.reply.Kind.Kind}
+use Rattle.ix_tables.{specs.Parts.Parts, proofs.Unmaking.{goes, only_files, some_links, idle_is, none_idle}}
 use Rattle.ix_tables.proofs.tables.Tables.is_idle.Goals as goal
 
 pub returns-then-inode-eq0 : goal.returns-then-inode-eq0

@@ -1,8 +1,6 @@
-use Rattle.std.proofs.Common.{◌≡◌, ◌+◌, ◌-◌, ◌∙◌, ap, sym, false, length, arith}
-use Rattle.std.specs.Option.{option_map_or}
+use Rattle.std.{proofs.Common.{◌≡◌, ◌+◌, ◌-◌, ◌∙◌, ap, sym, false, length, arith}, specs.Option.option_map_or}
 use Rattle.ix_model.specs.world.World.{at, is_pipe}
-use Rattle.ix_tables.specs.Parts.{Parts}
-use Rattle.ix_tables.proofs.Telling.{inode_no_pipe, pipe_is_pipe}
+use Rattle.ix_tables.{specs.Parts.Parts, proofs.Telling.{inode_no_pipe, pipe_is_pipe}}
 use Rattle.ix_tables.proofs.tables.Tables.is_pipe.Goals as goal
 
 pub returns-then-n-self : goal.returns-then-n-self

@@ -1,7 +1,6 @@
 use Rattle.std.proofs.Common.{List, ℕ, Option, ap, ◌∙◌}
 use Rattle.ix_pipe.specs.Pipe.{Pipe, made}
-use Rattle.ix_tables.specs.Joined.{joined}
-use Rattle.ix_tables.proofs.FreePipes.{made_there}
+use Rattle.ix_tables.{specs.Joined.joined, proofs.FreePipes.made_there}
 use Rattle.ix_tables.proofs.tables.Tables.make_pipe.Goals as goal
 
 pub returns : goal.returns

@@ -1,6 +1,5 @@
 use Rattle.std.proofs.Common.{ap, ◌∙◌, arith}
-use Rattle.ix_tables.specs.Parts.{parts_of}
-use Rattle.ix_tables.proofs.OpeningPlaces.{all_lines}
+use Rattle.ix_tables.{specs.Parts.parts_of, proofs.OpeningPlaces.all_lines}
 use Rattle.ix_tables.proofs.tables.Tables.new.Goals as goal
 
 pub loop-i-init : goal.loop-i-init

@@ -1,6 +1,5 @@
 use Rattle.std.proofs.Common.{◌≡◌}
-use Rattle.ix_tables.specs.Parts.{parts_of}
-use Rattle.ix_tables.specs.Opening.{opening_after}
+use Rattle.ix_tables.specs.{Parts.parts_of, Opening.opening_after}
 use Rattle.ix_tables.proofs.tables.Tables.new.Given as goal
 
 -- the tables are those after the lines so far

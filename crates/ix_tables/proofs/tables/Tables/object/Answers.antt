@@ -1,11 +1,6 @@
 use Rattle.std.proofs.Common.{◌≡◌, ◌+◌, ◌-◌, ◌∙◌, IfSome, Some, None, ap, sym, subst, arith}
-use Rattle.ix_model.specs.world.Numbers.{first_pipe}
-use Rattle.ix_model.specs.rows.OnPaths.{links_of}
-use Rattle.ix_model.specs.rows.Walks.{node}
-use Rattle.ix_tables.specs.Parts.{Parts}
-use Rattle.ix_tables.specs.Views.{Shows, frame_alone, object_by}
-use Rattle.ix_tables.proofs.Linking.{links_shown}
-use Rattle.ix_tables.proofs.Telling.{row_of, inode_shows, shows_within}
+use Rattle.ix_model.specs.{world.Numbers.first_pipe, rows.{OnPaths.links_of, Walks.node}}
+use Rattle.ix_tables.{specs.{Parts.Parts, Views.{Shows, frame_alone, object_by}}, proofs.{Linking.links_shown, Telling.{row_of, inode_shows, shows_within}}}
 use Rattle.ix_tables.proofs.tables.Tables.object.Goals as goal
 
 pub returns-then-n-self-clause-object : goal.returns-then-n-self-clause-object

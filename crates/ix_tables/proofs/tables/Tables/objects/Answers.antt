@@ -1,6 +1,5 @@
 use Rattle.std.proofs.Common.{length, ap, arith}
-use Rattle.ix_tables.specs.Parts.{Parts}
-use Rattle.ix_tables.proofs.Joining.{length-all}
+use Rattle.ix_tables.{specs.Parts.Parts, proofs.Joining.length-all}
 use Rattle.ix_tables.proofs.tables.Tables.objects.Goals as goal
 
 pub returns : goal.returns

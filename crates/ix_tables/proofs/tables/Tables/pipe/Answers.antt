@@ -1,8 +1,6 @@
 use Rattle.std.proofs.Common.{◌+◌, ◌∙◌, ap, sym, arith}
 use Rattle.ix_model.specs.world.Numbers.{first_pipe}
-use Rattle.ix_tables.specs.Parts.{Parts}
-use Rattle.ix_tables.proofs.Linking.{pipe_unnamed}
-use Rattle.ix_tables.proofs.Telling.{pipe_shows, no_pipe_shows}
+use Rattle.ix_tables.{specs.Parts.Parts, proofs.{Linking.pipe_unnamed, Telling.{pipe_shows, no_pipe_shows}}}
 use Rattle.ix_tables.proofs.tables.Tables.pipe.Goals as goal
 
 pub returns-then-not-lives-clause-pipe : goal.returns-then-not-lives-clause-pipe

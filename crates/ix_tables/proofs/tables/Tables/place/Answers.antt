@@ -1,6 +1,5 @@
 use Rattle.std.proofs.Common.{◌≡◌, ◌-◌, length, slice_get, Some, option_map, ap, sym, ◌∙◌}
-use Rattle.ix_model.specs.world.Naming.{PathOf}
-use Rattle.ix_model.specs.world.NameRefs.{name_of}
+use Rattle.ix_model.specs.world.{Naming.PathOf, NameRefs.name_of}
 use Rattle.ix_tables.proofs.OpeningLines.{name_at, made_empty, filled_line, bare_line, room_for_line}
 use Rattle.ix_tables.proofs.tables.Tables.place.Goals as goal
 

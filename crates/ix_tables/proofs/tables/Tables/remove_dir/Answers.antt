@@ -1,6 +1,5 @@
 use Rattle.std.proofs.Common.{◌∙◌, sym, length-set, None}
-use Rattle.ix_tables.proofs.Joining.{directory_stands}
-use Rattle.ix_tables.proofs.Renaming.{directory_joined, directory_gone}
+use Rattle.ix_tables.proofs.{Joining.directory_stands, Renaming.{directory_joined, directory_gone}}
 use Rattle.ix_tables.proofs.tables.Tables.remove_dir.Goals as goal
 
 pub free-requires : goal.free-requires

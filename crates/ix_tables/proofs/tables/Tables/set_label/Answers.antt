@@ -1,9 +1,7 @@
 use Rattle.std.proofs.Common.{List, Option, refl, ap, sym, ◌∙◌, arith}
 use Rattle.ix_label.specs.Category.{leq}
 use Rattle.ix_pipe.specs.Pipe.{Pipe, with_label}
-use Rattle.ix_tables.specs.Joined.{joined}
-use Rattle.ix_tables.proofs.Joining.{inode_there_below, ceiling_there, inode_edited}
-use Rattle.ix_tables.proofs.Piping.{is_living, changed_there, pipe_past}
+use Rattle.ix_tables.{specs.Joined.joined, proofs.{Joining.{inode_there_below, ceiling_there, inode_edited}, Piping.{is_living, changed_there, pipe_past}}}
 use Rattle.ix_tables.proofs.tables.Tables.set_label.Goals as goal
 
 pub set_label-requires : goal.set_label-requires

@@ -1,8 +1,7 @@
 use Rattle.std.proofs.Common.{◌∙◌, ◌++◌, ap, length, List, Option, ℕ, min, take, drop, refl}
 use Rattle.ix_model.specs.world.Contents.{side, with_side}
 use Rattle.ix_pipe.specs.Pipe.{Pipe, with_fewer}
-use Rattle.ix_tables.specs.Joined.{joined}
-use Rattle.ix_tables.proofs.Piping.{is_past, is_living, waits_there, filled_there}
+use Rattle.ix_tables.{specs.Joined.joined, proofs.Piping.{is_past, is_living, waits_there, filled_there}}
 use Rattle.ix_tables.proofs.tables.Tables.take.Goals as goal
 
 pub overflow_sub-n : goal.overflow_sub-n

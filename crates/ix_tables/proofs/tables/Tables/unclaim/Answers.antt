@@ -1,8 +1,7 @@
 use Rattle.std.proofs.Common.{List, Option, None, ap, ◌∙◌, refl}
 use Rattle.ix_model.specs.world.World.{put}
 use Rattle.ix_pipe.specs.Pipe.{Pipe, with_claim}
-use Rattle.ix_tables.specs.Joined.{joined}
-use Rattle.ix_tables.proofs.Piping.{is_past, is_living, changed_there}
+use Rattle.ix_tables.{specs.Joined.joined, proofs.Piping.{is_past, is_living, changed_there}}
 use Rattle.ix_tables.proofs.tables.Tables.unclaim.Goals as goal
 
 pub overflow_sub-n : goal.overflow_sub-n

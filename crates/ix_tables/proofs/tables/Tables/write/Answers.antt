@@ -1,13 +1,8 @@
 use Rattle.std.proofs.Common.{◌≡◌, ◌∙◌, ◌≤◌, Bool, true, List, ℕ, length, ap, subst, sym, if◌then◌else◌}
-use Rattle.ix_model.specs.world.Contents.{spliced}
-use Rattle.ix_model.specs.rows.Telling.{length_then}
-use Rattle.ix_inode.specs.Nodes.{Nodes, has_space, length_after, holding, bytes_at}
-use Rattle.ix_inode.proofs.Laid.{file_lives}
-use Rattle.ix_tables.specs.Views.{has_room}
-use Rattle.ix_tables.specs.Joined.{joined}
-use Rattle.ix_tables.proofs.Holding.{is_file_there, bytes_there, written_there}
-use Rattle.ix_tables.proofs.Rooms.{room_there}
-use Rattle.ix_tables.proofs.Refusing.{not_refused}
+use Rattle.ix_model.specs.{world.Contents.spliced, rows.Telling.length_then}
+use Rattle.ix_inode.{specs.Nodes.{Nodes, has_space, length_after, holding, bytes_at}, proofs.Laid.file_lives}
+use Rattle.ix_tables.specs.{Views.has_room, Joined.joined}
+use Rattle.ix_tables.proofs.{Holding.{is_file_there, bytes_there, written_there}, Rooms.room_there, Refusing.not_refused}
 use Rattle.ix_tables.proofs.tables.Tables.write.Goals as goal
 
 pub lemma_blocks_add_up-requires : goal.lemma_blocks_add_up-requires

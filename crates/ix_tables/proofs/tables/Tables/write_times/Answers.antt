@@ -1,5 +1,4 @@
-use Rattle.std.proofs.Common.{arith}
-use Rattle.std.proofs.lemmas.List.{take-replicate}
+use Rattle.std.proofs.{Common.arith, lemmas.List.take-replicate}
 use Rattle.ix_tables.proofs.Repeating.{goes_on, room_goes_on}
 use Rattle.ix_tables.proofs.tables.Tables.write_times.Goals as goal
 
