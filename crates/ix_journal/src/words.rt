@@ -11,6 +11,7 @@ pub enum Words<'c> {
 }
 
 /// The words of a call.
+#[inline(always)]
 pub fn words_in<'c>(call: &Call<'c>) -> Words<'c>
     ensures { AreWordsOf call.now result }
 {
