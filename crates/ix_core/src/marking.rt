@@ -113,6 +113,7 @@ fn own_label<L: Ledger>(
 
 /// The call of a process, which looks at labels. The marks are told of each label that it changed, and of the descriptor that
 /// it closed or refreshed.
+#[inline(always)]
 fn call_checked<L: Ledger>(
     machine: &mut Machine,
     marks: &mut Marks,

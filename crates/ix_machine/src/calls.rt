@@ -16,6 +16,7 @@ impl Machine {
     /// machine's world is sound, and that a pid is left.
     ///
     /// A refusal is a reply too. The bytes that were read are at the front of the buffer, whose rest stays.
+    #[inline(always)]
     #[tactic(auto, using(crate::proofs::Stepped::dead_step))]
     pub fn call<L: Ledger>(
         &mut self,
@@ -70,6 +71,7 @@ impl Machine {
     }
 
     /// A call that the files answer.
+    #[inline(never)]
     #[tactic(auto, using(crate::proofs::Moved::parts_joined))]
     fn filed<L: Ledger>(
         &mut self,
@@ -95,6 +97,7 @@ impl Machine {
     }
 
     /// SelfLabel, by which the world stays as it is.
+    #[inline(always)]
     fn told_label(&self, pid: Pid) -> Reply
         requires sound { Sound self.now }
         requires lives { lives self.now.frame pid.0 ≡ true }
@@ -104,6 +107,7 @@ impl Machine {
     }
 
     /// A call that leaves what the world holds, and may be refused.
+    #[inline(never)]
     #[tactic(auto, using(crate::proofs::Stepped::still_answers))]
     fn own<L: Ledger>(
         &mut self,
