@@ -96,13 +96,16 @@ impl Machine {
         reply
     }
 
-    /// SelfLabel, by which the world stays as it is.
+    /// One step of the machine: a look of a process at its own label, by which the world stays as it is. It looks at no other
+    /// label, and takes no memory.
     #[inline(always)]
-    fn told_label(&self, pid: Pid) -> Reply
-        requires sound { Sound self.now }
-        requires lives { lives self.now.frame pid.0 ≡ true }
+    pub fn told_label(&self, pid: Pid) -> Reply
+        requires { Sound self.now }
         ensures { (place : ℕ) (buf : List ℕ) → Answers (step self.now place pid.0 op.SelfLabel) self.now result buf buf }
     {
+        if !self.lives(pid) {
+            return Reply::No(Refusal::NoProcess);
+        }
         self.self_label(pid)
     }
 

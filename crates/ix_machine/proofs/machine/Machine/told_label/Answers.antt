@@ -1,5 +1,10 @@
-use Rattle.ix_machine.proofs.Stepped.{label_step}
+use Rattle.std.proofs.Common.{sym, ◌∙◌}
+use Rattle.ix_model.specs.history.Events as op
+use Rattle.ix_machine.proofs.Stepped.{dead_step, label_step}
 use Rattle.ix_machine.proofs.machine.Machine.told_label.Goals as goal
 
+pub returns-then-not-lives : goal.returns-then-not-lives
+returns-then-not-lives c place buf = dead_step c.args.self.now place c.args.pid.0 op.SelfLabel buf c.requires.holdings.clean (sym c.lives.ensures ∙ c.if-not-lives.true)
+
 pub returns : goal.returns
-returns c place buf = label_step c.args.self.now place c.args.pid.0 c.self_label.result buf c.requires.sound.holdings.clean c.requires.lives c.self_label.ensures
+returns c place buf = label_step c.args.self.now place c.args.pid.0 c.self_label.result buf c.requires.holdings.clean (sym c.lives.ensures ∙ c.if-not-lives.false) c.self_label.ensures
