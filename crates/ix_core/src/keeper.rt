@@ -106,10 +106,9 @@ impl Core {
             };
         }
         let place = self.journal.len() + 1;
-        let (machine, marks) = (&mut self.machine, &mut self.marks);
-        let reply = turn(machine, marks, place, pid, call, buf, steps);
         self.journal.keep(seat, line, pid, call);
-        Answer::Given(reply)
+        let (machine, marks) = (&mut self.machine, &mut self.marks);
+        Answer::Given(turn(machine, marks, place, pid, call, buf, steps))
     }
 
     /// Makes a call as [`step`](Core::step) does, and nobody counts its looks at labels.
