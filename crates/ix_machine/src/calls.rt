@@ -16,7 +16,7 @@ impl Machine {
     /// machine's world is sound, and that a pid is left.
     ///
     /// A refusal is a reply too. The bytes that were read are at the front of the buffer, whose rest stays.
-    #[inline(always)]
+    #[inline(never)]
     #[tactic(auto, using(crate::proofs::Stepped::dead_step))]
     pub fn call<L: Ledger>(
         &mut self,
@@ -71,7 +71,6 @@ impl Machine {
     }
 
     /// A call that the files answer.
-    #[inline(never)]
     #[tactic(auto, using(crate::proofs::Moved::parts_joined))]
     fn filed<L: Ledger>(
         &mut self,
@@ -110,7 +109,6 @@ impl Machine {
     }
 
     /// A call that leaves what the world holds, and may be refused.
-    #[inline(never)]
     #[tactic(auto, using(crate::proofs::Stepped::still_answers))]
     fn own<L: Ledger>(
         &mut self,

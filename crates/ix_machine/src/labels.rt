@@ -33,7 +33,6 @@ impl Machine {
     }
 
     /// SelfLabel: the caller's own label.
-    #[inline(always)]
     #[tactic(auto, unfolding(ix_model::specs::rows::Rows::coding, ix_model::specs::rows::OnLabels::self_label))]
     pub(crate) fn self_label(&self, pid: Pid) -> Reply
         requires { lives self.now.frame pid.0 ≡ true }

@@ -11,7 +11,6 @@ use std::sync::ledger::Ledger;
 /// The steps of the calls that look at what the world holds, or edit it. A refusal leaves the world as it was.
 impl Machine {
     /// Fork: a child of the caller, with the descriptors that `keep` says, or a refusal.
-    #[inline(never)]
     pub(crate) fn forked(&mut self, place: u32, pid: Pid, keep: Keep, buf: &Buf) -> Reply
         requires sound { Sound self.old }
         requires lives { lives self.old.frame pid.0 ≡ true }
@@ -27,7 +26,6 @@ impl Machine {
     }
 
     /// Exit: the caller ends with a status, and lets go of what it had open.
-    #[inline(never)]
     pub(crate) fn exited(&mut self, place: u32, pid: Pid, status: u8, buf: &Buf) -> Reply
         requires sound { Sound self.old }
         requires lives { lives self.old.frame pid.0 ≡ true }
@@ -42,7 +40,6 @@ impl Machine {
     }
 
     /// Wait: tells the status of a child that has ended, or refuses.
-    #[inline(never)]
     #[tactic(auto, using(crate::proofs::Stepped::waited, crate::proofs::Stepped::wait_refused))]
     pub(crate) fn waited<L: Ledger>(
         &mut self,
@@ -64,7 +61,6 @@ impl Machine {
     }
 
     /// Pex: the caller claims its end of a pipe, or is refused.
-    #[inline(never)]
     pub(crate) fn pexed(&mut self, place: u32, pid: Pid, fd: Fd, buf: &Buf) -> Reply
         requires sound { Sound self.old }
         requires lives { lives self.old.frame pid.0 ≡ true }
