@@ -24,3 +24,7 @@ decimal_two n h l = decimal_step n h (omega arith) ∙ ap (λ ds. ds ++ (48 + n 
 -- a number of 64 bits has at most 20 digits
 pub decimal_fits : (n : ℕ) → n < 2 ^ 64 → length (decimal n) ≤ 20
 decimal_fits n h = length-decimal-le 20 n (omega arith) (omega arith) h
+
+-- a number of 32 bits has at most 10 digits
+pub decimal_short : (n : ℕ) → n < 2 ^ 32 → length (decimal n) ≤ 10
+decimal_short n h = length-decimal-le 10 n (omega arith) (omega arith) (omega arith)

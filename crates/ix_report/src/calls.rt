@@ -1,4 +1,4 @@
-ghost use Rattle.std.specs.{Prelude.{◌≡◌, ◌++◌, OnOk, codes}, Fmt.{decimal}};
+ghost use Rattle.std.specs.{Prelude.{◌≡◌, ◌≤◌, ◌++◌, OnOk, codes, length}, Fmt.{decimal}};
 ghost use Rattle.ix_model.specs.{history.Calls.{op_of}, world.Paths.{path_of}};
 ghost use Rattle.ix_label.specs.Spelling.{spelling};
 ghost use Rattle.ix_report.specs.{Hex.{hex}, Names.{path_text}, Words.{keep_text}, CallText.{call_text}};
@@ -6,6 +6,7 @@ ghost use Rattle.ix_text.specs.Spellings.{mode_text, privs_text};
 
 use crate::line::Line;
 use crate::pieces::{push_hex, push_number, push_path, push_privs};
+use crate::short::Short;
 use ix_label::{Form, Label};
 use ix_model::{Call, Fd, Keep, Mode, NoMemory, Path, Pid, PrivSet};
 use ix_text::mode_word;
@@ -20,18 +21,23 @@ fn push_command(line: &mut Line, word: &[u8], pid: Pid) -> Result<(), NoMemory>
     push_number(line, u64::from(pid.0))
 }
 
-/// A command with one number.
+/// A command with one number. Its word is short.
 fn push_with_number(line: &mut Line, word: &[u8], pid: Pid, n: u32) -> Result<(), NoMemory>
+    requires { length word.now ≤ 16 }
     ensures stays { line.new.before ≡ line.old.before }
     ensures text { OnOk result (line.new.text ≡ line.old.text ++ (word.now ++ decimal pid.0 ++ codes " " ++ decimal n)) }
 {
-    push_command(line, word, pid)?;
-    line.push_byte(b' ')?;
-    push_number(line, u64::from(n))
+    let mut text = Short::new();
+    text.small(n);
+    text.byte(b' ');
+    text.small(pid.0);
+    text.bytes(word);
+    line.push(text.as_bytes())
 }
 
 /// A command with a descriptor.
 fn push_with_fd(line: &mut Line, word: &[u8], pid: Pid, fd: Fd) -> Result<(), NoMemory>
+    requires { length word.now ≤ 16 }
     ensures stays { line.new.before ≡ line.old.before }
     ensures text { OnOk result (line.new.text ≡ line.old.text ++ (word.now ++ decimal pid.0 ++ codes " " ++ decimal fd.0)) }
 {
@@ -46,13 +52,19 @@ fn push_with_fd_number(
     fd: Fd,
     n: u32,
 ) -> Result<(), NoMemory>
+    requires { length word.now ≤ 16 }
     ensures stays { line.new.before ≡ line.old.before }
     ensures text { OnOk result (line.new.text ≡ line.old.text
         ++ (word.now ++ decimal pid.0 ++ codes " " ++ decimal fd.0 ++ codes " " ++ decimal n)) }
 {
-    push_with_fd(line, word, pid, fd)?;
-    line.push_byte(b' ')?;
-    push_number(line, u64::from(n))
+    let mut text = Short::new();
+    text.small(n);
+    text.byte(b' ');
+    text.small(u32::from(fd.0));
+    text.byte(b' ');
+    text.small(pid.0);
+    text.bytes(word);
+    line.push(text.as_bytes())
 }
 
 /// A command with a path.

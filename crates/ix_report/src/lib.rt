@@ -8,6 +8,7 @@ mod pieces;
 mod refusals;
 mod replies;
 mod report;
+mod short;
 mod totals;
 mod words;
 

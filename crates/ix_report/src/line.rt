@@ -45,6 +45,22 @@ impl Line {
         ensures stays { self.new.before ≡ self.old.before }
         ensures text { OnOk result (self.new.text ≡ self.old.text ++ bytes.now) }
     {
+        if self.bytes.capacity() - self.bytes.len() < bytes.len() {
+            return self.push_grown(bytes);
+        }
+        match self.bytes.extend_from_slice(bytes) {
+            Ok(()) => Ok(()),
+            Err(_) => Err(NoMemory),
+        }
+    }
+
+    /// The same where there is no room yet. It stands apart, so that what is put where `push` is called is short.
+    #[cold]
+    #[inline(never)]
+    fn push_grown(&mut self, bytes: &[u8]) -> Result<(), NoMemory>
+        ensures stays { self.new.before ≡ self.old.before }
+        ensures text { OnOk result (self.new.text ≡ self.old.text ++ bytes.now) }
+    {
         match self.bytes.extend_from_slice(bytes) {
             Ok(()) => Ok(()),
             Err(_) => Err(NoMemory),
@@ -57,10 +73,11 @@ impl Line {
         ensures stays { self.new.before ≡ self.old.before }
         ensures text { OnOk result (self.new.text ≡ self.old.text ++ byte ∷ []) }
     {
-        match self.bytes.push(byte) {
-            Ok(()) => Ok(()),
-            Err(_) => Err(NoMemory),
+        if self.bytes.len() == self.bytes.capacity() {
+            return self.push_grown(&[byte]);
         }
+        self.bytes.push_reserved(byte);
+        Ok(())
     }
 
     /// Writes a label at the line's end, in its one spelling of the form.

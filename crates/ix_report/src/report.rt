@@ -1,4 +1,4 @@
-ghost use Rattle.std.specs.{Prelude.{◌≡◌, ℕ, ◌++◌, OnOk, OnErr}, Option.{option_copied}};
+ghost use Rattle.std.specs.{Prelude.{◌≡◌, ℕ, ◌++◌, OnOk, OnErr, codes}, Option.{option_copied}, Fmt.{decimal}};
 ghost use Rattle.ix_model.specs.history.{Calls.{op_of}, Made.{entry}};
 ghost use Rattle.ix_report.specs.{ReplyText.{AreBytesOf}, LineText.{audit_line, entry_line, head_line, object_line, process_line, seen_text, tail_line}};
 
@@ -6,6 +6,7 @@ use crate::calls::push_call;
 use crate::line::Line;
 use crate::pieces::{push_number, push_spaced};
 use crate::replies::{push_audit, push_reply};
+use crate::short::Short;
 use crate::words::{kind_word, life_word};
 use ix_label::{Form, Label};
 use ix_model::{AuditLine, Call, NoMemory, ObjView, Pid, ProcView, Reply};
@@ -115,6 +116,38 @@ fn push_seen(line: &mut Line, form: Form, label: Option<&Label>) -> Result<(), N
     }
 }
 
+/// Where an entry stands, with a space after each: its place in the history, the name of its lane, and its line of the script.
+fn push_front(line: &mut Line, place: u32, lane: &[u8], number: u32) -> Result<(), NoMemory>
+    ensures stays { line.new.before ≡ line.old.before }
+    ensures text { OnOk result (line.new.text ≡ line.old.text
+        ++ (decimal place ++ codes " " ++ lane.now ++ codes " " ++ decimal number ++ codes " ")) }
+{
+    if lane.len() > 32 {
+        return push_long_front(line, place, lane, number);
+    }
+    let mut text = Short::new();
+    text.byte(b' ');
+    text.number(number);
+    text.byte(b' ');
+    text.bytes(lane);
+    text.byte(b' ');
+    text.number(place);
+    line.push(text.as_bytes())
+}
+
+/// The same, of a lane with a long name.
+#[inline(never)]
+fn push_long_front(line: &mut Line, place: u32, lane: &[u8], number: u32) -> Result<(), NoMemory>
+    ensures stays { line.new.before ≡ line.old.before }
+    ensures text { OnOk result (line.new.text ≡ line.old.text
+        ++ (decimal place ++ codes " " ++ lane.now ++ codes " " ++ decimal number ++ codes " ")) }
+{
+    push_spaced(line, u64::from(place))?;
+    line.push(lane)?;
+    line.push_byte(b' ')?;
+    push_spaced(line, u64::from(number))
+}
+
 /// The line of an entry.
 #[tactic(auto, unfolding(crate::specs::LineText::entry_line))]
 fn push_entry(
@@ -133,10 +166,7 @@ fn push_entry(
     ensures text { (seat : ℕ) → OnOk result (line.new.text ≡ line.old.text
         ++ entry_line form place lane.now (entry seat number pid (op_of call.now)) reply.now bytes.now (option_copied label.entry)) }
 {
-    push_spaced(line, u64::from(place))?;
-    line.push(lane)?;
-    line.push_byte(b' ')?;
-    push_spaced(line, u64::from(number))?;
+    push_front(line, place, lane, number)?;
     push_call(line, form, pid, call)?;
     push_reply(line, form, reply, bytes)?;
     line.push(b" @ ")?;

@@ -1,0 +1,87 @@
+ghost use Rattle.std.specs.{Prelude.{◌≡◌, ◌+◌, ◌≤◌, ◌++◌, ◌∷◌, [], length}, Fmt.{decimal}};
+
+use itoa::write_digits;
+use std::marker::Model;
+
+/// A text of at most 64 bytes that is written from its end to its front, as the digits of a number are, and then put into a
+/// line at once. Contracts see its bytes.
+#[derive(Drop)]
+pub struct Short {
+    room: [u8; 64],
+    start: usize,
+}
+
+impl Model for Short {
+    ghost use Rattle.std.specs.Prelude.{List, ℕ, ◌≤◌, drop};
+
+    ghost Value = { List ℕ };
+
+    ghost view = { λ t. drop t.start t.room };
+
+    ghost invariant = { λ t. t.start ≤ 64 };
+}
+
+impl Short {
+    /// No text.
+    pub fn new() -> Short
+        ensures { result ≡ [] }
+    {
+        Short {
+            room: [0; 64],
+            start: 64,
+        }
+    }
+
+    /// The text.
+    pub fn as_bytes(&self) -> &[u8]
+        ensures { result.now ≡ self.now }
+    {
+        &self.room[self.start..]
+    }
+
+    /// Writes one byte at the front.
+    #[inline(always)]
+    pub fn byte(&mut self, byte: u8)
+        requires { length self.old + 1 ≤ 64 }
+        ensures { self.new ≡ byte ∷ self.old }
+    {
+        self.start -= 1;
+        self.room[self.start] = byte;
+    }
+
+    /// Writes bytes at the front.
+    #[inline(always)]
+    pub fn bytes(&mut self, bytes: &[u8])
+        requires { length self.old + length bytes.now ≤ 64 }
+        ensures { self.new ≡ bytes.now ++ self.old }
+    {
+        let end = self.start;
+        self.start -= bytes.len();
+        self.room[self.start..end].copy_from_slice(bytes);
+    }
+
+    /// Writes a number in decimal at the front.
+    pub fn number(&mut self, n: u32)
+        requires { length self.old + 10 ≤ 64 }
+        ensures text { self.new ≡ decimal n ++ self.old }
+        ensures few { length self.new ≤ length self.old + 10 }
+    {
+        self.start = write_digits(n as u64, &mut self.room, self.start);
+    }
+
+    /// Writes a number in decimal at the front, as `number` does. One of a single digit takes a short way, which stands where it is
+    /// called.
+    #[inline(always)]
+    #[tactic(auto, using(std::proofs::lemmas::Fmt::decimal_digit))]
+    pub fn small(&mut self, n: u32)
+        requires { length self.old + 10 ≤ 64 }
+        ensures text { self.new ≡ decimal n ++ self.old }
+        ensures few { length self.new ≤ length self.old + 10 }
+    {
+        if n < 10 {
+            self.byte(b'0' + n as u8);
+        } else {
+            self.number(n);
+        }
+    }
+}
