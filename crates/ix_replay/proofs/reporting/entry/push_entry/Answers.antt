@@ -7,7 +7,7 @@ use Rattle.ix_replay.proofs.piecewise.Shown.{bytes_of_shown, label_shown, line_o
 use Rattle.ix_replay.proofs.reporting.entry.push_entry.Goals as goal
 
 pub entry_line-requires : goal.entry_line-requires
-entry_line-requires c = bytes_of_shown c.args.reply.now c.args.bytes.now c.requires
+entry_line-requires c = record { bytes = bytes_of_shown c.args.reply.now c.args.bytes.now c.requires }
 
 pub returns : goal.returns
 returns c before is =
