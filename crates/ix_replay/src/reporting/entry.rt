@@ -1,12 +1,11 @@
-ghost use Rattle.std.specs.{Prelude.{◌≡◌, ℕ, ◌++◌, ◌+◌, OnOk, length}, Option.{option_map}};
+ghost use Rattle.std.specs.{Prelude.{◌≡◌, ℕ, ◌++◌, ◌+◌, OnOk, length}, Option.{option_copied, option_map}};
 ghost use Rattle.ix_model.specs.history.{Calls.{op_of}, History.{History, world_of}, Made.{entry}, Shown.{AreShown}};
 ghost use Rattle.ix_script.specs.lines.Before.{form_told, lanes_of};
-ghost use Rattle.ix_report.specs.{LineText.{entry_line}, ReplyText.{AreBytesOf}};
 ghost use Rattle.ix_core.specs.Stepping.{IsNext};
 ghost use Rattle.ix_replay.specs.report.Report.{entry_text, lane_name};
 
 use ix_core::Core;
-use ix_label::Form;
+use ix_label::Label;
 use ix_model::{Call, NoMemory, Pid, ProcView, Reply};
 use ix_report::entry_line;
 use ix_script::Script;
@@ -21,29 +20,13 @@ fn lane_name(script: &Script, seat: u32) -> &[u8]
     }
 }
 
-/// Appends the line of an entry in the form, whatever its seat, with the label of the caller's record after it.
-fn push_line(
-    out: &mut Vec<u8>,
-    form: Form,
-    place: u32,
-    lane: &[u8],
-    line: u32,
-    pid: Pid,
-    call: &Call<'_>,
-    reply: &Reply,
-    bytes: &[u8],
-    caller: &Option<ProcView>,
-) -> Result<(), NoMemory>
-    requires { AreBytesOf reply.now bytes.now }
-    ensures { (seat : ℕ) → OnOk result (out.new.items ≡ out.old.items
-        ++ entry_line form place lane.now (entry seat line pid (op_of call.now)) reply.now bytes.now (option_map (λ v. v.label) caller.now)) }
+/// The label of a process, where there is one.
+fn label_of(caller: &Option<ProcView>) -> Option<&Label>
+    ensures { option_copied result ≡ option_map (λ v. v.label) caller.now }
 {
     match caller {
-        Some(view) => {
-            let label = Some(&view.label);
-            entry_line(out, form, place, lane, line, pid, call, reply, bytes, label)
-        }
-        None => entry_line(out, form, place, lane, line, pid, call, reply, bytes, None),
+        Some(view) => Some(&view.label),
+        None => None,
     }
 }
 
@@ -69,7 +52,8 @@ pub fn push_entry(
 {
     let lane = lane_name(script, seat);
     let caller = core.process(pid);
-    push_line(
+    let label = label_of(&caller);
+    entry_line(
         out,
         script.form(),
         core.len(),
@@ -79,6 +63,6 @@ pub fn push_entry(
         call,
         reply,
         bytes,
-        &caller,
+        label,
     )
 }
