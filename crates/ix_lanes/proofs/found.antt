@@ -1,5 +1,6 @@
 pub mod Oks
 pub mod Keyed
+pub mod Near
 pub mod Placing
 pub mod Indexed
 pub mod LaneCount

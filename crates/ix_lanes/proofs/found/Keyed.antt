@@ -1,7 +1,7 @@
 -- The map of names, as its entries lie in a search tree.
 use Rattle.std.proofs.Common.{◌≡◌, ℕ, Bool, true, false, cond, List, [], ◌∷◌, Some, None, is_some, refl, sym, ap, subst, ◌∙◌, Ordering, Less, Equal, Greater}
 use Rattle.std.specs.{Global.Vec, Map.{lookup, set_value}, BTreeMap.{insert_entry, is_at}, Ordering.{is_eq, eq_by_cmp, nat_cmp, match_ordering}}
-use Rattle.std.specs.{Cmp.Lexicographic.{slice_cmp, nat_list_cmp_total}, FinMap.Entries.{by_order, find-put}}
+use Rattle.std.specs.{Cmp.Lexicographic.{slice_cmp, nat_list_cmp_total}, FinMap.Entries.{by_order}}
 use Rattle.std.specs.FinMap.{find, put, get, insert, contains_key, from_entries, get-from_entries, get-insert, same_map, nat_cmp-IsAntisymmetric}
 use Rattle.std.specs.FinMap.{slice_cmp-IsAntisymmetric}
 use Rattle.ix_lanes.specs.asking.Pairs.{pairs_of}
@@ -29,21 +29,6 @@ pairs-inserted k v (e ∷ es) =
       | Greater ↦ ap (λ ps. (e.0.items, e.1) ∷ ps) (pairs-inserted k v es)
     ]
 
--- the map with one name set
-pub map-inserted : {X : Type 0} (k : Vec ℕ) (v : X) (es : List (Vec ℕ × X))
-    → from_entries {R = by_bytes} (pairs_of (insert_entry (λ (x y : Vec ℕ). slice_cmp nat_cmp x.items y.items) es k v)) ≡ insert (from_entries {R = by_bytes} (pairs_of es)) k.items v
-map-inserted {X} k v es =
-    same_map nat_list_cmp_total (slice_cmp-IsAntisymmetric nat_cmp-IsAntisymmetric) _ _
-    (λ q. get-from_entries nat_list_cmp_total _ q ∙ ap (find by_bytes q) (pairs-inserted k v es) ∙ find-put by_bytes nat_list_cmp_total q k.items v (pairs_of es)
-    ∙ ap (cond (eq_by_cmp by_bytes q k.items) (Some v)) (sym (get-from_entries nat_list_cmp_total (pairs_of es) q))
-    ∙ sym (get-insert nat_list_cmp_total (from_entries (pairs_of es)) k.items v q))
-
--- with the name's bytes as they were given
-pub map-set : {X : Type 0} (k : Vec ℕ) (name : List ℕ) (v : X) (es new : List (Vec ℕ × X)) → k.items ≡ name
-    → new ≡ insert_entry (λ (x y : Vec ℕ). slice_cmp nat_cmp x.items y.items) es k v
-    → from_entries {R = by_bytes} (pairs_of new) ≡ insert (from_entries {R = by_bytes} (pairs_of es)) name v
-map-set k name v es new is made = rw (made, ← is) (map-inserted k v es)
-
 -- ---- a name that is there
 -- that names tie, or that they are the same
 tie_same : (r : Ordering) → is_eq r ≡ true → r ≡ Equal
@@ -55,7 +40,7 @@ pub same_name : (a b : List ℕ) → eq_by_cmp by_bytes a b ≡ true → a ≡ b
 same_name a b h = slice_cmp-IsAntisymmetric nat_cmp-IsAntisymmetric a b (tie_same (by_bytes a b) h)
 
 -- of two tests in turn, where both don't pass at once, either may come first
-turned : {A : Type 0} (p q : Bool) (x y z : A) → (p ≡ true → q ≡ true → ⊥) → cond p x (cond q y z) ≡ cond q y (cond p x z)
+pub turned : {A : Type 0} (p q : Bool) (x y z : A) → (p ≡ true → q ≡ true → ⊥) → cond p x (cond q y z) ≡ cond q y (cond p x z)
 turned true true x y z apart = absurd (apart refl refl)
 turned true false x y z apart = refl
 turned false q x y z apart = refl

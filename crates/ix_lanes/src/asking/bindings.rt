@@ -1,21 +1,35 @@
-ghost use Rattle.std.specs.Prelude.{◌≡◌, OnOk, OnErr, true};
+ghost use Rattle.std.specs.{List.{position}, Prelude.{◌≡◌, OnOk, OnErr, true}};
 ghost use Rattle.std.specs.FinMap as map;
+ghost use Rattle.ix_model.specs.world.Naming.{same_bytes};
 
 use ix_model::NoMemory;
 use ix_script::NameWord;
+use ix_text::is;
 use std::alloc::Global;
 use std::collections::BTreeMap;
 use std::marker::Model;
+
+/// How many names are looked through before the tree of the others.
+const NEAR: usize = 4;
 
 /// Names, each with the number that it stands for, or with something else. Contracts see a finite map from the bytes of a name.
 #[derive(Drop)]
 pub struct Bindings<N> {
     alloc: Global,
+    /// The first few names: most lanes have no others.
+    near: Vec<(Vec<u8>, N)>,
     numbers: BTreeMap<Vec<u8>, N>,
 }
 
+/// At which of these places a name stands.
+fn place_of<N>(near: &[(Vec<u8>, N)], name: &[u8]) -> Option<usize>
+    ensures { result ≡ position (λ e. same_bytes e.0.items name.now) near.now }
+{
+    near.iter().position(|n| is(n.0.as_slice(), name))
+}
+
 impl<N> Model for Bindings<N> {
-    ghost use Rattle.std.specs.{Ordering.{nat_cmp}, Cmp.Lexicographic.{slice_cmp}, Coded.{coded_ℕ, coded_list}};
+    ghost use Rattle.std.specs.{Prelude.{◌++◌}, Ordering.{nat_cmp}, Cmp.Lexicographic.{slice_cmp}, Coded.{coded_ℕ, coded_list}};
     ghost use Rattle.std.specs.FinMap as map;
     ghost use Rattle.ix_lanes.specs.asking.Pairs.{pairs_of};
 
@@ -23,7 +37,7 @@ impl<N> Model for Bindings<N> {
 
     ghost coded = { map.code (coded_list coded_ℕ) N.code };
 
-    ghost view = { λ n. map.from_entries (pairs_of n.numbers.entries) };
+    ghost view = { λ n. map.from_entries (pairs_of (n.near.items ++ n.numbers.entries)) };
 }
 
 impl<N: Copy> Bindings<N> {
@@ -33,6 +47,7 @@ impl<N: Copy> Bindings<N> {
     {
         Bindings {
             alloc,
+            near: Vec::new(alloc),
             numbers: BTreeMap::new(alloc),
         }
     }
@@ -42,7 +57,10 @@ impl<N: Copy> Bindings<N> {
     pub fn get(&self, name: &NameWord<'_>) -> Option<N>
         ensures { result ≡ map.get self.now name.now }
     {
-        self.numbers.get(name.as_bytes()).copied()
+        match place_of(self.near.as_slice(), name.as_bytes()) {
+            Some(place) => Some(self.near[place].1),
+            None => self.numbers.get(name.as_bytes()).copied(),
+        }
     }
 
     /// Lets a name stand for a number from now on. After `NoMemory` all names stand for what they stood for.
@@ -50,9 +68,19 @@ impl<N: Copy> Bindings<N> {
         ensures ok { OnOk result (self.new ≡ map.insert self.old name.now number) }
         ensures err { OnErr result (self.new ≡ self.old) }
     {
+        if self.get(name).is_some() {
+            self.put(name, number);
+            return Ok(());
+        }
         let Ok(bytes) = Vec::from_slice(self.alloc, name.as_bytes()) else {
             return Err(NoMemory);
         };
+        if self.near.len() < NEAR {
+            if self.near.push((bytes, number)).is_err() {
+                return Err(NoMemory);
+            }
+            return Ok(());
+        }
         if self.numbers.insert(bytes, number).is_err() {
             return Err(NoMemory);
         }
@@ -64,8 +92,13 @@ impl<N: Copy> Bindings<N> {
         requires { map.contains_key self.old name.now ≡ true }
         ensures { self.new ≡ map.insert self.old name.now number }
     {
-        if let Some(place) = self.numbers.get_mut(name.as_bytes()) {
-            *place = number;
+        match place_of(self.near.as_slice(), name.as_bytes()) {
+            Some(place) => self.near[place].1 = number,
+            None => {
+                if let Some(there) = self.numbers.get_mut(name.as_bytes()) {
+                    *there = number;
+                }
+            }
         }
     }
 }
