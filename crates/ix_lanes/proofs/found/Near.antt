@@ -1,6 +1,8 @@
 -- Names that are looked through before those of a search tree.
-use Rattle.std.proofs.Common.{◌≡◌, ◌<◌, ◌||◌, ℕ, zero, suc, Bool, true, false, cond, List, [], ◌∷◌, ◌++◌, None, Some, is_some, length, get_or, set, refl, sym, ap, ◌∙◌, append_assoc, true≢false, arith}
-use Rattle.std.specs.{Global.Vec, Map.{lookup, set_value}, BTreeMap.{insert_entry, is_at}, Ordering.{eq_by_cmp, nat_cmp}, Cmp.Lexicographic.{slice_cmp, nat_list_cmp_total}, List.{list_any, position, position_or_len}}
+use Rattle.std.proofs.Common.{◌≡◌, ◌<◌, ◌||◌, ℕ, zero, suc, Bool, true, false, cond, List, [], ◌∷◌, ◌++◌, None, Some, is_some, length, get_or, set}
+use Rattle.std.proofs.Common.{refl, sym, ap, ◌∙◌, append_assoc, true≢false, arith}
+use Rattle.std.specs.{Global.Vec, Map.{lookup, set_value}, BTreeMap.{insert_entry, is_at}, Ordering.{eq_by_cmp, nat_cmp}}
+use Rattle.std.specs.{Cmp.Lexicographic.{slice_cmp, nat_list_cmp_total}, List.{list_any, position, position_or_len}}
 use Rattle.std.specs.{FinMap.{contains_key, find, from_entries, get-from_entries, get-insert, insert, nat_cmp-IsAntisymmetric, same_map, slice_cmp-IsAntisymmetric}, FinMap.Entries.find-put}
 use Rattle.std.proofs.lemmas.{Cmp.nat_list_eq_equiv, Grind.common_steps, Map.Text.is_eq-slice_cmp}
 use Rattle.ix_model.specs.world.Naming.{same_bytes}

@@ -13,7 +13,7 @@ use ix_privserv::PrivServer;
 use ix_script::{Line, Role};
 use ix_sessserv::SessServer;
 
-/// Begins a line of a lane: what it asks for. What it writes is put into the buffer.
+/// Begins a line of a lane: what it asks for. What it writes is put into the buffer. A part is wide: it is made where it lies.
 pub fn begin<'a>(
     policy: Option<&'a Policy>,
     header: &Bindings<u32>,
@@ -23,13 +23,14 @@ pub fn begin<'a>(
     line: &Line<'a>,
     written: &mut Buf,
     copying: &mut Copying,
-) -> Part<'a>
+    begun: &mut Part<'a>,
+)
     requires role { role ≡ role_of line.now }
-    ensures asks { part_left header.now (standing places.now) number line.now copying.new result ≡ line_asks (option_map (λ p. p.now) policy.entry) header.now (standing places.now) number line.now }
-    ensures pending { IsPending result (part_left header.now (standing places.now) number line.now copying.new result) }
-    ensures holds { Holds line.now written.new result }
-    ensures most { part_most copying.new result ≤ 9 }
-    ensures apart { is_over result ≡ false → is_phase line.now ≡ false }
+    ensures asks { part_left header.now (standing places.now) number line.now copying.new begun.new ≡ line_asks (option_map (λ p. p.now) policy.entry) header.now (standing places.now) number line.now }
+    ensures pending { IsPending begun.new (part_left header.now (standing places.now) number line.now copying.new begun.new) }
+    ensures holds { Holds line.now written.new begun.new }
+    ensures most { part_most copying.new begun.new ≤ 9 }
+    ensures apart { is_over begun.new ≡ false → is_phase line.now ≡ false }
 {
     match line {
         Line::Copy {
@@ -40,25 +41,27 @@ pub fn begin<'a>(
         } => {
             let (pid, from, to) = (places.pid(header, proc), places.fd(from), places.fd(to));
             copying.begin(number, pid, from, to, *count);
-            Part::Copy
+            *begun = Part::Copy;
         }
         Line::Priv { proc, fd } => {
             let Some(policy) = policy else {
-                return Part::Over;
+                *begun = Part::Over;
+                return;
             };
             let (server, fd) = (places.pid(header, proc), places.fd(fd));
-            Part::Priv(PrivServer::new(number, server, fd, policy))
+            *begun = Part::Priv(PrivServer::new(number, server, fd, policy));
         }
         Line::Login { proc, fd, hand, .. } => {
             let Some(policy) = policy else {
-                return Part::Over;
+                *begun = Part::Over;
+                return;
             };
             let (server, fd, hand) = (places.pid(header, proc), places.fd(fd), places.fd(hand));
-            Part::Login(SessServer::new(number, server, fd, hand, policy))
+            *begun = Part::Login(SessServer::new(number, server, fd, hand, policy));
         }
         _ => match role {
-            Role::Command | Role::Naming => Part::Command(put_written(line, written)),
-            _ => Part::Over,
+            Role::Command | Role::Naming => *begun = Part::Command(put_written(line, written)),
+            _ => *begun = Part::Over,
         },
     }
 }

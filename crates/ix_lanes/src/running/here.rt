@@ -77,18 +77,19 @@ impl<'a> Here<'a> {
         places: &mut Places,
         written: &mut Buf,
         copying: &mut Copying,
+        begun: &mut Part<'a>,
         end: u32,
-    ) -> Part<'a>
+    )
         requires header { header.now ≡ header_of script.now }
         requires policy { option_map (λ p. p.now) policy ≡ rules_told script.now }
         requires within { (self.old.at ≤ end) × (end ≤ length script.now) }
         requires among { IsAmong script.now lane self.old.at self.old.stretch self.old.come }
         requires places { all_placed places.old (lane_among script.now lane script.now) ≡ true }
-        ensures left { left_from script.now lane end self.new.at (standing places.new) self.new.line copying.new result
+        ensures left { left_from script.now lane end self.new.at (standing places.new) self.new.line copying.new begun.new
             ≡ lines_ask (rules_told script.now) (header_of script.now) (standing places.old) (lane_between script.now lane self.old.at end) }
-        ensures here { IsHere script.now lane end self.new.at self.new.stretch self.new.come (standing places.new) self.new.line written.new copying.new result }
+        ensures here { IsHere script.now lane end self.new.at self.new.stretch self.new.come (standing places.new) self.new.line written.new copying.new begun.new }
         ensures later { self.old.at ≤ self.new.at }
-        ensures most { part_most copying.new result ≤ 9 }
+        ensures most { part_most copying.new begun.new ≤ 9 }
         ensures keeps { KeepsPlaces places.old places.new }
     {
         'lines: while self.at < end {
@@ -98,14 +99,16 @@ impl<'a> Here<'a> {
                 let role = role_at(script, self.at);
                 self.line = line_at(script, self.at);
                 let (number, line) = (self.at + 1, &self.line);
-                let part = begin(policy, header, places, number, role, line, written, copying);
-                if !matches!(part, Part::Over) {
-                    return part;
+                begin(
+                    policy, header, places, number, role, line, written, copying, begun,
+                );
+                if !matches!(begun, Part::Over) {
+                    return;
                 }
                 bind(places, line, &Handed::Nothing);
                 self.pass();
             }
         }
-        Part::Over
+        *begun = Part::Over;
     }
 }

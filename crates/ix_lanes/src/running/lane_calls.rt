@@ -162,7 +162,7 @@ impl<'a> LaneCalls<'a> {
         ensures asks { asks_left self.new ≡ lines_ask (rules_told self.old.script) (header_of self.old.script) (names_done (asks_left self.old)) (lane_between self.old.script self.old.seat self.old.end end) }
     {
         self.end = end;
-        self.part = self.here.find(
+        self.here.find(
             self.script,
             self.lane,
             self.policy,
@@ -170,6 +170,7 @@ impl<'a> LaneCalls<'a> {
             &mut self.places,
             &mut self.written,
             &mut self.copying,
+            &mut self.part,
             end,
         );
     }
@@ -262,7 +263,7 @@ impl Asks for LaneCalls<'_> {
         };
         bind(&mut self.places, &self.here.line, &handed);
         self.here.pass();
-        self.part = self.here.find(
+        self.here.find(
             self.script,
             self.lane,
             self.policy,
@@ -270,6 +271,7 @@ impl Asks for LaneCalls<'_> {
             &mut self.places,
             &mut self.written,
             &mut self.copying,
+            &mut self.part,
             self.end,
         );
     }

@@ -72,7 +72,9 @@ impl<'a> Place<'a> {
         ensures line { self.new.line ≡ self.old.line }
     {
         let _count = script.len();
-        self.seat = self.turns.seat_past(script, self.seat, self.at, role);
+        if let Role::Phase | Role::Lane = role {
+            self.seat = self.turns.seat_past(script, self.seat, self.at, role);
+        }
         self.at += 1;
     }
 
@@ -86,18 +88,19 @@ impl<'a> Place<'a> {
         places: &mut [Places],
         written: &mut Buf,
         copying: &mut Copying,
-    ) -> Part<'a>
+        begun: &mut Part<'a>,
+    )
         requires header { header.now ≡ header_of script.now }
         requires policy { option_map (λ p. p.now) policy ≡ rules_told script.now }
         requires within { self.old.at ≤ length script.now }
         requires seat { self.old.seat ≡ seat_at script.now (take self.old.at script.now) }
         requires places { ArePlaced script.now places.old }
         ensures left { LeavesLines script.now places.old self.old.seat self.old.at
-            (record { script = script.now; names = map standing places.new; at = self.new.at; seat = self.new.seat; copying = copying.new; part = result }) }
-        ensures within { IsWithin script.now places.new self.new.at self.new.seat self.new.line written.new copying.new result }
+            (record { script = script.now; names = map standing places.new; at = self.new.at; seat = self.new.seat; copying = copying.new; part = begun.new }) }
+        ensures within { IsWithin script.now places.new self.new.at self.new.seat self.new.line written.new copying.new begun.new }
         ensures places { ArePlaced script.now places.new }
         ensures later { self.old.at ≤ self.new.at }
-        ensures most { part_most copying.new result ≤ 9 }
+        ensures most { part_most copying.new begun.new ≤ 9 }
     {
         'lines: while self.at < script.len() {
             let role = role_at(script, self.at);
@@ -105,15 +108,17 @@ impl<'a> Place<'a> {
                 self.line = line_at(script, self.at);
                 let (number, line) = (self.at + 1, &self.line);
                 let names = &mut places[seat as usize];
-                let part = begin(policy, header, names, number, role, line, written, copying);
-                if !matches!(part, Part::Over) {
-                    return part;
+                begin(
+                    policy, header, names, number, role, line, written, copying, begun,
+                );
+                if !matches!(begun, Part::Over) {
+                    return;
                 }
                 bind(names, line, &Handed::Nothing);
             }
             self.pass(script, role);
         }
-        Part::Over
+        *begun = Part::Over;
     }
 }
 
@@ -169,20 +174,21 @@ impl<'a> SerialCalls<'a> {
     {
         let header = header_of(alloc, script)?;
         let mut places = all_places(alloc, script)?;
-        let (mut written, mut copying) = ([0; 4096], Copying::new());
+        let (mut written, mut copying, mut part) = ([0; 4096], Copying::new(), Part::Over);
         let mut here = Place {
             at: 0,
             seat: None,
             line: Line::Skipped,
             turns: Turns::new(),
         };
-        let part = here.find(
+        here.find(
             script,
             policy,
             &header,
             places.as_mut_slice(),
             &mut written,
             &mut copying,
+            &mut part,
         );
         Ok(SerialCalls {
             script,
@@ -244,13 +250,14 @@ impl<'a> SerialCalls<'a> {
         bind(&mut self.places[seat as usize], &self.here.line, &handed);
         let role = role_at(self.script, self.here.at);
         self.here.pass(self.script, role);
-        self.part = self.here.find(
+        self.here.find(
             self.script,
             self.policy,
             &self.header,
             self.places.as_mut_slice(),
             &mut self.written,
             &mut self.copying,
+            &mut self.part,
         );
     }
 }

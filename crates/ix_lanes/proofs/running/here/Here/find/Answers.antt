@@ -31,13 +31,13 @@ returns-then-not-matches-clause-left c =
     let s : List Line = c.args.script.now in
     let there = line-there s c.lines.self.at (omega (arith, c.lines-test.true, c.requires.within.1)) ∙ ap Some (sym c.line_at-self.ensures) in
     let mine = among_mine s c.args.lane c.lines.self.at c.lines.self.stretch c.lines.self.come c.lines.invariant.among (omega (arith, c.if-self.false)) in
-    let apart : is_over c.begin-part.result ≡ false = elim c.match-matches.branch [
+    let apart : is_over c.begin.new.begun ≡ false = elim c.match-matches.branch [
       | in-Over w ↦ absurd (true≢false (sym w.matches-is ∙ c.if-not-matches.true))
-      | in_default w ↦ not_over c.begin-part.result w.in_default.not-Over
+      | in_default w ↦ not_over c.begin.new.begun w.in_default.not-Over
     ] in
     line_begun s c.args.lane c.args.end c.lines.self.at (option_map (λ p. p.now) c.args.policy) c.args.header.now (standing c.lines.places) c.line_at-self.result c.requires.policy c.requires.header
-    c.lines-test.true c.requires.within.1 there mine c.begin-part.new.written c.begin-part.new.copying c.begin-part.result
-    c.begin-part.ensures.asks c.begin-part.ensures.pending c.begin-part.ensures.holds c.begin-part.ensures.apart apart
+    c.lines-test.true c.requires.within.1 there mine c.begin.new.written c.begin.new.copying c.begin.new.begun
+    c.begin.ensures.asks c.begin.ensures.pending c.begin.ensures.holds c.begin.ensures.apart apart
     ∙ c.lines.invariant.left
 
 pub returns-then-not-matches-clause-here : goal.returns-then-not-matches-clause-here
@@ -45,13 +45,13 @@ returns-then-not-matches-clause-here c =
     let s : List Line = c.args.script.now in
     let there = line-there s c.lines.self.at (omega (arith, c.lines-test.true, c.requires.within.1)) ∙ ap Some (sym c.line_at-self.ensures) in
     let mine = among_mine s c.args.lane c.lines.self.at c.lines.self.stretch c.lines.self.come c.lines.invariant.among (omega (arith, c.if-self.false)) in
-    let apart : is_over c.begin-part.result ≡ false = elim c.match-matches.branch [
+    let apart : is_over c.begin.new.begun ≡ false = elim c.match-matches.branch [
       | in-Over w ↦ absurd (true≢false (sym w.matches-is ∙ c.if-not-matches.true))
-      | in_default w ↦ not_over c.begin-part.result w.in_default.not-Over
+      | in_default w ↦ not_over c.begin.new.begun w.in_default.not-Over
     ] in
     here_begun s c.args.lane c.args.end c.lines.self.at (option_map (λ p. p.now) c.args.policy) c.args.header.now (standing c.lines.places) c.line_at-self.result c.requires.policy c.requires.header
-    c.lines-test.true c.requires.within.1 there mine c.begin-part.new.written c.begin-part.new.copying c.begin-part.result
-    c.begin-part.ensures.asks c.begin-part.ensures.pending c.begin-part.ensures.holds c.begin-part.ensures.apart apart
+    c.lines-test.true c.requires.within.1 there mine c.begin.new.written c.begin.new.copying c.begin.new.begun
+    c.begin.ensures.asks c.begin.ensures.pending c.begin.ensures.holds c.begin.ensures.apart apart
     c.lines.self.stretch c.lines.self.come c.lines.invariant.among (omega (arith, c.if-self.false))
 
 pub bind-requires : goal.bind-requires
@@ -71,9 +71,9 @@ lines-preserved c =
     let mine = among_mine s lane i c.lines.self.stretch c.lines.self.come c.lines.invariant.among (omega (arith, c.if-self.false)) in
     let next : c.pass.new.self.at ≡ i + 1 = c.pass.ensures.at in
     let asks : line_asks (option_map (λ p. p.now) c.args.policy) c.args.header.now (standing c.lines.places) (i + 1) c.line_at-self.result
-    ≡ part_left c.args.header.now (standing c.lines.places) (i + 1) c.line_at-self.result c.begin-part.new.copying c.begin-part.result = sym c.begin-part.ensures.asks in
+    ≡ part_left c.args.header.now (standing c.lines.places) (i + 1) c.line_at-self.result c.begin.new.copying c.begin.new.begun = sym c.begin.ensures.asks in
     let over : line_asks (option_map (λ p. p.now) c.args.policy) c.args.header.now (standing c.lines.places) (i + 1) c.line_at-self.result ≡ asking.Done handed.Nothing = elim c.match-matches.branch [
-      | in-Over v ↦ asks ∙ ap (part_left c.args.header.now (standing c.lines.places) (i + 1) c.line_at-self.result c.begin-part.new.copying) v.in-Over.is
+      | in-Over v ↦ asks ∙ ap (part_left c.args.header.now (standing c.lines.places) (i + 1) c.line_at-self.result c.begin.new.copying) v.in-Over.is
       | in_default v ↦ absurd (true≢false (sym c.if-not-matches.false ∙ v.matches-is))
     ] in
     record {

@@ -5,8 +5,8 @@ pub invariant_of-self : goal.invariant_of-self
 invariant_of-self c = (
   record {
     header = c.self.invariant.0.header;
-    places = keeps-lines c.self.inside.places c.find-self-inside.new.places c.find-self-inside.ensures.keeps _ c.self.invariant.0.places;
+    places = keeps-lines c.self.inside.places c.find.new.places c.find.ensures.keeps _ c.self.invariant.0.places;
     ruled = c.self.invariant.0.ruled;
   },
-  c.find-self-inside.ensures.here,
+  c.find.ensures.here,
 )

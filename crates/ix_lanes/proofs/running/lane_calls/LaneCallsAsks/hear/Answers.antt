@@ -52,18 +52,18 @@ bind-requires c =
     placed-line s i.lane i.here.at i.here.line (line-there s i.here.at (omega (arith, low, within.1)) ∙ ap Some (sym (c.self.invariant.1.line is))) i.places
     here c.self.invariant.0.places
 
-pub find-self-inside-requires-clause-places : goal.find-self-inside-requires-clause-places
-find-self-inside-requires-clause-places c = keeps-lines c.self.inside.places c.bind.new.places c.bind.ensures.keeps _ c.self.invariant.0.places
+pub find-requires-clause-places : goal.find-requires-clause-places
+find-requires-clause-places c = keeps-lines c.self.inside.places c.bind.new.places c.bind.ensures.keeps _ c.self.invariant.0.places
 
 pub invariant_of-self-2 : goal.invariant_of-self-2
 invariant_of-self-2 c = (
   record {
     header = c.self.invariant.0.header;
-    places = keeps-lines c.bind.new.places c.find-self-inside.new.places c.find-self-inside.ensures.keeps _
+    places = keeps-lines c.bind.new.places c.find.new.places c.find.ensures.keeps _
         (keeps-lines c.self.inside.places c.bind.new.places c.bind.ensures.keeps _ c.self.invariant.0.places);
     ruled = c.self.invariant.0.ruled;
   },
-  c.find-self-inside.ensures.here,
+  c.find.ensures.here,
 )
 
 pub pass-requires : goal.pass-requires
@@ -73,8 +73,8 @@ pass-requires c =
     let is = due_left i.script.now i.lane i.end i.here.at (standing i.places) (line_in i.script.now i.here.at) i.copying i.part due in
     record { within = (c.self.invariant.1.mine is).1 }
 
-pub find-self-inside-requires-clause-among : goal.find-self-inside-requires-clause-among
-find-self-inside-requires-clause-among c =
+pub find-requires-clause-among : goal.find-requires-clause-among
+find-requires-clause-among c =
     let i = c.self.inside in
     let s : List Line = i.script.now in
     let due = subst (λ (v : LaneLeft). IsDue (first (asks_left v))) (sym c.self.view_is) c.requires.call in

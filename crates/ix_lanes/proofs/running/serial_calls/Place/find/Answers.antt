@@ -22,13 +22,13 @@ returns-then-not-matches-clause-left c =
     let seat : c.lines.self.seat ≡ Some c.in-Some.seat = asking_seat _ _ _ c.in-Some.seat c.seat_asking.ensures c.in-Some.is in
     let p : Places = slice_index_or c.lines.places k c.index-places-seat.result in
     let there = lane_there s c.lines.places i k c.lines.invariant.placed (sym c.lines.invariant.seat ∙ seat) c.index-places-seat.result in
-    let not : is_over c.begin-part.result ≡ false = elim c.match-matches.branch [
+    let not : is_over c.begin.new.begun ≡ false = elim c.match-matches.branch [
       | in-Over w ↦ absurd (true≢false (sym w.matches-is ∙ c.if-not-matches.true))
-      | in_default-matches w ↦ not_over c.begin-part.result w.in_default-matches.not-Over
+      | in_default-matches w ↦ not_over c.begin.new.begun w.in_default-matches.not-Over
     ] in
     λ w place.
     begun_left s i (omega (arith, c.lines-test.true, c.len.ensures.len)) c.lines.places k p there c.lines.self.seat seat (option_map (λ q. q.now) c.args.policy) c.args.header.now
-    c.requires.policy c.requires.header c.line_at-self.result c.line_at-self.ensures c.begin-part.new.copying c.begin-part.result c.begin-part.ensures.asks not w place
+    c.requires.policy c.requires.header c.line_at-self.result c.line_at-self.ensures c.begin.new.copying c.begin.new.begun c.begin.ensures.asks not w place
     ∙ c.lines.invariant.left w place
 
 pub returns-then-not-matches-clause-within : goal.returns-then-not-matches-clause-within
@@ -39,13 +39,13 @@ returns-then-not-matches-clause-within c =
     let seat : c.lines.self.seat ≡ Some c.in-Some.seat = asking_seat _ _ _ c.in-Some.seat c.seat_asking.ensures c.in-Some.is in
     let p : Places = slice_index_or c.lines.places k c.index-places-seat.result in
     let there = lane_there s c.lines.places i k c.lines.invariant.placed (sym c.lines.invariant.seat ∙ seat) c.index-places-seat.result in
-    let not : is_over c.begin-part.result ≡ false = elim c.match-matches.branch [
+    let not : is_over c.begin.new.begun ≡ false = elim c.match-matches.branch [
       | in-Over w ↦ absurd (true≢false (sym w.matches-is ∙ c.if-not-matches.true))
-      | in_default-matches w ↦ not_over c.begin-part.result w.in_default-matches.not-Over
+      | in_default-matches w ↦ not_over c.begin.new.begun w.in_default-matches.not-Over
     ] in
     begun_within s i (omega (arith, c.lines-test.true, c.len.ensures.len)) c.lines.places k p there c.lines.self.seat seat (option_map (λ q. q.now) c.args.policy) c.args.header.now
-    c.requires.policy c.requires.header c.line_at-self.result c.line_at-self.ensures c.begin-part.new.copying c.begin-part.result c.begin-part.ensures.asks not c.begin-part.new.written
-    c.lines.invariant.seat c.begin-part.ensures.pending c.begin-part.ensures.holds
+    c.requires.policy c.requires.header c.line_at-self.result c.line_at-self.ensures c.begin.new.copying c.begin.new.begun c.begin.ensures.asks not c.begin.new.written
+    c.lines.invariant.seat c.begin.ensures.pending c.begin.ensures.holds
 
 pub bind-requires : goal.bind-requires
 bind-requires c =
@@ -90,9 +90,9 @@ lines-preserved c =
             let p : Places = slice_index_or c.lines.places k w.index-places-seat.result in
             let l : Line = w.line_at-self.result in
             let asks : line_asks (option_map (λ q. q.now) c.args.policy) c.args.header.now (standing p) (i + 1) l ≡ part_left c.args.header.now (standing p)
-            (i + 1) l w.begin-part.new.copying w.begin-part.result = sym w.begin-part.ensures.asks in
+            (i + 1) l w.begin.new.copying w.begin.new.begun = sym w.begin.ensures.asks in
             let none : line_asks (option_map (λ q. q.now) c.args.policy) c.args.header.now (standing p) (i + 1) l ≡ asking.Done handed.Nothing = elim w.match-matches.branch [
-              | in-Over u ↦ asks ∙ ap (part_left c.args.header.now (standing p) (i + 1) l w.begin-part.new.copying) u.in-Over.is
+              | in-Over u ↦ asks ∙ ap (part_left c.args.header.now (standing p) (i + 1) l w.begin.new.copying) u.in-Over.is
               | in_default-matches u ↦ absurd (true≢false (sym w.if-not-matches.false ∙ u.matches-is))
             ] in
             ap (λ all. serial_from s v place (map standing all) c.pass.new.self.seat (c.pass.new.self.at + 1) (drop c.pass.new.self.at s)) w.places-is

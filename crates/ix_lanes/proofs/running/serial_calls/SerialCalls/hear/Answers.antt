@@ -85,8 +85,8 @@ bind-requires c =
     let line = line-there s i.here.at (c.self.invariant.1.low st.0) ∙ ap Some (sym (c.self.invariant.1.line st.0)) in
     placed-line s k i.here.at i.here.line line c.index_mut.result.now (lane_mine s i.places.items i.here.at k c.self.invariant.0.placed is) (c.self.invariant.0.placed.placed k _ there)
 
-pub find-self-inside-requires-clause-places : goal.find-self-inside-requires-clause-places
-find-self-inside-requires-clause-places c =
+pub find-requires-clause-places : goal.find-requires-clause-places
+find-requires-clause-places c =
     let i = c.self.inside in
     let s : List Line = i.script.now in
     let k = c.in-Some-seat.seat in
@@ -108,14 +108,14 @@ returns-clause-on c =
     let new : List Places → SerialLeft = λ places. record {
       script = s;
       names = map standing places;
-      at = c.find-self-inside.new.self.at;
-      seat = c.find-self-inside.new.self.seat;
-      copying = c.find-self-inside.new.copying;
-      part = c.find-self-inside.result;
+      at = c.find.new.self.at;
+      seat = c.find.new.self.seat;
+      copying = c.find.new.copying;
+      part = c.find.new.begun;
     } in
-    let left : LeavesLines s c.as_mut_slice.result.now c.pass.new.self.seat c.pass.new.self.at (new c.find-self-inside.new.places) = c.find-self-inside.ensures.left in
-    let few : length c.find-self-inside.new.places ≡ i.places.len = omega (arith, c.find-self-inside.ensures.places.count, c.self.invariant.0.placed.count, i.places.ok) in
-    let items = with_items_is (with_item i.places k c.bind.new.places) c.find-self-inside.new.places few in
+    let left : LeavesLines s c.as_mut_slice.result.now c.pass.new.self.seat c.pass.new.self.at (new c.find.new.places) = c.find.ensures.left in
+    let few : length c.find.new.places ≡ i.places.len = omega (arith, c.find.ensures.places.count, c.self.invariant.0.placed.count, i.places.ok) in
+    let items = with_items_is (with_item i.places k c.bind.new.places) c.find.new.places few in
     λ w place e next gave.
     let x : World = (step_of w place e).world in
     let behind =
