@@ -4,17 +4,18 @@ ghost use Rattle.ix_model.specs.history.{Calls.{op_of, event_of}, Cost.{cost_of,
 ghost use Rattle.ix_journal.specs.Entries.{Fits, with_event, event_in, IsWhole};
 
 use crate::cost::{ENTRY, cost_of};
-use crate::packing::{head_of, put_words};
+use crate::packing::{head_of, put_label, put_words};
 use crate::record::Record;
 use crate::unpacking::call_in;
+use ix_label::Label;
 use ix_model::{Call, Entry, NoMemory, Pid};
 use std::alloc::Global;
 use std::marker::Model;
 
 /// The entries of a history, which cost at most `cap` together.
 ///
-/// An entry is kept as a record of fixed size, at most 128 bytes, and its words: the bytes that it writes, or the texts of
-/// its paths. So the memory that entries touch is at most what they cost.
+/// An entry is kept as a record of fixed size, its words, which are the bytes that it writes or the texts of its paths, and its
+/// label, if it names one. Record and label take at most 128 bytes: so the memory that entries touch is at most what they cost.
 ///
 /// Contracts see the entries and the cap.
 #[derive(Drop)]
@@ -24,6 +25,8 @@ pub struct Journal {
     used: u64,
     records: Vec<Record>,
     words: Vec<u8>,
+    /// Few calls name a label, so they stand apart.
+    labels: Vec<Label>,
 }
 
 impl Model for Journal {
@@ -35,26 +38,27 @@ impl Model for Journal {
 
     ghost coded = { Prim.hlevel (codes, label_type.the_row.coded) };
 
-    ghost view = { λ j. record { cap = j.cap; events = map (event_in j.words.items) j.records.items } };
+    ghost view = { λ j. record { cap = j.cap; events = map (event_in j.labels.items j.words.items) j.records.items } };
 
-    ghost invariant = { λ j. AreEntries j.cap j.used (vec_capacity j.records) (vec_capacity j.words) j.records.items j.words.items };
+    ghost invariant = { λ j. AreEntries j.cap j.used (vec_capacity j.records) (vec_capacity j.words) (vec_capacity j.labels) j.records.items j.words.items j.labels.items };
 }
 
 impl Journal {
     /// A journal without entries, of a cap in bytes, at most 870,400,000. It reserves whatever entries of that cost may
-    /// take, and touches none of it: `cap` bytes for words, and for each 128 of them a record of at most
-    /// 128 bytes. Where that isn't there it answers `NoMemory`. No other call takes memory.
+    /// take, and touches none of it: `cap` bytes for words, and for each 128 of them a record and a label. Where that isn't there it answers `NoMemory`. No other call takes memory.
     pub fn new(alloc: Global, cap: u64) -> Result<Journal, NoMemory>
         requires { cap ≤ 870400000 }
         ensures { IfOk result (λ j. j ≡ record { cap = cap; events = [] }) }
     {
         let records = Vec::with_capacity(alloc, (cap / ENTRY) as usize)?;
         let words = Vec::with_capacity(alloc, cap as usize)?;
+        let labels = Vec::with_capacity(alloc, (cap / ENTRY) as usize)?;
         Ok(Journal {
             cap,
             used: 0,
             records,
             words,
+            labels,
         })
     }
 
@@ -111,6 +115,8 @@ impl Journal {
         let start = self.words.len();
         put_words(&mut self.words, call);
         let len = self.words.len() - start;
+        let at = self.labels.len();
+        put_label(&mut self.labels, call);
         self.used += cost_of(call);
         self.records.push_reserved(Record {
             seat,
@@ -118,7 +124,7 @@ impl Journal {
             pid,
             start: start as u32,
             len: len as u32,
-            head: head_of(call),
+            head: head_of(call, at as u32),
         });
     }
 
@@ -138,16 +144,19 @@ impl Journal {
             return None;
         }
         match self.records.get(place as usize - 1) {
-            Some(record) => Some(entry_in(record, self.words.as_slice())),
+            Some(record) => {
+                let labels = self.labels.as_slice();
+                Some(entry_in(record, labels, self.words.as_slice()))
+            }
             None => None,
         }
     }
 }
 
-/// The entry of a record whose words lie among these.
-fn entry_in<'a>(recorded: &Record, words: &'a [u8]) -> Entry<'a>
-    requires { IsWhole words.now recorded.now }
-    ensures { event_of result ≡ event_in words.now recorded.now }
+/// The entry of a record whose words and label lie among these.
+fn entry_in<'a>(recorded: &Record, labels: &[Label], words: &'a [u8]) -> Entry<'a>
+    requires { IsWhole labels.now words.now recorded.now }
+    ensures { event_of result ≡ event_in labels.now words.now recorded.now }
 {
     let start = recorded.start as usize;
     let words = &words[start..start + recorded.len as usize];
@@ -155,6 +164,6 @@ fn entry_in<'a>(recorded: &Record, words: &'a [u8]) -> Entry<'a>
         seat: recorded.seat,
         line: recorded.line,
         pid: recorded.pid,
-        call: call_in(&recorded.head, words),
+        call: call_in(labels, &recorded.head, words),
     }
 }

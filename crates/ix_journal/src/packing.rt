@@ -1,13 +1,14 @@
 ghost use Rattle.std.specs.Prelude.{◌≡◌, ◌+◌, ◌≤◌, ◌++◌, length, vec_capacity, vec_len};
-ghost use Rattle.ix_journal.specs.Heads.{head_of, words_of};
+ghost use Rattle.ix_journal.specs.Heads.{head_of, labels_of, words_of};
 
 use crate::record::{Alone, Head, OnPath};
 use crate::words::{Words, words_in};
+use ix_label::Label;
 use ix_model::Call;
 
-/// A call without its words.
-pub fn head_of(call: &Call<'_>) -> Head
-    ensures { result ≡ head_of call.now }
+/// A call without its words, and with the place of its label, if it has one, which is the next.
+pub fn head_of(call: &Call<'_>, at: u32) -> Head
+    ensures { result ≡ head_of at call.now }
 {
     match call {
         Call::CreateAt { path } => Head::Path(path.absolute(), OnPath::CreateAt),
@@ -42,11 +43,10 @@ pub fn head_of(call: &Call<'_>) -> Head
         Call::WaitChild => Head::Plain(Alone::WaitChild),
         Call::LabelOf { path } => Head::Path(path.absolute(), OnPath::LabelOf),
         Call::SelfLabel => Head::Plain(Alone::SelfLabel),
-        Call::SetLabel { path, label } => Head::Path(
-            path.absolute(),
-            OnPath::SetLabel { label: *label },
-        ),
-        Call::SetSelf { label } => Head::Plain(Alone::SetSelf { label: *label }),
+        Call::SetLabel { path, .. } => {
+            Head::Path(path.absolute(), OnPath::SetLabel { label: at })
+        }
+        Call::SetSelf { .. } => Head::Plain(Alone::SetSelf { label: at }),
         Call::Freeze { path } => Head::Path(path.absolute(), OnPath::Freeze),
         Call::FreezeSelf => Head::Plain(Alone::FreezeSelf),
         Call::Thaw { path } => Head::Path(path.absolute(), OnPath::Thaw),
@@ -63,9 +63,9 @@ pub fn head_of(call: &Call<'_>) -> Head
             pid: *pid,
             set: *set,
         }),
-        Call::SetCeiling { pid, label } => Head::Plain(Alone::SetCeiling {
+        Call::SetCeiling { pid, .. } => Head::Plain(Alone::SetCeiling {
             pid: *pid,
-            label: *label,
+            label: at,
         }),
         Call::Pex { fd } => Head::Plain(Alone::Pex { fd: *fd }),
         Call::Unpex { fd } => Head::Plain(Alone::Unpex { fd: *fd }),
@@ -99,5 +99,19 @@ pub fn put_words(words: &mut Vec<u8>, call: &Call<'_>)
             put(words, first.text());
             put(words, second.text());
         }
+    }
+}
+
+/// Writes the label of a call at the end, if it has one.
+pub fn put_label(labels: &mut Vec<Label>, call: &Call<'_>)
+    requires { vec_len labels.old + length (labels_of call.now) ≤ vec_capacity labels.old }
+    ensures items { labels.new.items ≡ labels.old.items ++ labels_of call.now }
+    ensures room { vec_capacity labels.old ≤ vec_capacity labels.new }
+{
+    match call {
+        Call::SetLabel { label, .. } => labels.push_reserved(*label),
+        Call::SetSelf { label } => labels.push_reserved(*label),
+        Call::SetCeiling { label, .. } => labels.push_reserved(*label),
+        _ => {}
     }
 }

@@ -16,7 +16,8 @@ pub enum OnPath {
     ListAt { index: u32 },
     Exec,
     LabelOf,
-    SetLabel { label: Label },
+    /// Which of the journal's labels, from 0.
+    SetLabel { label: u32 },
     Freeze,
     Thaw,
     SetPriv { cap: PrivSet, lic: PrivSet },
@@ -35,18 +36,20 @@ pub enum Alone {
     Exit { status: u8 },
     WaitChild,
     SelfLabel,
-    SetSelf { label: Label },
+    /// Which of the journal's labels, from 0.
+    SetSelf { label: u32 },
     FreezeSelf,
     ThawSelf,
     DropLic { set: PrivSet },
     GrantLic { pid: Pid, set: PrivSet },
-    SetCeiling { pid: Pid, label: Label },
+    /// Which of the journal's labels, from 0.
+    SetCeiling { pid: Pid, label: u32 },
     Pex { fd: Fd },
     Unpex { fd: Fd },
     ReadLog { index: u32 },
 }
 
-/// A call without its words: the texts of its paths, or the bytes that it writes.
+/// A call without its words, which are the texts of its paths or the bytes that it writes, and without its label.
 #[derive(Clone, Copy)]
 pub enum Head {
     Plain(Alone),
@@ -74,16 +77,12 @@ pub struct Record {
 }
 
 impl Model for Record {
-    ghost use Rattle.std.specs.Coded.{codes};
-    ghost use Rattle.ix_label.specs.contracts.label.Label as label_type;
     ghost use Rattle.ix_journal.specs.Recorded.{Recorded};
 
     ghost Value = { Recorded };
 
-    ghost coded = { Prim.hlevel (codes, label_type.the_row.coded) };
-
     ghost view = { λ r. record { seat = r.seat; line = r.line; pid = r.pid.0; start = r.start; len = r.len; head = r.head } };
 }
 
-/// Each entry costs 128 bytes besides its words, and its record takes no more.
-const _: () = prove!(size_of::<Record>() <= 128);
+/// Each entry costs 128 bytes besides its words: its record and a label take no more.
+const _: () = prove!(size_of::<Record>() + size_of::<Label>() <= 128);

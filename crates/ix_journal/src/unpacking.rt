@@ -1,18 +1,21 @@
-ghost use Rattle.std.specs.Prelude.{◌≡◌};
+ghost use Rattle.std.specs.Prelude.{◌≡◌, ◌≤◌, length};
 ghost use Rattle.ix_model.specs.{history.Calls.{op_of}, world.Paths.{path_of}};
-ghost use Rattle.ix_journal.specs.Heads.{op_alone, op_on, op_in, IsPacked};
+ghost use Rattle.ix_journal.specs.Heads.{labels_alone, labels_for, labels_on, op_alone, op_on, op_in, IsPacked};
 
 use crate::record::{Alone, Head, OnPath};
+use ix_label::Label;
 use ix_model::{Call, Path};
 
-/// The call of a head, with those words: the texts of its paths, or the bytes that it writes. It borrows them.
-pub fn call_in<'a>(head: &Head, words: &'a [u8]) -> Call<'a>
-    requires { IsPacked head.now words.now }
-    ensures { op_of result ≡ op_in head.now words.now }
+/// The call of a head, with those words: the texts of its paths, or the bytes that it writes. It borrows them. Its label is among
+/// these.
+pub fn call_in<'a>(labels: &[Label], head: &Head, words: &'a [u8]) -> Call<'a>
+    requires packed { IsPacked head.now words.now }
+    requires labelled { labels_for head.now ≤ length labels.now }
+    ensures { op_of result ≡ op_in labels.now head.now words.now }
 {
     match *head {
-        Head::Plain(plain) => call_alone(plain),
-        Head::Path(absolute, call) => call_on(call, Path::from_text(absolute, words)),
+        Head::Plain(plain) => call_alone(labels, plain),
+        Head::Path(absolute, call) => call_on(labels, call, Path::from_text(absolute, words)),
         Head::Link {
             target,
             split,
@@ -29,8 +32,9 @@ pub fn call_in<'a>(head: &Head, words: &'a [u8]) -> Call<'a>
 }
 
 /// The call on that path.
-fn call_on<'a>(call: OnPath, path: Path<'a>) -> Call<'a>
-    ensures { op_of result ≡ op_on call (path_of path.entry) }
+fn call_on<'a>(labels: &[Label], call: OnPath, path: Path<'a>) -> Call<'a>
+    requires { labels_on call ≤ length labels.now }
+    ensures { op_of result ≡ op_on labels.now call (path_of path.entry) }
 {
     match call {
         OnPath::CreateAt => Call::CreateAt { path },
@@ -43,7 +47,10 @@ fn call_on<'a>(call: OnPath, path: Path<'a>) -> Call<'a>
         OnPath::ListAt { index } => Call::ListAt { path, index },
         OnPath::Exec => Call::Exec { path },
         OnPath::LabelOf => Call::LabelOf { path },
-        OnPath::SetLabel { label } => Call::SetLabel { path, label },
+        OnPath::SetLabel { label } => {
+            let label = labels[label as usize];
+            Call::SetLabel { path, label }
+        }
         OnPath::Freeze => Call::Freeze { path },
         OnPath::Thaw => Call::Thaw { path },
         OnPath::SetPriv { cap, lic } => Call::SetPriv { path, cap, lic },
@@ -51,8 +58,9 @@ fn call_on<'a>(call: OnPath, path: Path<'a>) -> Call<'a>
 }
 
 /// The call that has no words.
-fn call_alone<'a>(call: Alone) -> Call<'a>
-    ensures { op_of result ≡ op_alone call }
+fn call_alone<'a>(labels: &[Label], call: Alone) -> Call<'a>
+    requires { labels_alone call ≤ length labels.now }
+    ensures { op_of result ≡ op_alone labels.now call }
 {
     match call {
         Alone::ReadFd { fd, count } => Call::ReadFd { fd, count },
@@ -65,12 +73,18 @@ fn call_alone<'a>(call: Alone) -> Call<'a>
         Alone::Exit { status } => Call::Exit { status },
         Alone::WaitChild => Call::WaitChild,
         Alone::SelfLabel => Call::SelfLabel,
-        Alone::SetSelf { label } => Call::SetSelf { label },
+        Alone::SetSelf { label } => {
+            let label = labels[label as usize];
+            Call::SetSelf { label }
+        }
         Alone::FreezeSelf => Call::FreezeSelf,
         Alone::ThawSelf => Call::ThawSelf,
         Alone::DropLic { set } => Call::DropLic { set },
         Alone::GrantLic { pid, set } => Call::GrantLic { pid, set },
-        Alone::SetCeiling { pid, label } => Call::SetCeiling { pid, label },
+        Alone::SetCeiling { pid, label } => {
+            let label = labels[label as usize];
+            Call::SetCeiling { pid, label }
+        }
         Alone::Pex { fd } => Call::Pex { fd },
         Alone::Unpex { fd } => Call::Unpex { fd },
         Alone::ReadLog { index } => Call::ReadLog { index },

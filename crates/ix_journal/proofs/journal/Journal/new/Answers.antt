@@ -6,5 +6,9 @@ pub invariant_of-result : goal.invariant_of-result
 invariant_of-result c = rw (
   c.in_ok-records.ensures.items,
   c.in_ok-words.ensures.items,
-) (none c.args.cap (vec_capacity c.in_ok-records.records) (vec_capacity c.in_ok-words.words) c.requires
-    c.in_ok-records.ensures.capacity c.in_ok-words.ensures.capacity)
+  c.in_ok-labels.ensures.items,
+) (none c.args.cap (record {
+  records = vec_capacity c.in_ok-records.records;
+  words = vec_capacity c.in_ok-words.words;
+  labels = vec_capacity c.in_ok-labels.labels;
+}) c.requires c.in_ok-records.ensures.capacity c.in_ok-words.ensures.capacity c.in_ok-labels.ensures.capacity)
