@@ -15,7 +15,7 @@ use crate::rules::{check_text, is_policy_line, is_skipped};
 use crate::values::begins_with_text;
 use crate::words::Words;
 use ix_label::Steps;
-use ix_model::{List, Name, NoMemory};
+use ix_model::NoMemory;
 use ix_text::is_script_name;
 use std::alloc::Global;
 use std::sync::ledger::Ledger;
@@ -39,15 +39,6 @@ impl<'a> Draft<'a> {
             header: Header::new(alloc)?,
             body: Body::new(alloc),
         })
-    }
-
-    /// The lines, and the names of their lanes. What else was kept goes.
-    pub fn parts(self) -> (Lines, List<Name>)
-        ensures lines { result.0 ≡ self.entry.lines }
-        ensures lanes { result.1 ≡ self.entry.body.lanes }
-    {
-        let body = self.body;
-        (self.lines, body.lanes)
     }
 
     /// One line more, which the text says. After an error the draft isn't used.
@@ -76,6 +67,7 @@ impl<'a> Draft<'a> {
     }
 
     /// A command more that gives no name and is no server's: nothing is kept of it but its text and what it costs.
+    #[inline(always)]
     fn add_command(&mut self, text: &[u8], cost: u64) -> Result<(), ReadFail>
         requires told { DraftTold self.old }
         requires valid { is_valid (config_of self.old.lines) ≡ true }

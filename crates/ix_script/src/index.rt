@@ -93,6 +93,7 @@ impl<'a> Given<'a> {
         }
     }
 
+    #[inline(always)]
     pub fn has(&self, lane: Option<&'a [u8]>, word: &'a [u8]) -> bool
         ensures { (items : List (List ℕ × List ℕ)) → AreIndexed self.now items → result ≡ is_given (option_map (λ s. s.now) lane.entry) word.now items }
     {

@@ -75,6 +75,7 @@ fn fault_from(labels: LabelForm, kinds: &[Kind], words: &Words<'_>, from: usize)
 }
 
 /// The first of rules 11 to 19 that a line of that form breaks, whose labels are spelled so: those that a word can break by itself.
+#[inline(always)]
 pub(crate) fn places_fault(labels: LabelForm, form: Form, words: &Words<'_>) -> Option<Rule>
     ensures { IsFault result (places labels form words.now) }
 {

@@ -1,4 +1,4 @@
-ghost use Rattle.std.specs.{Prelude.{◌≡◌, ◌<◌, ◌≤◌, ◌∷◌, [], true, None, Some, length, IfOk, IfErr}, List.{list_all}};
+ghost use Rattle.std.specs.{Prelude.{◌≡◌, ◌<◌, ◌≤◌, ◌∷◌, [], true, None, Some, length, IfOk, IfErr, OnOk}, List.{list_all}};
 ghost use Rattle.ix_script.specs.{lines.Before.{commands, lanes_of}, lines.Faults.{fault_from, fault_of}, reader.Readers.{HasCause, in_printable_lines}};
 ghost use Rattle.ix_script.specs.{reader.Told.{DraftTold}, scripts.Schedule.{LanesOnce}, scripts.Scripts.{form_in, lines_said, script_of, config_of}};
 ghost use Rattle.{ix_script.specs.texts.Lines.{cut, lines_of}, ix_model.specs.opening.Valid.{is_valid}};
@@ -36,33 +36,38 @@ fn all_printable_lines(bytes: &[u8]) -> bool
     all
 }
 
-fn draft_of<'a, L: Ledger>(
-    alloc: Global,
-    bytes: &'a [u8],
-    steps: &mut Steps<L>,
-) -> Result<Draft<'a>, ReadFail>
-    requires some { 0 < length bytes.now }
-    requires few { length bytes.now ≤ 16777216 }
-    ensures told { IfOk result (λ d. DraftTold d) }
-    ensures valid { IfOk result (λ d. is_valid (config_of d.lines) ≡ true) }
-    ensures faultless { IfOk result (λ d. fault_from [] (lines_of bytes.now) ≡ None) }
-    ensures said { IfOk result (λ d. lines_said (form_in (lines_of bytes.now)) (lines_of bytes.now) ≡ Some d.lines) }
-    ensures few { IfOk result (λ d. length d.lines ≤ 16777216) }
-    ensures few_commands { IfOk result (λ d. commands d.lines ≤ 200000) }
-    ensures few_lanes { IfOk result (λ d. length (lanes_of d.lines) ≤ 64) }
-    ensures once { IfOk result (λ d. LanesOnce d.lines) }
-    ensures fail { IfErr result (λ e. HasCause e (fault_from [] (lines_of bytes.now))) }
-{
-    let printable = all_printable_lines(bytes);
-    let mut draft = Draft::new(alloc, bytes)?;
-    let mut words = Words::none();
-    let mut rest = bytes;
-    'lines: while !rest.is_empty() {
-        let (text, more) = first_line(rest);
-        draft.add_line(alloc, printable, text, &mut words, steps)?;
-        rest = more;
+impl<'a> Draft<'a> {
+    /// The lines of a text; else the first fault. After an error the draft isn't used.
+    fn add_lines<L: Ledger>(
+        &mut self,
+        alloc: Global,
+        bytes: &'a [u8],
+        steps: &mut Steps<L>,
+    ) -> Result<(), ReadFail>
+        requires told { DraftTold self.old }
+        requires none { self.old.lines ≡ [] }
+        requires some { 0 < length bytes.now }
+        requires few { length bytes.now ≤ 16777216 }
+        ensures told { OnOk result (DraftTold self.new) }
+        ensures valid { OnOk result (is_valid (config_of self.new.lines) ≡ true) }
+        ensures faultless { OnOk result (fault_from [] (lines_of bytes.now) ≡ None) }
+        ensures said { OnOk result (lines_said (form_in (lines_of bytes.now)) (lines_of bytes.now) ≡ Some self.new.lines) }
+        ensures few { OnOk result (length self.new.lines ≤ 16777216) }
+        ensures few_commands { OnOk result (commands self.new.lines ≤ 200000) }
+        ensures few_lanes { OnOk result (length (lanes_of self.new.lines) ≤ 64) }
+        ensures once { OnOk result (LanesOnce self.new.lines) }
+        ensures fail { IfErr result (λ e. HasCause e (fault_from [] (lines_of bytes.now))) }
+    {
+        let printable = all_printable_lines(bytes);
+        let mut words = Words::none();
+        let mut rest = bytes;
+        'lines: while !rest.is_empty() {
+            let (text, more) = first_line(rest);
+            self.add_line(alloc, printable, text, &mut words, steps)?;
+            rest = more;
+        }
+        Ok(())
     }
-    Ok(draft)
 }
 
 fn read_with<L: Ledger>(alloc: Global, bytes: &[u8], blank: Blank) -> Result<Script, ReadFail>
@@ -79,9 +84,10 @@ fn read_with<L: Ledger>(alloc: Global, bytes: &[u8], blank: Blank) -> Result<Scr
         return Err(fault_at(1, Rule::NO_VERSION));
     }
     let mut steps = Steps::<L>::new(blank);
-    let draft = draft_of(alloc, bytes, &mut steps)?;
-    let (lines, lanes) = draft.parts();
-    let script = Script::of(alloc, lines, lanes)?;
+    let mut draft = Draft::new(alloc, bytes)?;
+    draft.add_lines(alloc, bytes, &mut steps)?;
+    let body = draft.body;
+    let script = Script::of(alloc, draft.lines, body.lanes)?;
     Ok(script)
 }
 

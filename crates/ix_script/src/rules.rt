@@ -103,6 +103,7 @@ fn first_line(text: &[u8]) -> Result<Line<'_>, Rule>
 impl<'a> Draft<'a> {
     /// The form of a line that is cut into words; `Err` with the least of the rules 4 to 21 that it breaks.
     #[tactic(auto, unfolding(crate::specs::lines::Faults::command_fault, crate::specs::lines::Faults::form_fault, crate::specs::lines::Faults::stand_fault, crate::specs::lines::Faults::names_fault))]
+    #[inline(always)]
     pub fn form_by_words(&self, words: &Words<'a>) -> Result<Form, Rule>
         requires told { DraftTold self.now }
         ensures { TellsForm self.now.lines result words.now }
@@ -237,6 +238,7 @@ impl<'a> Draft<'a> {
         }
     }
 
+    #[inline(always)]
     fn tells_proc(&self, word: &'a [u8]) -> bool
         requires told { DraftTold self.now }
         ensures { result ≡ is_known word.now (proc_names self.now.lines) }
@@ -245,6 +247,7 @@ impl<'a> Draft<'a> {
     }
 
     /// Whether a name is given twice: rule 20.
+    #[inline(always)]
     pub fn gives_twice(&self, form: Form, words: &Words<'a>) -> bool
         requires told { DraftTold self.now }
         ensures { result ≡ is_given_twice self.now.lines form words.now }
@@ -262,6 +265,7 @@ impl<'a> Draft<'a> {
         }
     }
 
+    #[inline(always)]
     fn lacks_proc(&self, word: &'a [u8]) -> bool
         requires told { DraftTold self.now }
         ensures { result ≡ is_unknown self.now.lines (kind.Proc, word.now) }
@@ -269,6 +273,7 @@ impl<'a> Draft<'a> {
         !self.tells_proc(word) && !self.body.procs.has(self.body.lane, word)
     }
 
+    #[inline(always)]
     fn lacks_fd(&self, word: &'a [u8]) -> bool
         requires told { DraftTold self.now }
         ensures { result ≡ is_unknown self.now.lines (kind.Fd, word.now) }
@@ -277,6 +282,7 @@ impl<'a> Draft<'a> {
     }
 
     /// Whether a process or a descriptor is unknown: rule 21.
+    #[inline(always)]
     pub fn is_unknown(&self, form: Form, words: &Words<'a>) -> bool
         requires told { DraftTold self.now }
         ensures { result ≡ names_unknown self.now.lines form words.now }

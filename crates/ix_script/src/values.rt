@@ -181,6 +181,7 @@ pub(crate) fn bounds(word: &[u8]) -> (u32, u32)
 
 /// A number up to 255, or a name: the first rule that it breaks.
 #[tactic(auto, unfolding(crate::specs::lines::Kinds::places_fault, crate::specs::lines::Kinds::first_broken))]
+#[inline(always)]
 pub(crate) fn fd_fault(word: &[u8]) -> Option<Rule>
     ensures { IsFault result ((kind.Fd, word.now) ∷ []) }
 {

@@ -120,14 +120,6 @@ fn first_word(text: &[u8]) -> (&[u8], Option<&[u8]>)
     }
 }
 
-#[tactic(auto, unfolding(crate::specs::texts::Cutting::words_of))]
-fn if_any(text: &[u8]) -> Option<&[u8]>
-    ensures words { words_of text.now ≡ option_map_or (λ front. pieces spot.Front front.now) result [] }
-    ensures few { length text.now < 2 ^ 64 }
-{
-    if text.len() == 0 { None } else { Some(text) }
-}
-
 /// Whether the quote that closes a word is its last byte.
 fn is_closed(word: &[u8]) -> bool
     ensures { result ≡ is_closed spot.Front word.now }
@@ -150,7 +142,8 @@ fn cut_into<'a>(text: &'a [u8], first: &mut [&'a [u8]; 8]) -> Seen
     let mut count = 0;
     let mut has_empty = false;
     let mut has_open = false;
-    let mut rest = if_any(text);
+    let len = text.len();
+    let mut rest = if len == 0 { None } else { Some(text) };
     'words: while let Some(front) = rest {
         let (word, more) = first_word(front);
         if count < 8 {

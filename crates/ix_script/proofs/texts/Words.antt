@@ -23,6 +23,15 @@ none_kept zero i = refl
 none_kept (suc n) zero = refl
 none_kept (suc n) (suc i) = none_kept n i
 
+pub no_words : words_of [] ≡ []
+unfolding words_of
+no_words = refl
+
+pub some_words : (text : List ℕ) → 0 < length text → words_of text ≡ pieces spot.Front text
+unfolding words_of
+some_words [] some = absurd (omega arith)
+some_words (b ∷ text) some = refl
+
 pub begin : (words kept rest : List (List ℕ)) → kept ≡ replicate 8 [] → words ≡ rest → Cutting words kept 0 false false rest
 begin words kept rest none h = record {
   done = [];

@@ -1,17 +1,19 @@
-use Rattle.std.proofs.{Common.{◌≡◌, [], ◌∙◌, ap, arith, cond, map, nat_lt, not, refl, set, sym}, lemmas.{Bool.{lt-ltb, le-ltb}, List.map-set}}
+use Rattle.std.proofs.{Common.{◌≡◌, [], ◌∙◌, ap, arith, cond, map, nat_lt, not, refl, set, sym}, lemmas.{Bool.{lt-ltb, le-ltb}, List.{map-set, nil_from_length}}}
 use Rattle.std.specs.Option.{option_map_or}
-use Rattle.ix_script.{specs.texts.Cutting.{is_open, pieces}, proofs.lines.Deciding.none_there, proofs.texts.Words.{begin, next, ended, room}}
-use Rattle.ix_script.proofs.words.cut_into.Goals.{then-count-lt8, else-count-lt8, then-begins, else-begins}
+use Rattle.ix_script.{specs.texts.Cutting.{is_open, pieces}, proofs.lines.Deciding.none_there, proofs.texts.Words.{begin, next, ended, room, no_words, some_words}}
+use Rattle.ix_script.proofs.words.cut_into.Goals.{then-len-eq0, else-len-eq0, then-count-lt8, else-count-lt8, then-begins, else-begins}
 use Rattle.ix_script.specs.declared.words.Spot.TheVariants as spot
 use Rattle.ix_script.proofs.words.cut_into.Goals as goal
 
 pub words-init : goal.words-init
-words-init c = begin _ _ _ c.requires c.if_any-rest.ensures.words
+words-init c = begin _ _ _ c.requires (elim c.if-len-eq0.branch [
+  | then-len-eq0 w ↦ rw (w.rest-is, nil_from_length c.args.text.now w.if-len-eq0.true) no_words
+  | else-len-eq0 w ↦ rw w.rest-is (some_words c.args.text.now (omega (arith, w.if-len-eq0.false)))
+])
 
 pub overflow_add-count : goal.overflow_add-count
 overflow_add-count c = omega (
   arith,
-  c.if_any-rest.ensures.few,
   room c.args.text.now _ _ _ _ (option_map_or (λ front. pieces spot.Front front.now) c.words.rest []) c.first_word.result.0.now
       (option_map_or (λ front. pieces spot.Front front.now) c.first_word.result.1 []) (rw c.in-Some.is c.first_word.ensures.pieces) c.words.invariant,
 )
