@@ -1,5 +1,5 @@
 -- A call that was packed comes back from its head, its words and its label.
-use Rattle.std.proofs.Common.{◌≡◌, ℕ, ◌+◌, ◌≤◌, List, [], ◌∷◌, ◌++◌, length, take, drop, map, refl, ap, subst, arith, length-append}
+use Rattle.std.proofs.Common.{◌≡◌, ℕ, ◌+◌, ◌≤◌, List, [], ◌∷◌, ◌++◌, length, take, drop, map, refl, ap, arith, length-append}
 use Rattle.std.{specs.List.sum, proofs.Math.Seq.{drop-append_seam, get_or-append_seam, take-append_seam}, proofs.Math.ListN.{get_or-append}}
 use Rattle.ix_label.specs.Category.{Categories, bottom}
 use Rattle.ix_model.specs.{world.{Texts.names_in, Paths.{path_from, path_of}}, history.{Calls.op_of, Cost.{cost_of_path, cost_of_words}}}
@@ -11,7 +11,7 @@ use Rattle.ix_journal.specs.declared.record.Head.TheVariants as head
 use Rattle.ix_journal.specs.declared.record.Alone.TheVariants as alone
 use Rattle.ix_journal.specs.declared.record.OnPath.TheVariants as on
 use Rattle.ix_model.proofs.texts.Joining.{text_cost}
-use Rattle.ix_journal.specs.Heads.{words_of, labels_of, labels_for, head_of, op_in, label_in, IsPacked}
+use Rattle.ix_journal.specs.Heads.{words_of, labels_of, labels_for, head_of, op_in, IsPacked}
 
 -- a text is no longer than its names cost
 within : (text : List ℕ) → length text ≤ sum (map (λ name. length name + 1) (names_in text))

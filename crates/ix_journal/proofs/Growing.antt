@@ -4,7 +4,7 @@ use Rattle.std.proofs.Common.{length-append}
 use Rattle.std.{specs.List.All, proofs.Math.Seq.drop-append_seam, proofs.lemmas.List.{map-append, drop-append-le, take-append-le, take_all, length-drop}}
 use Rattle.std.{proofs.lemmas.List.Elements.{All-nil, All-cons, All-head, All-tail, All-append}, proofs.lemmas.List.Sums.{sum-map, sum_by-append, sum_by-cons}}
 use Rattle.ix_model.specs.{history.{Cost.{cost_of, cost_of_words, cost_of_history}, Events.{Op, Event}, Calls.op_of}, declared.call.Call.Call}
-use Rattle.ix_journal.{specs.Heads.{words_of, labels_of, labels_for, head_of, op_in, IsPacked}, specs.Recorded.Recorded, proofs.Coding.{packs, few_labels, label_there, call_stays}}
+use Rattle.ix_journal.{specs.Heads.{words_of, labels_of, head_of, op_in, IsPacked}, specs.Recorded.Recorded, proofs.Coding.{packs, few_labels, label_there, call_stays}}
 use Rattle.ix_label.specs.Category.{Categories}
 use Rattle.ix_journal.specs.Entries.{Entries, Fits, with_event, words_in, event_in, record_of, IsWhole, AreEntries}
 

@@ -2,7 +2,7 @@ use Rattle.std.proofs.Common.{rules, arith, ℕ, ◌-◌, ◌+◌, ◌∷◌, �
 use Rattle.std.specs.Vec.{vec_capacity}
 use Rattle.ix_model.specs.{history.{Calls.op_of, Events.Event}, declared.call.Call.Call}
 use Rattle.ix_journal.specs.{Heads.words_of, Recorded.Recorded, declared.record.Head.Head}
-use Rattle.ix_journal.proofs.{Growing.{room_for, HasRoom, Room, Grows, grows_for, seen_after}, journal.Journal.keep.Goals.After-push_reserved}
+use Rattle.ix_journal.proofs.{Growing.{room_for, Room, Grows, grows_for, seen_after}, journal.Journal.keep.Goals.After-push_reserved}
 use Rattle.ix_journal.proofs.journal.Journal.keep.Goals as goal
 
 abbrev made : ℕ → ℕ → ℕ → Call → Event
