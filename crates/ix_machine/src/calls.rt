@@ -96,7 +96,7 @@ impl Machine {
     }
 
     /// One step of the machine: a look of a process at its own label, by which the world stays as it is. It looks at no other
-    /// label, and takes no memory.
+    /// label, and takes no memory. `NoProcess` exactly where the process doesn't live.
     #[inline(always)]
     pub fn told_label(&self, pid: Pid) -> Reply
         requires { Sound self.now }
