@@ -1,4 +1,4 @@
-ghost use Rattle.std.specs.Prelude.{◌≡◌, ◌≤◌, ◌<◌, ◌+◌, ◌-◌, ◌^◌, ◌==◌, ◌&&◌, ◌||◌, ℕ, true, not, if◌then◌else◌, Some, None, is_some, length};
+ghost use Rattle.std.specs.Prelude.{◌≡◌, ◌≤◌, ◌<◌, ◌+◌, ◌-◌, ◌^◌, ◌==◌, ◌&&◌, ◌||◌, ℕ, true, not, if◌then◌else◌, Some, None, is_some, length, IsTrue};
 ghost use Rattle.std.proofs.Common.{option_map};
 ghost use Rattle.ix_float.specs.declared.mark.Way as way_type;
 ghost use Rattle.ix_model.specs.declared.ids.Fd as fd_type;
@@ -29,37 +29,8 @@ struct Before {
     spot: Option<Spot>,
 }
 
-/// The call of a process, which goes by the marks where it can: a read through a descriptor that is fresh for reading, or a
-/// write through one that is fresh for writing, looks at no label. The marks are then those of the world after the call.
-pub(crate) fn turn<L: Ledger>(
-    machine: &mut Machine,
-    marks: &mut Marks,
-    place: u32,
-    pid: Pid,
-    call: &Call<'_>,
-    buf: &mut Buf,
-    steps: &mut Steps<L>,
-) -> Reply
-    requires sound { Sound machine.old }
-    requires few { length machine.old.frame.processes < 2 ^ 32 - 1 }
-    requires ready { AreReady marks.old machine.old.frame }
-    requires known { AreKnown marks.old machine.old.frame }
-    requires raised { marks.old.raised + 3 ≤ 2 ^ 62 }
-    ensures answers { Answers (step machine.old place pid.0 (op_of call.now)) machine.new result buf.old buf.new }
-    ensures told { AreTold marks.old marks.new machine.old place pid.0 (op_of call.now) }
-    ensures fresh { is_some (mark_through marks.old pid.0 (op_of call.now)) ≡ true → steps.new ≡ steps.old }
-{
-    if goes_fresh(marks, pid, call) {
-        return known(machine, marks, place, pid, call, buf);
-    }
-    if let Call::SelfLabel = call {
-        return own_label(machine, marks, place, pid, call, buf);
-    }
-    call_checked(machine, marks, place, pid, call, buf, steps)
-}
-
 /// Whether a call is a read through a descriptor that is fresh for reading, or a write through one that is fresh for writing.
-fn goes_fresh(marks: &Marks, pid: Pid, call: &Call<'_>) -> bool
+pub(crate) fn goes_fresh(marks: &Marks, pid: Pid, call: &Call<'_>) -> bool
     ensures { result ≡ is_some (mark_through marks.now pid.0 (op_of call.now)) }
 {
     match call {
@@ -69,8 +40,15 @@ fn goes_fresh(marks: &Marks, pid: Pid, call: &Call<'_>) -> bool
     }
 }
 
+/// Whether a call is a look of a process at its own label.
+pub(crate) fn is_own_label(call: &Call<'_>) -> bool
+    ensures { IsTrue result → op_of call.now ≡ op.SelfLabel }
+{
+    matches!(call, Call::SelfLabel)
+}
+
 /// A read or a write through a descriptor that is fresh for it. It looks at no label, and leaves the marks as they are.
-fn known(
+pub(crate) fn known(
     machine: &mut Machine,
     marks: &Marks,
     place: u32,
@@ -91,7 +69,7 @@ fn known(
 }
 
 /// A look of a process at its own label. It changes no label, and leaves the marks as they are.
-fn own_label(
+pub(crate) fn own_label(
     machine: &Machine,
     marks: &Marks,
     place: u32,
@@ -115,7 +93,7 @@ fn own_label(
 /// The call of a process, which looks at labels. The marks are told of each label that it changed, and of the descriptor that
 /// it closed or refreshed.
 #[inline(always)]
-fn call_checked<L: Ledger>(
+pub(crate) fn call_checked<L: Ledger>(
     machine: &mut Machine,
     marks: &mut Marks,
     place: u32,

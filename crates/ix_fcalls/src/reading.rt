@@ -22,6 +22,7 @@ use std::sync::ledger::Ledger;
 /// Reads through a descriptor.
 impl Files {
     /// What ReadFd reads through and from, where it passes the tests before its look at a label.
+    #[inline(always)]
     #[tactic(auto, unfolding(ix_model::specs::rows::Rows::coding, ix_model::specs::rows::Walks::opened, ix_model::specs::rows::OnDescriptors::read_fd))]
     fn to_read<R: Others>(
         &self,

@@ -22,6 +22,7 @@ use std::sync::ledger::Ledger;
 /// Writes through a descriptor.
 impl Files {
     /// What WriteFd writes through and to, where it passes the tests before its look at a label.
+    #[inline(always)]
     #[tactic(auto, unfolding(ix_model::specs::rows::Rows::coding, ix_model::specs::rows::Walks::opened, ix_model::specs::rows::OnDescriptors::write_fd))]
     fn to_write<R: Others>(
         &self,
