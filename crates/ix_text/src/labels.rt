@@ -56,7 +56,11 @@ fn push_spelling<L: Ledger>(
     push_runs(out, label, &mut steps)
 }
 
-/// The items of the longest runs.
+/// The items of the longest runs. It stands apart, so that a label of no category is written fast.
+///
+/// Lone categories are gathered as they are told: a label of these alone is done once they are the whole of it, and isn't looked
+/// through to its end.
+#[inline(never)]
 fn push_runs<L: Ledger>(
     out: &mut Vec<u8>,
     label: &Label,
@@ -66,9 +70,16 @@ fn push_runs<L: Ledger>(
     ensures text { OnOk result (out.new.items ≡ out.old.items ++ items (runs label.now)) }
 {
     let mut from = 0;
+    let mut lone = Label::bottom();
     'runs: while let Some((first, last)) = label.run_from(from, steps) {
         push_item(out, from, first, last)?;
         from = last + 1;
+        if first == last {
+            lone = lone.with(first);
+            if label.same(&lone, steps) {
+                return Ok(());
+            }
+        }
     }
     Ok(())
 }
@@ -99,7 +110,8 @@ fn push_run(out: &mut Vec<u8>, first: u16, last: u16) -> Result<(), NoMemory>
     push_number(out, last)
 }
 
-/// A number in decimal. One of a single digit takes a short way.
+/// A number in decimal. One of a single digit takes a short way, which stands where it is called.
+#[inline(always)]
 #[tactic(auto, using(std::proofs::lemmas::Fmt::decimal_digit))]
 fn push_number(out: &mut Vec<u8>, n: u16) -> Result<(), NoMemory>
     ensures stays { take (length out.old.items) out.new.items ≡ out.old.items }
@@ -108,6 +120,15 @@ fn push_number(out: &mut Vec<u8>, n: u16) -> Result<(), NoMemory>
     if n < 10 {
         return push_byte(out, b'0' + n as u8);
     }
+    push_digits(out, n)
+}
+
+/// A number of any size.
+#[inline(never)]
+fn push_digits(out: &mut Vec<u8>, n: u16) -> Result<(), NoMemory>
+    ensures stays { take (length out.old.items) out.new.items ≡ out.old.items }
+    ensures text { OnOk result (out.new.items ≡ out.old.items ++ decimal n) }
+{
     let mut digits = Buffer::new();
     match out.extend_from_slice(digits.format(n).as_bytes()) {
         Ok(()) => Ok(()),
