@@ -2,7 +2,7 @@
 use Rattle.std.proofs.Common.{◌≡◌, ℕ, ◌+◌, ◌<◌, ◌≤◌, false, List, [], ◌++◌, length, take, drop, refl, sym, ap, ◌∙◌, arith, append_assoc, length-append, inl}
 use Rattle.std.proofs.Common.{inr}
 use Rattle.std.proofs.lemmas.{Bool.{cases_lt, ne_eqb}, List.{append-nil, take_all, take_at, take-append-drop}}
-use Rattle.ix_label.specs.{Members.has-with, Category.{Categories, has, with}, Spelling.{item, items, runs}, Scanning.{IsFirstFrom, RunsTo, comma_after}}
+use Rattle.ix_label.specs.{Category.{Categories, has}, Spelling.{item, items, runs}, Scanning.{IsFirstFrom, RunsTo, comma_after}}
 use Rattle.ix_label.proofs.Texts.{comma_after_none, comma_after_some, item_some}
 use Rattle.ix_label.proofs.Walk.{IsSpelledBelow, IsSpelledBelow-none, IsSpelledBelow-more, IsSpelledBelow-all}
 use Rattle.ix_text.specs.Items.{separator}
@@ -48,23 +48,6 @@ more_told s from first last old mid new t next run text = record {
 -- nothing stands at or above the place
 pub all_told : (s : Categories) (from : ℕ) (old new : List ℕ) → IsTold s from old new → ((q : ℕ) → from ≤ q → has s q ≡ false) → new ≡ old ++ items (runs s)
 all_told s from old new t none = t.text ∙ ap (λ m. old ++ m) (IsSpelledBelow-all s from t.out t.spelled none)
-
--- ---- what is told alone
--- nothing of the label stands at or above the place
-abbrev pub StandsBelow : Categories → ℕ → Type 0
-StandsBelow s from = (q : ℕ) → from ≤ q → has s q ≡ false
-
--- one category more
-pub lone_more : (s t : Categories) (from first last : ℕ) → StandsBelow t from → IsFirstFrom s from first → first ≡ last → StandsBelow (with t first) (last + 1)
-lone_more s t from first last h next e q k = has-with t first q ∙ rw (ne_eqb q first (λ i. omega (arith, e, k, i)), h q (omega (arith, next.start))) refl
-
--- a longer run, which isn't told alone
-pub lone_same : (s t : Categories) (from first last : ℕ) → StandsBelow t from → IsFirstFrom s from first → RunsTo s first last → StandsBelow t (last + 1)
-lone_same s t from first last h next run q k = h q (omega (arith, next.start, run.order))
-
--- the label is what is told alone
-pub lone_all : (s t : Categories) (from : ℕ) → StandsBelow t from → s ≡ t → StandsBelow s from
-lone_all s t from h e q k = ap (λ l. has l q) e ∙ h q k
 
 -- ---- what stood there stays
 pub stays_twice : (o m n : List ℕ) → take (length o) m ≡ o → take (length m) n ≡ m → take (length o) n ≡ o

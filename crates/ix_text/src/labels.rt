@@ -25,6 +25,7 @@ pub fn label_in(form: Form, word: &[u8]) -> Option<Label>
 /// In form One that of a narrow label alone can be read again.
 ///
 /// After `NoMemory` what stood there stands there still, and maybe a part of the spelling after it.
+#[inline(always)]
 pub fn push_label(out: &mut Vec<u8>, form: Form, label: &Label) -> Result<(), NoMemory>
     ensures stays { take (length out.old.items) out.new.items ≡ out.old.items }
     ensures text { OnOk result (out.new.items ≡ out.old.items ++ spelling form label.now) }
@@ -33,6 +34,7 @@ pub fn push_label(out: &mut Vec<u8>, form: Form, label: &Label) -> Result<(), No
 }
 
 /// The same, with a counter of its own.
+#[inline(always)]
 #[tactic(auto, unfolding(ix_label::specs::Spelling::spelling))]
 fn push_spelling<L: Ledger>(
     out: &mut Vec<u8>,
@@ -57,9 +59,6 @@ fn push_spelling<L: Ledger>(
 }
 
 /// The items of the longest runs. It stands apart, so that a label of no category is written fast.
-///
-/// Lone categories are gathered as they are told: a label of these alone is done once they are the whole of it, and isn't looked
-/// through to its end.
 #[inline(never)]
 fn push_runs<L: Ledger>(
     out: &mut Vec<u8>,
@@ -70,16 +69,9 @@ fn push_runs<L: Ledger>(
     ensures text { OnOk result (out.new.items ≡ out.old.items ++ items (runs label.now)) }
 {
     let mut from = 0;
-    let mut lone = Label::bottom();
     'runs: while let Some((first, last)) = label.run_from(from, steps) {
         push_item(out, from, first, last)?;
         from = last + 1;
-        if first == last {
-            lone = lone.with(first);
-            if label.same(&lone, steps) {
-                return Ok(());
-            }
-        }
     }
     Ok(())
 }
