@@ -185,6 +185,7 @@ fn push_long_front(line: &mut Line, place: u32, lane: &[u8], number: u32) -> Res
 }
 
 /// The line of an entry.
+#[inline(always)]
 #[tactic(auto, unfolding(crate::specs::LineText::entry_line))]
 fn push_entry(
     line: &mut Line,

@@ -7,6 +7,8 @@ use std::marker::Model;
 
 /// A text of at most 192 bytes that is written from its end to its front, as the digits of a number are, and then put into a
 /// line at once. Contracts see its bytes.
+///
+/// What writes it stands where it is called: so no one else sees the place where the text starts, and that can stay in a register.
 #[derive(Drop)]
 pub struct Short {
     room: [u8; 192],
@@ -25,6 +27,7 @@ impl Model for Short {
 
 impl Short {
     /// No text.
+    #[inline(always)]
     pub fn new() -> Short
         ensures { result ≡ [] }
     {
@@ -35,6 +38,7 @@ impl Short {
     }
 
     /// The text.
+    #[inline(always)]
     pub fn as_bytes(&self) -> &[u8]
         ensures { result.now ≡ self.now }
     {
@@ -63,6 +67,7 @@ impl Short {
     }
 
     /// Writes a number in decimal at the front.
+    #[inline(always)]
     pub fn number(&mut self, n: u32)
         requires { length self.old + 10 ≤ 192 }
         ensures text { self.new ≡ decimal n ++ self.old }
@@ -88,6 +93,7 @@ impl Short {
     }
 
     /// Writes bytes as pairs of small hexadecimal digits at the front.
+    #[inline(always)]
     pub fn hex(&mut self, bytes: &[u8])
         requires { length self.old + 2 * length bytes.now ≤ 192 }
         ensures text { self.new ≡ hex bytes.now ++ self.old }
