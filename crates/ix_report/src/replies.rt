@@ -210,6 +210,7 @@ pub fn put_reply(text: &mut Short, reply: &Reply, bytes: &[u8]) -> bool
     ensures few { length text.new ≤ 64 }
 {
     match reply {
+        Reply::Done => text.bytes(b" = done @ "),
         Reply::Number(n) => {
             if *n > u64::from(u32::MAX) {
                 return false;

@@ -30,6 +30,7 @@ pub fn head(out: &mut Vec<u8>, form: Form) -> Result<(), NoMemory>
 /// calls, the call and the reply, and the label of the caller's record after the entry, where there is one. `bytes` are those
 /// that were read, where the reply says that some were; else they don't matter. After `NoMemory` the bytes of
 /// `out` are as they were.
+#[inline(always)]
 pub fn entry_line(
     out: &mut Vec<u8>,
     form: Form,
