@@ -9,7 +9,9 @@ pub returns-clause-text : goal.returns-clause-text
 unfolding entry_line
 returns-clause-text c seat =
     let whole = codes " = " ++ reply_text c.args.form c.args.reply.now c.args.bytes.now ++ codes " @ " in
-    let line = c.args.line.now.text ++ entry_line c.args.form c.args.place c.args.lane.now (entry seat c.args.number c.args.pid (op_of c.args.call.now)) c.args.reply.now c.args.bytes.now (option_copied c.args.label) in
+    let made = entry seat c.args.number c.args.pid (op_of c.args.call.now) in
+    let line = c.args.line.now.text
+    ++ entry_line c.args.form c.args.place c.args.lane.now made c.args.reply.now c.args.bytes.now (option_copied c.args.label) in
     let all : c.push_seen.new.line.text ++ codes "\n" ≡ line = elim c.if-not-told.branch [
       | then-not-told+in_ok-push_reply+in_ok-push w ↦
           let no : c.put_reply-told.result ≡ false = w.if-not-told.true in
