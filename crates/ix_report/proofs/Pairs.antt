@@ -1,5 +1,5 @@
 -- Bytes and numbers as pairs of digits.
-use Rattle.std.proofs.Common.{◌≡◌, ℕ, suc, ◌+◌, ◌/◌, ◌%◌, ◌<◌, ◌≤◌, ◌^◌, List, [], ◌∷◌, ◌++◌, length, take, drop, refl, sym, ap, ◌∙◌, arith, append_assoc}
+use Rattle.std.proofs.Common.{◌≡◌, ℕ, suc, ◌+◌, ◌*◌, ◌/◌, ◌%◌, ◌<◌, ◌≤◌, ◌^◌, List, [], ◌∷◌, ◌++◌, length, take, drop, refl, sym, ap, ◌∙◌, arith, append_assoc}
 use Rattle.std.proofs.Math.{ListN.{set, length-set}, Seq.take-suc-set}
 use Rattle.std.proofs.lemmas.{List.take-append-drop, Fmt.{decimal_digit, decimal_step, length-decimal-le}, Grind.flat_map-append}
 use Rattle.std.specs.Fmt.{decimal}
@@ -16,6 +16,11 @@ take_two xs n a b h =
 -- the first bytes, and the others
 pub parts_hex : (bytes : List ℕ) (n : ℕ) → hex (take n bytes) ++ hex (drop n bytes) ≡ hex bytes
 parts_hex bytes n = sym (flat_map-append hex_pair (take n bytes) (drop n bytes)) ∙ ap hex (take-append-drop n bytes)
+
+-- two digits a byte
+pub length_hex : (bytes : List ℕ) → length (hex bytes) ≡ 2 * length bytes
+length_hex [] = refl
+length_hex (b ∷ bytes) = let more = length_hex bytes in omega arith
 
 -- a number of two digits
 pub decimal_two : (n : ℕ) → 10 ≤ n → n < 100 → decimal n ≡ (48 + n / 10) ∷ (48 + n % 10) ∷ []

@@ -1,4 +1,5 @@
-ghost use Rattle.std.specs.{Prelude.{◌≡◌, ◌≤◌, ◌++◌, OnOk, codes, length}, Fmt.{decimal}};
+ghost use Rattle.std.specs.{Prelude.{◌≡◌, ◌+◌, ◌≤◌, ◌++◌, OnOk, codes, false, length, true}, Fmt.{decimal}};
+ghost use Rattle.ix_label.specs.declared.form.Form.{Form};
 ghost use Rattle.ix_model.specs.{history.Calls.{op_of}, world.Paths.{path_of}};
 ghost use Rattle.ix_label.specs.Spelling.{spelling};
 ghost use Rattle.ix_report.specs.{Hex.{hex}, Names.{path_text}, Words.{keep_text}, CallText.{call_text}};
@@ -21,6 +22,44 @@ fn push_command(line: &mut Line, word: &[u8], pid: Pid) -> Result<(), NoMemory>
     push_number(line, u64::from(pid.0))
 }
 
+/// The same before a text. The word is short.
+#[inline(always)]
+fn put_command(text: &mut Short, word: &[u8], pid: Pid)
+    requires word { length word.now ≤ 16 }
+    requires room { length text.old ≤ 166 }
+    ensures text { text.new ≡ word.now ++ decimal pid.0 ++ text.old }
+    ensures few { length text.new ≤ length text.old + length word.now + 10 }
+{
+    text.small(pid.0);
+    text.bytes(word);
+}
+
+/// A command with one number, before a text.
+#[inline(always)]
+fn put_with_number(text: &mut Short, word: &[u8], pid: Pid, n: u32)
+    requires word { length word.now ≤ 16 }
+    requires room { length text.old ≤ 155 }
+    ensures text { text.new ≡ word.now ++ decimal pid.0 ++ codes " " ++ decimal n ++ text.old }
+    ensures few { length text.new ≤ length text.old + length word.now + 21 }
+{
+    text.small(n);
+    text.byte(b' ');
+    put_command(text, word, pid);
+}
+
+/// A command with a descriptor and a number, before a text.
+#[inline(always)]
+fn put_with_fd_number(text: &mut Short, word: &[u8], pid: Pid, fd: Fd, n: u32)
+    requires word { length word.now ≤ 16 }
+    requires room { length text.old ≤ 144 }
+    ensures text { text.new ≡ word.now ++ decimal pid.0 ++ codes " " ++ decimal fd.0 ++ codes " " ++ decimal n ++ text.old }
+    ensures few { length text.new ≤ length text.old + length word.now + 32 }
+{
+    text.small(n);
+    text.byte(b' ');
+    put_with_number(text, word, pid, u32::from(fd.0));
+}
+
 /// A command with one number. Its word is short.
 fn push_with_number(line: &mut Line, word: &[u8], pid: Pid, n: u32) -> Result<(), NoMemory>
     requires { length word.now ≤ 16 }
@@ -28,10 +67,7 @@ fn push_with_number(line: &mut Line, word: &[u8], pid: Pid, n: u32) -> Result<()
     ensures text { OnOk result (line.new.text ≡ line.old.text ++ (word.now ++ decimal pid.0 ++ codes " " ++ decimal n)) }
 {
     let mut text = Short::new();
-    text.small(n);
-    text.byte(b' ');
-    text.small(pid.0);
-    text.bytes(word);
+    put_with_number(&mut text, word, pid, n);
     line.push(text.as_bytes())
 }
 
@@ -58,12 +94,7 @@ fn push_with_fd_number(
         ++ (word.now ++ decimal pid.0 ++ codes " " ++ decimal fd.0 ++ codes " " ++ decimal n)) }
 {
     let mut text = Short::new();
-    text.small(n);
-    text.byte(b' ');
-    text.small(u32::from(fd.0));
-    text.byte(b' ');
-    text.small(pid.0);
-    text.bytes(word);
+    put_with_fd_number(&mut text, word, pid, fd, n);
     line.push(text.as_bytes())
 }
 
@@ -281,4 +312,29 @@ pub fn push_call(line: &mut Line, form: Form, pid: Pid, call: &Call<'_>) -> Resu
         Call::Unpex { fd } => push_with_fd(line, b"unpex p", pid, *fd),
         Call::ReadLog { index } => push_with_number(line, b"readlog p", pid, *index),
     }
+}
+
+/// Writes a call before a text, where it is one of those that are made most and is short. Whether it was: if not, the text stays.
+#[inline(always)]
+#[tactic(auto, unfolding(crate::specs::CallText::call_text))]
+pub fn put_call(text: &mut Short, pid: Pid, call: &Call<'_>) -> bool
+    requires { length text.old ≤ 64 }
+    ensures put { (form : Form) → result ≡ true → text.new ≡ call_text form pid.0 (op_of call.now) ++ text.old }
+    ensures stays { result ≡ false → text.new ≡ text.old }
+    ensures few { length text.new ≤ 128 }
+{
+    match call {
+        Call::ReadFd { fd, count } => put_with_fd_number(text, b"read p", pid, *fd, *count),
+        Call::WriteFd { fd, bytes } => {
+            if bytes.len() > 16 {
+                return false;
+            }
+            text.hex(bytes);
+            text.bytes(b" x");
+            put_with_number(text, b"write p", pid, u32::from(fd.0));
+        }
+        Call::SelfLabel => put_command(text, b"self p", pid),
+        _ => return false,
+    }
+    true
 }

@@ -81,6 +81,7 @@ impl Line {
     }
 
     /// Writes a label at the line's end, in its one spelling of the form.
+    #[inline(always)]
     pub fn push_label(&mut self, form: Form, label: &Label) -> Result<(), NoMemory>
         ensures stays { self.new.before ≡ self.old.before }
         ensures text { OnOk result (self.new.text ≡ self.old.text ++ spelling form label.now) }

@@ -1,4 +1,4 @@
-ghost use Rattle.std.specs.Prelude.{◌≡◌};
+ghost use Rattle.std.specs.Prelude.{◌≡◌, ◌≤◌, length};
 ghost use Rattle.ix_report.specs.RefusalText.{refusal_text};
 
 use ix_model::Refusal;
@@ -6,7 +6,8 @@ use ix_model::Refusal;
 /// The name of a refusal, as it is declared.
 #[tactic(auto, unfolding(crate::specs::RefusalText::refusal_text))]
 pub fn name_of(why: Refusal) -> &'static [u8]
-    ensures { result.now ≡ refusal_text why }
+    ensures text { result.now ≡ refusal_text why }
+    ensures few { length result.now ≤ 16 }
 {
     match why {
         Refusal::NoProcess => b"NoProcess",

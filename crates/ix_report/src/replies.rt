@@ -1,4 +1,5 @@
-ghost use Rattle.std.specs.{Prelude.{◌≡◌, ◌++◌, OnOk, codes}, Fmt.{decimal}};
+ghost use Rattle.std.specs.{Prelude.{◌≡◌, ◌≤◌, ◌++◌, [], OnOk, codes, false, length, true}, Fmt.{decimal}};
+ghost use Rattle.ix_label.specs.declared.form.Form.{Form};
 ghost use Rattle.ix_model.specs.rows.Refusals.{number_of};
 ghost use Rattle.ix_label.specs.Spelling.{spelling};
 ghost use Rattle.ix_report.specs.{Hex.{hex}, Names.{name_text}, RefusalText.{refusal_text}, Words.{act_text, kind_text}, ReplyText.{audit_text, reply_text}};
@@ -7,6 +8,7 @@ ghost use Rattle.ix_text.specs.Spellings.{privs_text, state_text};
 use crate::line::Line;
 use crate::pieces::{push_escaped, push_hex, push_number, push_privs};
 use crate::refusals::name_of;
+use crate::short::Short;
 use crate::words::{act_word, kind_word};
 use ix_label::{Form, Label};
 use ix_model::{AuditLine, Fd, Kind, Name, NoMemory, Obj, Pid, PrivSet, Refusal, Reply};
@@ -195,4 +197,46 @@ pub fn push_reply(line: &mut Line, form: Form, reply: &Reply, bytes: &[u8]) -> R
         Reply::Child { pid, status } => push_child(line, *pid, *status),
         Reply::No(why) => push_refusal(line, *why),
     }
+}
+
+/// Writes a reply after its sign, and the sign of the label that comes next, where the reply is short. Whether it was: if not,
+/// nothing is written.
+#[inline(always)]
+#[tactic(auto, unfolding(crate::specs::ReplyText::reply_text))]
+pub fn put_reply(text: &mut Short, reply: &Reply, bytes: &[u8]) -> bool
+    requires { text.old ≡ [] }
+    ensures put { (form : Form) → result ≡ true → text.new ≡ codes " = " ++ reply_text form reply.now bytes.now ++ codes " @ " }
+    ensures stays { result ≡ false → text.new ≡ [] }
+    ensures few { length text.new ≤ 64 }
+{
+    match reply {
+        Reply::Done => text.bytes(b" = done @ "),
+        Reply::Number(n) => {
+            if *n > u64::from(u32::MAX) {
+                return false;
+            }
+            text.bytes(b" @ ");
+            text.small(*n as u32);
+            text.bytes(b" = number ");
+        }
+        Reply::Bytes(count) => {
+            if bytes.len() > 16 {
+                return false;
+            }
+            text.bytes(b" @ ");
+            text.hex(bytes);
+            text.bytes(b" x");
+            text.small(*count);
+            text.bytes(b" = bytes ");
+        }
+        Reply::No(why) => {
+            text.bytes(b" @ ");
+            text.bytes(name_of(*why));
+            text.byte(b' ');
+            text.small(u32::from(why.number()));
+            text.bytes(b" = no ");
+        }
+        _ => return false,
+    }
+    true
 }

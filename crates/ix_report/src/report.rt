@@ -1,11 +1,11 @@
-ghost use Rattle.std.specs.{Prelude.{◌≡◌, ℕ, ◌++◌, OnOk, OnErr, codes}, Option.{option_copied}, Fmt.{decimal}};
+ghost use Rattle.std.specs.{Prelude.{◌≡◌, ◌≤◌, ℕ, ◌++◌, OnOk, OnErr, codes, length}, Option.{option_copied}, Fmt.{decimal}};
 ghost use Rattle.ix_model.specs.history.{Calls.{op_of}, Made.{entry}};
-ghost use Rattle.ix_report.specs.{ReplyText.{AreBytesOf}, LineText.{audit_line, entry_line, head_line, object_line, process_line, seen_text, tail_line}};
+ghost use Rattle.ix_report.specs.{CallText.{call_text}, ReplyText.{AreBytesOf}, LineText.{audit_line, entry_line, head_line, object_line, process_line, seen_text, tail_line}};
 
-use crate::calls::push_call;
+use crate::calls::{push_call, put_call};
 use crate::line::Line;
 use crate::pieces::{push_number, push_spaced};
-use crate::replies::{push_audit, push_reply};
+use crate::replies::{push_audit, push_reply, put_reply};
 use crate::short::Short;
 use crate::words::{kind_word, life_word};
 use ix_label::{Form, Label};
@@ -30,6 +30,7 @@ pub fn head(out: &mut Vec<u8>, form: Form) -> Result<(), NoMemory>
 /// calls, the call and the reply, and the label of the caller's record after the entry, where there is one. `bytes` are those
 /// that were read, where the reply says that some were; else they don't matter. After `NoMemory` the bytes of
 /// `out` are as they were.
+#[inline(always)]
 pub fn entry_line(
     out: &mut Vec<u8>,
     form: Form,
@@ -126,12 +127,48 @@ fn push_front(line: &mut Line, place: u32, lane: &[u8], number: u32) -> Result<(
         return push_long_front(line, place, lane, number);
     }
     let mut text = Short::new();
+    put_front(&mut text, place, lane, number);
+    line.push(text.as_bytes())
+}
+
+/// The same before a text.
+#[inline(always)]
+fn put_front(text: &mut Short, place: u32, lane: &[u8], number: u32)
+    requires lane { length lane.now ≤ 32 }
+    requires room { length text.old ≤ 128 }
+    ensures { text.new ≡ decimal place ++ codes " " ++ lane.now ++ codes " " ++ decimal number ++ codes " " ++ text.old }
+{
     text.byte(b' ');
     text.number(number);
     text.byte(b' ');
     text.bytes(lane);
     text.byte(b' ');
     text.number(place);
+}
+
+/// Where an entry stands, its call, and the text after it. A short call is written with all of it at once.
+#[inline(always)]
+fn push_made(
+    line: &mut Line,
+    form: Form,
+    place: u32,
+    lane: &[u8],
+    number: u32,
+    pid: Pid,
+    call: &Call<'_>,
+    text: &mut Short,
+) -> Result<(), NoMemory>
+    requires { length text.old ≤ 64 }
+    ensures stays { line.new.before ≡ line.old.before }
+    ensures text { OnOk result (line.new.text ≡ line.old.text
+        ++ (decimal place ++ codes " " ++ lane.now ++ codes " " ++ decimal number ++ codes " " ++ call_text form pid.0 (op_of call.now) ++ text.old)) }
+{
+    if lane.len() <= 32 && put_call(text, pid, call) {
+        put_front(text, place, lane, number);
+        return line.push(text.as_bytes());
+    }
+    push_front(line, place, lane, number)?;
+    push_call(line, form, pid, call)?;
     line.push(text.as_bytes())
 }
 
@@ -149,6 +186,7 @@ fn push_long_front(line: &mut Line, place: u32, lane: &[u8], number: u32) -> Res
 }
 
 /// The line of an entry.
+#[inline(always)]
 #[tactic(auto, unfolding(crate::specs::LineText::entry_line))]
 fn push_entry(
     line: &mut Line,
@@ -166,10 +204,13 @@ fn push_entry(
     ensures text { (seat : ℕ) → OnOk result (line.new.text ≡ line.old.text
         ++ entry_line form place lane.now (entry seat number pid (op_of call.now)) reply.now bytes.now (option_copied label.entry)) }
 {
-    push_front(line, place, lane, number)?;
-    push_call(line, form, pid, call)?;
-    push_reply(line, form, reply, bytes)?;
-    line.push(b" @ ")?;
+    let mut text = Short::new();
+    let told = put_reply(&mut text, reply, bytes);
+    push_made(line, form, place, lane, number, pid, call, &mut text)?;
+    if !told {
+        push_reply(line, form, reply, bytes)?;
+        line.push(b" @ ")?;
+    }
     push_seen(line, form, label)?;
     line.push_byte(b'\n')
 }

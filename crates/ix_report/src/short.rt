@@ -1,13 +1,17 @@
-ghost use Rattle.std.specs.{Prelude.{◌≡◌, ◌+◌, ◌≤◌, ◌++◌, ◌∷◌, [], length}, Fmt.{decimal}};
+ghost use Rattle.std.specs.{Prelude.{◌≡◌, ◌+◌, ◌*◌, ◌≤◌, ◌++◌, ◌∷◌, [], length}, Fmt.{decimal}};
+ghost use Rattle.ix_report.specs.Hex.{hex};
 
 use itoa::write_digits;
+use ix_text::hex_pair;
 use std::marker::Model;
 
-/// A text of at most 64 bytes that is written from its end to its front, as the digits of a number are, and then put into a
+/// A text of at most 192 bytes that is written from its end to its front, as the digits of a number are, and then put into a
 /// line at once. Contracts see its bytes.
+///
+/// What writes it stands where it is called: so no one else sees the place where the text starts, and that can stay in a register.
 #[derive(Drop)]
 pub struct Short {
-    room: [u8; 64],
+    room: [u8; 192],
     start: usize,
 }
 
@@ -18,21 +22,23 @@ impl Model for Short {
 
     ghost view = { λ t. drop t.start t.room };
 
-    ghost invariant = { λ t. t.start ≤ 64 };
+    ghost invariant = { λ t. t.start ≤ 192 };
 }
 
 impl Short {
     /// No text.
+    #[inline(always)]
     pub fn new() -> Short
         ensures { result ≡ [] }
     {
         Short {
-            room: [0; 64],
-            start: 64,
+            room: [0; 192],
+            start: 192,
         }
     }
 
     /// The text.
+    #[inline(always)]
     pub fn as_bytes(&self) -> &[u8]
         ensures { result.now ≡ self.now }
     {
@@ -42,7 +48,7 @@ impl Short {
     /// Writes one byte at the front.
     #[inline(always)]
     pub fn byte(&mut self, byte: u8)
-        requires { length self.old + 1 ≤ 64 }
+        requires { length self.old + 1 ≤ 192 }
         ensures { self.new ≡ byte ∷ self.old }
     {
         self.start -= 1;
@@ -52,7 +58,7 @@ impl Short {
     /// Writes bytes at the front.
     #[inline(always)]
     pub fn bytes(&mut self, bytes: &[u8])
-        requires { length self.old + length bytes.now ≤ 64 }
+        requires { length self.old + length bytes.now ≤ 192 }
         ensures { self.new ≡ bytes.now ++ self.old }
     {
         let end = self.start;
@@ -61,8 +67,9 @@ impl Short {
     }
 
     /// Writes a number in decimal at the front.
+    #[inline(always)]
     pub fn number(&mut self, n: u32)
-        requires { length self.old + 10 ≤ 64 }
+        requires { length self.old + 10 ≤ 192 }
         ensures text { self.new ≡ decimal n ++ self.old }
         ensures few { length self.new ≤ length self.old + 10 }
     {
@@ -74,7 +81,7 @@ impl Short {
     #[inline(always)]
     #[tactic(auto, using(std::proofs::lemmas::Fmt::decimal_digit))]
     pub fn small(&mut self, n: u32)
-        requires { length self.old + 10 ≤ 64 }
+        requires { length self.old + 10 ≤ 192 }
         ensures text { self.new ≡ decimal n ++ self.old }
         ensures few { length self.new ≤ length self.old + 10 }
     {
@@ -82,6 +89,20 @@ impl Short {
             self.byte(b'0' + n as u8);
         } else {
             self.number(n);
+        }
+    }
+
+    /// Writes bytes as pairs of small hexadecimal digits at the front.
+    #[inline(always)]
+    pub fn hex(&mut self, bytes: &[u8])
+        requires { length self.old + 2 * length bytes.now ≤ 192 }
+        ensures text { self.new ≡ hex bytes.now ++ self.old }
+        ensures count { length self.new ≡ length self.old + 2 * length bytes.now }
+    {
+        let mut left = bytes.len();
+        'pairs: while left > 0 {
+            left -= 1;
+            self.bytes(&hex_pair(bytes[left]));
         }
     }
 }

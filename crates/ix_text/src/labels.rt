@@ -25,6 +25,7 @@ pub fn label_in(form: Form, word: &[u8]) -> Option<Label>
 /// In form One that of a narrow label alone can be read again.
 ///
 /// After `NoMemory` what stood there stands there still, and maybe a part of the spelling after it.
+#[inline(always)]
 pub fn push_label(out: &mut Vec<u8>, form: Form, label: &Label) -> Result<(), NoMemory>
     ensures stays { take (length out.old.items) out.new.items ≡ out.old.items }
     ensures text { OnOk result (out.new.items ≡ out.old.items ++ spelling form label.now) }
@@ -33,6 +34,7 @@ pub fn push_label(out: &mut Vec<u8>, form: Form, label: &Label) -> Result<(), No
 }
 
 /// The same, with a counter of its own.
+#[inline(always)]
 #[tactic(auto, unfolding(ix_label::specs::Spelling::spelling))]
 fn push_spelling<L: Ledger>(
     out: &mut Vec<u8>,
@@ -56,7 +58,8 @@ fn push_spelling<L: Ledger>(
     push_runs(out, label, &mut steps)
 }
 
-/// The items of the longest runs.
+/// The items of the longest runs. It stands apart, so that a label of no category is written fast.
+#[inline(never)]
 fn push_runs<L: Ledger>(
     out: &mut Vec<u8>,
     label: &Label,
@@ -99,7 +102,8 @@ fn push_run(out: &mut Vec<u8>, first: u16, last: u16) -> Result<(), NoMemory>
     push_number(out, last)
 }
 
-/// A number in decimal. One of a single digit takes a short way.
+/// A number in decimal. One of a single digit takes a short way, which stands where it is called.
+#[inline(always)]
 #[tactic(auto, using(std::proofs::lemmas::Fmt::decimal_digit))]
 fn push_number(out: &mut Vec<u8>, n: u16) -> Result<(), NoMemory>
     ensures stays { take (length out.old.items) out.new.items ≡ out.old.items }
@@ -108,6 +112,15 @@ fn push_number(out: &mut Vec<u8>, n: u16) -> Result<(), NoMemory>
     if n < 10 {
         return push_byte(out, b'0' + n as u8);
     }
+    push_digits(out, n)
+}
+
+/// A number of any size.
+#[inline(never)]
+fn push_digits(out: &mut Vec<u8>, n: u16) -> Result<(), NoMemory>
+    ensures stays { take (length out.old.items) out.new.items ≡ out.old.items }
+    ensures text { OnOk result (out.new.items ≡ out.old.items ++ decimal n) }
+{
     let mut digits = Buffer::new();
     match out.extend_from_slice(digits.format(n).as_bytes()) {
         Ok(()) => Ok(()),

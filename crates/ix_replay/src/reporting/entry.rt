@@ -34,6 +34,7 @@ fn label_of(caller: &Option<ProcView>) -> Option<&Label>
 /// from (from 1), the calling process, the number of the seat (from 0), the call, the reply, and the bytes that were read. It asks
 /// that these are as many as the reply says, at most 4,096, and none where it says of none. After `NoMemory` the bytes of `out` are
 /// as they were.
+#[inline(always)]
 pub fn push_entry(
     out: &mut Vec<u8>,
     script: &Script,
