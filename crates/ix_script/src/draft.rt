@@ -9,7 +9,7 @@ use crate::form::Form;
 use crate::header::Header;
 use crate::line::Line;
 use crate::packed::Lines;
-use crate::places::line_by_form;
+use crate::places::line_said;
 use crate::role::{ENTRY, Role, cost_of_line, role_of};
 use crate::rules::{check_text, is_policy_line, is_skipped};
 use crate::values::begins_with_text;
@@ -135,7 +135,7 @@ impl<'a> Draft<'a> {
         ensures line { OnOk result (LineMore self.old.lines self.new.lines text.now) }
         ensures fail { IfErr result (λ e. HasCause e (option_map (λ rule. (length self.old.lines + 1, rule)) (line_fault self.old.lines text.now))) }
     {
-        let line = line_by_form(self.lines.form(), form, words);
+        let line = line_said(self.lines.form(), form, words).unwrap();
         if let Role::Command = role_of(&line) {
             return self.add_command(text, cost_of_line(&line));
         }
@@ -145,14 +145,30 @@ impl<'a> Draft<'a> {
         Ok(self.add(alloc, text, &line)?)
     }
 
-    /// The next line, which the text says; else its fault. After an error the draft isn't used. Whether each of the text's
-    /// bytes is known to be printable is told, and the words that are handed in are those of the last line that was cut.
+    /// Adds a line that isn't cut into words, or tells its fault. No other line clears room for it.
+    #[inline(never)]
+    fn add_whole(&mut self, alloc: Global, text: &'a [u8]) -> Result<(), ReadFail>
+        requires told { DraftTold self.old }
+        requires valid { is_valid (config_of self.old.lines) ≡ true }
+        requires few { length self.old.lines + 1 < 2 ^ 32 }
+        requires sound { text_fault text.now ≡ None }
+        requires whole { is_whole self.old.lines text.now ≡ true }
+        ensures told { OnOk result (DraftTold self.new) }
+        ensures line { OnOk result (LineMore self.old.lines self.new.lines text.now) }
+        ensures fail { IfErr result (λ e. HasCause e (option_map (λ rule. (length self.old.lines + 1, rule)) (line_fault self.old.lines text.now))) }
+    {
+        match self.whole_line(text) {
+            Ok(line) => Ok(self.add(alloc, text, &line)?),
+            Err(rule) => Err(self.fault(rule)),
+        }
+    }
+
+    /// The next line, which the text says; else its fault. Whether each of its bytes is known to be printable is told.
     pub fn add_line<L: Ledger>(
         &mut self,
         alloc: Global,
         printable: bool,
         text: &'a [u8],
-        words: &mut Words<'a>,
         steps: &mut Steps<L>,
     ) -> Result<(), ReadFail>
         requires told { DraftTold self.old }
@@ -167,18 +183,15 @@ impl<'a> Draft<'a> {
             return Err(self.fault(rule));
         }
         if self.lines.len() == 0 || is_skipped(text) || is_policy_line(text) {
-            return match self.whole_line(text) {
-                Ok(line) => Ok(self.add(alloc, text, &line)?),
-                Err(rule) => Err(self.fault(rule)),
-            };
+            return self.add_whole(alloc, text);
         }
         if self.is_next_lane(text) {
             return Ok(self.add_next_lane(text)?);
         }
-        words.cut(text);
-        match self.form_by_words(words) {
+        let words = Words::of(text);
+        match self.form_by_words(&words) {
             Ok(form) if form.is_entry() => self.add_command(text, ENTRY),
-            Ok(form) => self.add_formed(alloc, text, form, words, steps),
+            Ok(form) => self.add_formed(alloc, text, form, &words, steps),
             Err(rule) => Err(self.fault(rule)),
         }
     }

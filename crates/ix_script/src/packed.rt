@@ -5,7 +5,7 @@ ghost use Rattle.ix_script.specs.{scripts.Canonical.{has_one_spelling}, scripts.
 use crate::form::form_of;
 use crate::header::form_by;
 use crate::line::Line;
-use crate::places::line_by_form;
+use crate::places::line_said;
 use crate::role::Role;
 use crate::rules::{is_policy_line, is_skipped, version_of};
 use crate::values::{PolicyText, begins_with_text};
@@ -43,27 +43,26 @@ impl Model for Lines {
         × (l.form ≡ form_told (held l.form 0 l.text.items l.ends.items)) };
 }
 
-/// What a text says that breaks no rule. Each way out returns, as in `line_by_form`.
+/// What a text says that breaks no rule. Each way out returns, as in `line_said`.
 #[tactic(auto, unfolding(crate::specs::lines::Said::line_of))]
-fn said(labels: LabelForm, text: &[u8]) -> Line<'_>
+fn said(labels: LabelForm, text: &[u8]) -> Option<Line<'_>>
     requires { IsLine labels text.now }
-    ensures { line_of labels text.now ≡ Some result }
+    ensures { line_of labels text.now ≡ result }
 {
     if is_skipped(text) {
-        return Line::Skipped;
+        return Some(Line::Skipped);
     }
     if is_policy_line(text) {
-        return Line::Policy {
+        return Some(Line::Policy {
             text: PolicyText::of_line(text),
-        };
+        });
     }
     if let Some(form) = version_of(text) {
-        return Line::Version { form };
+        return Some(Line::Version { form });
     }
-    let mut words = Words::none();
-    words.cut(text);
+    let words = Words::of(text);
     let form = form_of(words.get(0)).unwrap();
-    line_by_form(labels, form, &words)
+    line_said(labels, form, &words)
 }
 
 /// Whether a line of that text has no other spelling: only a skipped line and one with a payload may have one.
@@ -74,13 +73,16 @@ pub(crate) fn has_one_spelling(text: &[u8]) -> bool
     !is_skipped(text) && !begins_with_text(b"write", text) && !begins_with_text(b"file", text)
 }
 
-/// How many line feeds there are, up to 2^32 bytes. As a sum that may wrap it looks at many bytes at once.
+/// How many line feeds there are. So few are counted in a byte that none is lost, and many bytes are looked at at once.
 fn feeds_in(bytes: &[u8]) -> usize {
-    let mut feeds = 0u32;
-    for b in bytes {
-        feeds = feeds.wrapping_add(u32::from(*b == b'\n'));
+    let mut feeds = 0usize;
+    for part in bytes.chunks(192) {
+        let count = part
+            .iter()
+            .fold(0u8, |n, b| n.wrapping_add(u8::from(*b == b'\n')));
+        feeds = feeds.wrapping_add(count as usize);
     }
-    feeds as usize
+    feeds
 }
 
 fn begin(ends: &[u32], i: usize) -> u32
@@ -156,8 +158,7 @@ impl Lines {
     pub fn get(&self, i: usize) -> Option<Line<'_>>
         ensures { result ≡ slice_get self.now i }
     {
-        let text = self.text_at(i)?;
-        Some(said(self.form, text))
+        said(self.form, self.text_at(i)?)
     }
 
     /// What the line at an index from 0 is for; `None` exactly past the end. The line isn't made for it.

@@ -1,4 +1,4 @@
-ghost use Rattle.std.specs.Prelude.{◌≡◌, ◌≤◌, ◌<◌, ◌+◌, [], ◌∷◌, Some, None, length, map, if◌then◌else◌};
+ghost use Rattle.std.specs.Prelude.{◌≡◌, ◌≤◌, ◌<◌, ◌+◌, [], ◌∷◌, Some, None, IsSome, length, map, if◌then◌else◌};
 ghost use Rattle.ix_script.specs.{lines.Forms.{places, places_from}, lines.Said.{said, plain_line, path_line, fd_line, counted_line}};
 ghost use Rattle.ix_script.specs.{reader.Placing.{kind_in, least, Stand}, reader.Readers.{IsFault}, texts.Cutting.{word_at}};
 
@@ -90,36 +90,41 @@ pub(crate) fn places_fault(labels: LabelForm, form: Form, words: &Words<'_>) -> 
 /// Returns the line of that command, which has these fields.
 macro_rules! say_by {
     ($command:ident: $of:ident, $fields:tt, $($name:ident)+) => {
-        match $command { $($of::$name => return Line::$name $fields,)+ }
+        match $command { $($of::$name => return Some(Line::$name $fields),)+ }
     };
 }
 
-fn plain_line<'a>(command: Plain, proc: NameWord<'a>) -> Line<'a>
-    ensures { result ≡ plain_line command proc.entry }
+fn plain_line<'a>(command: Plain, proc: NameWord<'a>) -> Option<Line<'a>>
+    ensures { result ≡ Some (plain_line command proc.entry) }
 {
     say_by!(command: Plain, { proc }, Wait Self_ Freezeself Thawself)
 }
 
-fn path_line<'a>(command: OnPath, proc: NameWord<'a>, path: PathWord<'a>) -> Line<'a>
-    ensures { result ≡ path_line command proc.entry path.entry }
+fn path_line<'a>(command: OnPath, proc: NameWord<'a>, path: PathWord<'a>) -> Option<Line<'a>>
+    ensures { result ≡ Some (path_line command proc.entry path.entry) }
 {
     say_by!(command: OnPath, { proc, path },
         Create Mkdir Unlink Rmdir Chdir Stat Exec Labelof Freeze Thaw)
 }
 
-fn fd_line<'a>(command: OnFd, proc: NameWord<'a>, fd: FdWord<'a>) -> Line<'a>
-    ensures { result ≡ fd_line command proc.entry fd.entry }
+fn fd_line<'a>(command: OnFd, proc: NameWord<'a>, fd: FdWord<'a>) -> Option<Line<'a>>
+    ensures { result ≡ Some (fd_line command proc.entry fd.entry) }
 {
     say_by!(command: OnFd, { proc, fd }, Close Pex Unpex Priv)
 }
 
-fn counted_line<'a>(command: Counted, proc: NameWord<'a>, fd: FdWord<'a>, n: u32) -> Line<'a>
-    ensures { result ≡ counted_line command proc.entry fd.entry n }
+fn counted_line<'a>(
+    command: Counted,
+    proc: NameWord<'a>,
+    fd: FdWord<'a>,
+    n: u32,
+) -> Option<Line<'a>>
+    ensures { result ≡ Some (counted_line command proc.entry fd.entry n) }
 {
     match command {
-        Counted::Read => return Line::Read { proc, fd, count: n },
-        Counted::Cut => return Line::Cut { proc, fd, len: n },
-        Counted::Seek => return Line::Seek { proc, fd, at: n },
+        Counted::Read => return Some(Line::Read { proc, fd, count: n }),
+        Counted::Cut => return Some(Line::Cut { proc, fd, len: n }),
+        Counted::Seek => return Some(Line::Seek { proc, fd, at: n }),
     }
 }
 
@@ -142,9 +147,10 @@ macro_rules! at {
 }
 
 /// What a line of that form says, whose labels are spelled so, and whose words break no rule by themselves.
-pub(crate) fn line_by_form<'a>(labels: LabelForm, form: Form, words: &Words<'a>) -> Line<'a>
+pub(crate) fn line_said<'a>(labels: LabelForm, form: Form, words: &Words<'a>) -> Option<Line<'a>>
     requires { Stand (places labels form words.now) }
-    ensures { said labels form words.now ≡ Some result }
+    ensures said { said labels form words.now ≡ result }
+    ensures some { IsSome result }
 {
     let one = words.get(1);
     let two = words.get(2);
@@ -153,15 +159,15 @@ pub(crate) fn line_by_form<'a>(labels: LabelForm, form: Form, words: &Words<'a>)
     // Returns a line, whose fields these words say.
     macro_rules! say {
         ($line:ident { $($field:ident: $kind:ident $at:expr),+ }) => {
-            return Line::$line { $($field: at!(labels, words, $kind, $at)),+ }
+            return Some(Line::$line { $($field: at!(labels, words, $kind, $at)),+ })
         };
     }
     match form {
-        Form::Phase => return Line::Phase,
-        Form::Limit => return Line::Limit {
+        Form::Phase => return Some(Line::Phase),
+        Form::Limit => return Some(Line::Limit {
             what: what_of(one).unwrap(),
             number: words.bound(),
-        },
+        }),
         Form::Fs => say!(Fs {
             name: name one, ceiling: label two, blocks: size three, inodes: size four
         }),
@@ -189,10 +195,10 @@ pub(crate) fn line_by_form<'a>(labels: LabelForm, form: Form, words: &Words<'a>)
         }),
         Form::Write => say!(Write { proc: name one, fd: fd two, bytes: payload three }),
         Form::Dup => say!(Dup { proc: name one, fd: fd two, named: named 3 }),
-        Form::Pipe => return Line::Pipe {
+        Form::Pipe => return Some(Line::Pipe {
             proc: NameWord::of(one),
             named: words.two_names_after(),
-        },
+        }),
         Form::Link => say!(Link { proc: name one, target: path two, path: path three }),
         Form::List => say!(List { proc: name one, path: path two, index: number three }),
         Form::Copy => say!(Copy { proc: name one, from: fd two, to: fd three, count: number four }),

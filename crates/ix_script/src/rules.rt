@@ -1,6 +1,6 @@
 ghost use Rattle.std.specs.{Prelude.{◌≡◌, Some, None, [], true, IsTrue, ◌<◌, ◌&&◌, ◌||◌, length}, List.{list_all, list_any}};
 ghost use Rattle.ix_script.specs.{lines.Before.{form_told, is_known, what_text, proc_names, fss_of, objects_of}, texts.Cutting.{is_skipped, is_policy_line}};
-ghost use Rattle.ix_script.specs.lines.Faults.{text_fault, words_fault, stand_fault, names_fault, said_fault, form_fault, command_fault, first_line_fault, body_fault};
+ghost use Rattle.ix_script.specs.lines.Faults.{text_fault, stand_fault, names_fault, said_fault, form_fault, command_fault, first_line_fault, body_fault};
 ghost use Rattle.ix_script.specs.lines.Rules.{is_outside, is_given_twice, is_unknown, names_unknown, object_above, object_is_misplaced, object_exceeds_limits, is_one_too_many, lacks_policy};
 ghost use Rattle.ix_script.specs.{lines.Said.{version_of, line_of}, reader.Readers.{Finds, object_fault, Tells, TellsForm, is_whole}, reader.Told.{DraftTold}};
 ghost use Rattle.ix_script.specs.declared.line.Line.TheVariants as line;
@@ -49,16 +49,6 @@ pub(crate) fn check_text(printable: bool, text: &[u8]) -> Result<(), Rule>
     Ok(())
 }
 
-/// Rules 4 and 5.
-#[tactic(auto, unfolding(crate::specs::lines::Faults::words_fault))]
-fn check_words(words: &Words<'_>) -> Result<(), Rule>
-    ensures { Finds result (words_fault words.now) }
-{
-    refuse_if!(words.has_empty(), Rule::EMPTY_WORD);
-    refuse_if!(words.has_open_quote(), Rule::OPEN_QUOTE);
-    Ok(())
-}
-
 pub(crate) fn is_skipped(text: &[u8]) -> bool
     ensures { result ≡ is_skipped text.now }
 {
@@ -90,9 +80,7 @@ fn first_line(text: &[u8]) -> Result<Line<'_>, Rule>
     ensures { Tells [] result (first_line_fault text.now) (line_of One text.now) }
 {
     if !is_policy_line(text) {
-        let mut words = Words::none();
-        words.cut(text);
-        check_words(&words)?;
+        Words::of(text).check()?;
     }
     match version_of(text) {
         Some(form) => Ok(Line::Version { form }),
@@ -108,7 +96,7 @@ impl<'a> Draft<'a> {
         requires told { DraftTold self.now }
         ensures { TellsForm self.now.lines result words.now }
     {
-        check_words(words)?;
+        words.check()?;
         let Some(form) = form_of(words.get(0)) else {
             return Err(Rule::UNKNOWN_COMMAND);
         };
@@ -178,8 +166,7 @@ impl<'a> Draft<'a> {
         }
     }
 
-    /// A line that isn't cut into words: the first one, a skipped one, and the policy, which stands in the header, has a text, and
-    /// stands once. `Err` with the least of the rules from 4 on that it breaks.
+    /// A line that isn't cut into words: the first, a skipped one or the policy; `Err` with the least rule, from 4 on, that it breaks.
     #[tactic(auto, unfolding(crate::specs::lines::Faults::body_fault))]
     pub fn whole_line(&self, text: &'a [u8]) -> Result<Line<'a>, Rule>
         requires told { DraftTold self.now }
@@ -379,9 +366,6 @@ impl<'a> Draft<'a> {
         requires told { DraftTold self.now }
         ensures { result ≡ lacks_policy self.now.lines line.now }
     {
-        match line {
-            Line::Priv { .. } | Line::Login { .. } => !self.header.policy,
-            _ => false,
-        }
+        matches!(line, Line::Priv { .. } | Line::Login { .. }) && !self.header.policy
     }
 }

@@ -121,8 +121,7 @@ impl Script {
         self.lines.len() as u32
     }
 
-    /// What a machine starts from, as the header says it: it is valid, and its journal has room for what [`need`] says.
-    /// `NoMemory` where there was none for it.
+    /// What a machine starts from, as the header says it: valid, with room in its journal for what [`need`] says; or `NoMemory`.
     pub fn config(&self, alloc: Global) -> Result<Config, NoMemory>
         ensures config { IfOk result (λ c. c ≡ config_of self.now) }
         ensures valid { IfOk result (λ c. IsTrue (is_valid c)) }

@@ -1,8 +1,9 @@
 ghost use Rattle.std.specs.{Prelude.{◌≡◌, ℕ, ◌≤◌, ◌<◌, ◌+◌, ◌^◌, ◌∷◌, [], length, take, drop, IfSome, Some, None, map, nat_lt, set, replicate, if◌then◌else◌}, Option.{option_map_or}};
-ghost use Rattle.{ix_script.specs.{lines.Rules.{has_empty_word, has_open_quote}, reader.Cut.{AreWords, end_from}}, ix_text.specs.Bytes.{is_empty}};
-ghost use Rattle.ix_script.specs.texts.Cutting.{after_byte, parts_words, closes, pieces, words_of, word_at, is_closed};
+ghost use Rattle.{ix_script.specs.{lines.Faults.{words_fault}, reader.Readers.{Finds}, reader.Cut.{AreWords, end_from}}, ix_text.specs.Bytes.{is_empty}};
+ghost use Rattle.ix_script.specs.texts.Cutting.{after_byte, parts_words, closes, is_open, pieces, words_of, word_at, is_closed};
 ghost use Rattle.ix_script.specs.declared.words.Spot.TheVariants as spot;
 
+use crate::fail::Rule;
 use ix_text::begins;
 use memchr::memchr;
 use std::marker::Model;
@@ -76,17 +77,16 @@ impl<'a> Model for Words<'a> {
 fn end_of_plain(text: &[u8]) -> usize
     ensures { result ≡ end_from spot.Plain text.now }
 {
-    let near = text.len().min(16);
-    'bytes: for i in 0..near {
+    'bytes: for i in 0..text.len() {
         if text[i] == b' ' {
             return i;
         }
+        if i == 16 {
+            let far = &text[i..];
+            return i + memchr(b' ', far).unwrap_or(far.len());
+        }
     }
-    let far = &text[near..];
-    if far.is_empty() {
-        return near;
-    }
-    near + memchr(b' ', far).unwrap_or(far.len())
+    text.len()
 }
 
 /// Where the first word ends that quotes may begin.
@@ -103,20 +103,24 @@ fn end_of_quoted(text: &[u8]) -> usize
     text.len()
 }
 
-/// The first word, and what stands after the space that ends it.
-fn first_word(text: &[u8]) -> (&[u8], Option<&[u8]>)
+/// The first word, what stands after the space that ends it, and whether it has an open quote.
+fn first_word(text: &[u8]) -> (&[u8], Option<&[u8]>, bool)
     ensures pieces { pieces spot.Front text.now ≡ result.0.now ∷ option_map_or (λ more. pieces spot.Front more.now) result.1 [] }
     ensures fewer { IfSome result.1 (λ more. length more.now < length text.now) }
+    ensures open { result.2 ≡ is_open result.0.now }
 {
-    let end = if begins(b'"', text) {
+    let quoted = begins(b'"', text);
+    let end = if quoted {
         end_of_quoted(text)
     } else {
         end_of_plain(text)
     };
+    let word = &text[..end];
+    let open = quoted && !is_closed(word);
     if end < text.len() {
-        (&text[..end], Some(&text[end + 1..]))
+        (word, Some(&text[end + 1..]), open)
     } else {
-        (text, None)
+        (word, None, open)
     }
 }
 
@@ -145,13 +149,13 @@ fn cut_into<'a>(text: &'a [u8], first: &mut [&'a [u8]; 8]) -> Seen
     let len = text.len();
     let mut rest = if len == 0 { None } else { Some(text) };
     'words: while let Some(front) = rest {
-        let (word, more) = first_word(front);
+        let (word, more, open) = first_word(front);
         if count < 8 {
             first[count] = word;
         }
         count += 1;
         has_empty |= word.is_empty();
-        has_open |= begins(b'"', word) && !is_closed(word);
+        has_open |= open;
         rest = more;
     }
     Seen {
@@ -162,10 +166,12 @@ fn cut_into<'a>(text: &'a [u8], first: &mut [&'a [u8]; 8]) -> Seen
 }
 
 impl<'a> Words<'a> {
-    pub fn none() -> Words<'a>
-        ensures { result ≡ [] }
+    /// The words of a line.
+    #[inline(always)]
+    pub fn of(text: &'a [u8]) -> Words<'a>
+        ensures { result ≡ words_of text.now }
     {
-        Words {
+        let mut words = Words {
             text: &[],
             first: [&[]; 8],
             seen: Seen {
@@ -173,16 +179,10 @@ impl<'a> Words<'a> {
                 has_empty: false,
                 has_open: false,
             },
-        }
-    }
-
-    /// Cuts a line into its words. They are put in their place, since to hand them out would copy them.
-    pub fn cut(&mut self, text: &'a [u8])
-        ensures { self.new ≡ words_of text.now }
-    {
-        self.first = [&[]; 8];
-        self.seen = cut_into(text, &mut self.first);
-        self.text = text;
+        };
+        words.seen = cut_into(text, &mut words.first);
+        words.text = text;
+        words
     }
 
     pub fn len(&self) -> usize
@@ -199,17 +199,17 @@ impl<'a> Words<'a> {
         self.first[i]
     }
 
-    /// Whether a word is empty: rule 4.
-    pub fn has_empty(&self) -> bool
-        ensures { result ≡ has_empty_word self.now }
+    /// Rules 4 and 5.
+    #[tactic(auto, unfolding(crate::specs::lines::Faults::words_fault))]
+    pub fn check(&self) -> Result<(), Rule>
+        ensures { Finds result (words_fault self.now) }
     {
-        self.seen.has_empty
-    }
-
-    /// Whether a quote is not closed: rule 5.
-    pub fn has_open_quote(&self) -> bool
-        ensures { result ≡ has_open_quote self.now }
-    {
-        self.seen.has_open
+        if self.seen.has_empty {
+            return Err(Rule::EMPTY_WORD);
+        }
+        if self.seen.has_open {
+            return Err(Rule::OPEN_QUOTE);
+        }
+        Ok(())
     }
 }

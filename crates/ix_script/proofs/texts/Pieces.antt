@@ -1,7 +1,7 @@
 -- Cutting the first word off.
 use Rattle.std.proofs.Common.{◌≡◌, ℕ, zero, suc, ◌+◌, ◌<◌, ◌≤◌, ◌==◌, Bool, true, false, slice_index, sym, cond, List, [], ◌∷◌, length, take, drop, get_or, ap}
 use Rattle.std.proofs.Common.{Option, Some, None, refl, ◌∙◌, arith, add-one, add-zero, drop-cons, length-drop}
-use Rattle.std.{specs.Option.option_map_or, proofs.lemmas.{Bool.{eq-eqb, ne_eqb}, List.{drop_all, take_all}}}
+use Rattle.std.{specs.Option.option_map_or, proofs.lemmas.{Bool.{eq-eqb, ne_eqb}, List.{drop_all, length-take-le, take_all}}}
 use Rattle.memchr.specs.Find.{IsFirstByte, is_byte}
 use Rattle.ix_model.specs.world.Texts.{with_front}
 use Rattle.ix_script.specs.{texts.Cutting.{pieces, parts_words, after_byte, closes, is_closed}, reader.Cut.end_from, declared.words.Spot.Spot}
@@ -29,6 +29,16 @@ cut_within at text k is low = cut_end at text ∙ rw (← is, drop-cons text k 0
 
 pub cut_whole : (at : Spot) (text : List ℕ) (k : ℕ) → k ≡ end_from at text → length text ≤ k → pieces at text ≡ text ∷ []
 cut_whole at text k is high = cut_end at text ∙ rw (← is, drop_all k text high, take_all k text high) refl
+
+end_low : (at : Spot) (text : List ℕ) → end_from at text ≤ length text
+end_low at [] = omega arith
+end_low at (b ∷ text) = elim (parts_words at b) as (λ t. cond t 0 (suc (end_from (after_byte at b) text)) ≤ suc (length text)) [
+  | true ↦ omega arith
+  | false ↦ omega (arith, end_low (after_byte at b) text)
+]
+
+pub ends_within : (text : List ℕ) (k : ℕ) → k ≡ end_from spot.Front text → k ≡ length (take k text)
+ends_within text k is = sym (length-take-le k text (omega (arith, is, end_low spot.Front text)))
 
 -- by a search for the first space
 false_of : (b : Bool) → (b ≡ true → ⊥) → b ≡ false

@@ -1,4 +1,4 @@
-use Rattle.std.proofs.Common.{◌≡◌, ◌+◌, ◌-◌, ℕ, List, length, take, drop, sym, ap, ◌∙◌, subst, arith}
+use Rattle.std.proofs.Common.{◌≡◌, ◌+◌, ◌-◌, ℕ, List, length, take, drop, sym, ap, ◌∙◌}
 use Rattle.std.proofs.Math.Seq.{take-length}
 use Rattle.std.proofs.lemmas.List.{length-drop}
 use Rattle.ix_script.specs.reader.Cut.{end_from}
@@ -6,11 +6,9 @@ use Rattle.ix_script.specs.declared.words.Spot.TheVariants as spot
 use Rattle.ix_script.proofs.texts.Pieces.{by_search}
 use Rattle.ix_script.proofs.words.end_of_plain.Goals as goal
 
-pub returns : goal.returns
-returns c =
+pub returns-then-i-eq16 : goal.returns-then-i-eq16
+returns-then-i-eq16 c =
     let text : List ℕ = c.args.text.now in
-    let at : ℕ = c.min-near.result in
-    let far : take (length text - at) (drop at text) ≡ drop at text = ap (λ n. take n (drop at text)) (sym (length-drop at text)) ∙ take-length (drop at text) in
-    let near : c.bytes.i ≡ at = omega (arith, c.bytes-test.false, c.bytes.auto.i-end) in
-    ap (λ n. at + n) (c.unwrap_or.ensures ∙ by_search (take (length text - at) (drop at text)) c.memchr.result c.memchr.ensures ∙ ap (end_from spot.Plain) far)
-    ∙ subst (λ (n : ℕ). n + end_from spot.Plain (drop n text) ≡ end_from spot.Plain text) near (sym c.bytes.invariant)
+    let i : ℕ = c.bytes.i in
+    let far : take (length text - i) (drop i text) ≡ drop i text = ap (λ n. take n (drop i text)) (sym (length-drop i text)) ∙ take-length (drop i text) in
+    ap (λ n. i + n) (c.unwrap_or.ensures ∙ by_search (take (length text - i) (drop i text)) c.memchr.result c.memchr.ensures ∙ ap (end_from spot.Plain) far) ∙ sym c.bytes.invariant
