@@ -145,24 +145,6 @@ impl<'a> Draft<'a> {
         Ok(self.add(alloc, text, &line)?)
     }
 
-    /// Adds a line that isn't cut into words, or tells its fault. No other line clears room for it.
-    #[inline(never)]
-    fn add_whole(&mut self, alloc: Global, text: &'a [u8]) -> Result<(), ReadFail>
-        requires told { DraftTold self.old }
-        requires valid { is_valid (config_of self.old.lines) ≡ true }
-        requires few { length self.old.lines + 1 < 2 ^ 32 }
-        requires sound { text_fault text.now ≡ None }
-        requires whole { is_whole self.old.lines text.now ≡ true }
-        ensures told { OnOk result (DraftTold self.new) }
-        ensures line { OnOk result (LineMore self.old.lines self.new.lines text.now) }
-        ensures fail { IfErr result (λ e. HasCause e (option_map (λ rule. (length self.old.lines + 1, rule)) (line_fault self.old.lines text.now))) }
-    {
-        match self.whole_line(text) {
-            Ok(line) => Ok(self.add(alloc, text, &line)?),
-            Err(rule) => Err(self.fault(rule)),
-        }
-    }
-
     /// The next line, which the text says; else its fault. Whether each of its bytes is known to be printable is told.
     pub fn add_line<L: Ledger>(
         &mut self,
@@ -183,12 +165,16 @@ impl<'a> Draft<'a> {
             return Err(self.fault(rule));
         }
         if self.lines.len() == 0 || is_skipped(text) || is_policy_line(text) {
-            return self.add_whole(alloc, text);
+            return match self.whole_line(text) {
+                Ok(line) => Ok(self.add(alloc, text, &line)?),
+                Err(rule) => Err(self.fault(rule)),
+            };
         }
         if self.is_next_lane(text) {
             return Ok(self.add_next_lane(text)?);
         }
-        let words = Words::of(text);
+        let mut words = Words::none();
+        words.cut(text);
         match self.form_by_words(&words) {
             Ok(form) if form.is_entry() => self.add_command(text, ENTRY),
             Ok(form) => self.add_formed(alloc, text, form, &words, steps),

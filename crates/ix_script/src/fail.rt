@@ -96,8 +96,7 @@ impl Rule {
 pub(crate) fn fault_at(line: u32, rule: Rule) -> ReadFail
     ensures { HasCause result (Some (line, rule.0)) }
 {
-    let rule = rule.0;
-    ReadFail::Fault(ScriptFault { line, rule })
+    ReadFail::Fault(ScriptFault { line, rule: rule.0 })
 }
 
 /// What is said to a script that breaks a rule, by the rule's number, which is 1 to 28.

@@ -27,8 +27,7 @@ pub fn scripts_fit()
     ensures { ScriptsFit }
 {}
 
-/// The lines of a lane are those of its stretches, one after the other, and the phase of a stretch is the last that has begun
-/// where it begins.
+/// The lines of a lane are those of its stretches, in order; the phase of a stretch is the last that has begun where it begins.
 pub fn lanes_are_stretches()
     ensures lines { LanesAreStretches }
     ensures phases { StretchesStand }

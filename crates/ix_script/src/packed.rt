@@ -60,7 +60,8 @@ fn said(labels: LabelForm, text: &[u8]) -> Option<Line<'_>>
     if let Some(form) = version_of(text) {
         return Some(Line::Version { form });
     }
-    let words = Words::of(text);
+    let mut words = Words::none();
+    words.cut(text);
     let form = form_of(words.get(0)).unwrap();
     line_said(labels, form, &words)
 }

@@ -216,9 +216,7 @@ fn quoted(text: &[u8]) -> Result<(Spelling<'_>, usize), Rule>
 fn times(most: u32, count: &[u8], digits: &[u8]) -> Result<(Spelling<'static>, usize), Rule>
     ensures { Spells most result (times_from count.now digits.now) }
 {
-    let Some(byte) = two_digits(digits) else {
-        return Err(Rule::BAD_PAYLOAD);
-    };
+    let byte = two_digits(digits).ok_or(Rule::BAD_PAYLOAD)?;
     if !is_numeral(count) {
         return Err(Rule::BAD_PAYLOAD);
     }

@@ -80,7 +80,9 @@ fn first_line(text: &[u8]) -> Result<Line<'_>, Rule>
     ensures { Tells [] result (first_line_fault text.now) (line_of One text.now) }
 {
     if !is_policy_line(text) {
-        Words::of(text).check()?;
+        let mut words = Words::none();
+        words.cut(text);
+        words.check()?;
     }
     match version_of(text) {
         Some(form) => Ok(Line::Version { form }),

@@ -166,12 +166,10 @@ fn cut_into<'a>(text: &'a [u8], first: &mut [&'a [u8]; 8]) -> Seen
 }
 
 impl<'a> Words<'a> {
-    /// The words of a line.
-    #[inline(always)]
-    pub fn of(text: &'a [u8]) -> Words<'a>
-        ensures { result ≡ words_of text.now }
+    pub fn none() -> Words<'a>
+        ensures { result ≡ [] }
     {
-        let mut words = Words {
+        Words {
             text: &[],
             first: [&[]; 8],
             seen: Seen {
@@ -179,10 +177,17 @@ impl<'a> Words<'a> {
                 has_empty: false,
                 has_open: false,
             },
-        };
-        words.seen = cut_into(text, &mut words.first);
-        words.text = text;
-        words
+        }
+    }
+
+    /// Cuts a line into its words. They are put in their place, since to hand them out would copy them.
+    #[inline(always)]
+    pub fn cut(&mut self, text: &'a [u8])
+        ensures { self.new ≡ words_of text.now }
+    {
+        self.first = [&[]; 8];
+        self.seen = cut_into(text, &mut self.first);
+        self.text = text;
     }
 
     pub fn len(&self) -> usize

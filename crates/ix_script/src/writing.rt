@@ -210,7 +210,8 @@ fn write_line(
     if is_skipped(text) {
         return Ok(());
     }
-    let words = Words::of(text);
+    let mut words = Words::none();
+    words.cut(text);
     let place = form_of(words.get(0)).unwrap().payload_place();
     if place == 0 {
         return push(out, text);
