@@ -8,6 +8,7 @@ mod lines;
 mod running;
 
 pub use asking::bindings::Bindings;
+pub use asking::caller::Caller;
 pub use lanes::{header_of, seat_past};
 pub use lines::{line_at, role_at};
 pub use running::lane_calls::LaneCalls;

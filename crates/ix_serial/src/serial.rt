@@ -6,7 +6,7 @@ ghost use Rattle.ix_serial.specs.Running.{Stands};
 
 use ix_core::{Core, Witness, read_by};
 use ix_lanes::SerialCalls;
-use ix_model::{Answer, Buf, NoMemory};
+use ix_model::{Answer, Buf, Call, NoMemory};
 use ix_policy::Policy;
 use ix_script::Script;
 use std::alloc::Global;
@@ -25,16 +25,17 @@ fn step<W: Witness>(
     ensures fewer { result ≡ true → most_entries calls.new < most_entries calls.old }
     ensures over { result ≡ false → core.new.events ≡ serial calls.old.script }
 {
-    // An entry and an answer are wide: they are looked at where they lie.
-    let Some(entry) = &calls.next() else {
+    // A call and an answer are wide: they are looked at where they lie.
+    let mut call = Call::MakePipe;
+    let Some(caller) = calls.next_call(&mut call) else {
         return false;
     };
-    let (seat, line, pid) = (entry.seat, entry.line, entry.pid);
-    let Answer::Given(reply) = &core.call(seat, line, pid, &entry.call, buf) else {
+    let (seat, line, pid) = (caller.seat, caller.line, caller.pid);
+    let Answer::Given(reply) = &core.call(seat, line, pid, &call, buf) else {
         unreachable!()
     };
     let bytes = read_by(reply, buf);
-    witness.see(core, line, pid, seat, &entry.call, reply, bytes);
+    witness.see(core, line, pid, seat, &call, reply, bytes);
     calls.hear(reply, bytes);
     true
 }

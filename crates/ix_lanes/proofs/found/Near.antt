@@ -41,6 +41,10 @@ near_set name v (e ∷ near) es (suc i) d low here before =
     ∙ sym (ap (λ b. cond b ((e.0, v) ∷ (near ++ es)) (e ∷ set_value (at name) (near ++ es) v)) (equal name e ∙ before 0 (omega arith)))
 
 -- ---- one that doesn't
+pub nowhere : {X : Type 0} (name : List ℕ) (es : List (Vec ℕ × X)) → length es ≡ 0 → lookup (at name) es ≡ None
+nowhere name [] none = refl
+nowhere name (e ∷ es) none = absurd (omega (arith, none))
+
 none_passes : {X : Type 0} (p : X → Bool) (xs : List X) → (position_or_len p xs < length xs → ⊥) → list_any p xs ≡ false
 none_passes p [] none = refl
 none_passes {X} p (x ∷ xs) none = go (none_passes p xs) (p x) refl

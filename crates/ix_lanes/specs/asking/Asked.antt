@@ -4,7 +4,11 @@ use Rattle.std.specs.FinMap as map
 use Rattle.std.specs.Coded.{Coded, code_by, coded×, coded_list, coded_ℕ}
 use Rattle.std.specs.Ordering.{nat_cmp}
 use Rattle.std.specs.Cmp.Lexicographic.{slice_cmp}
-use Rattle.ix_model.specs.history.Events.{Op}
+use Rattle.std.specs.Option.{option_map}
+use Rattle.ix_model.specs.history.Calls.{op_of}
+use Rattle.ix_model.specs.history.Events.{Event, Op}
+use Rattle.ix_model.specs.history.Made.{entry}
+use Rattle.ix_model.specs.declared.call.Call.{Call}
 use Rattle.ix_model.specs.history.Events as op
 use Rattle.ix_model.specs.declared.call.Keep.{Keep}
 use Rattle.ix_model.specs.declared.call.Keep.TheVariants as keep
@@ -15,6 +19,7 @@ use Rattle.ix_script.specs.declared.line.FdWord.TheVariants as fd_word
 use Rattle.ix_script.specs.declared.line.KeepWord.{KeepWord}
 use Rattle.ix_script.specs.declared.line.KeepWord.TheVariants as keep_word
 use Rattle.ix_asking.specs.Asking.{Asked}
+use Rattle.ix_lanes.specs.declared.asking.caller.Caller.{Caller}
 use Rattle.ix_lanes.specs.declared.asking.handed.Handed.{Handed}
 use Rattle.ix_lanes.specs.declared.asking.handed.Handed.TheVariants as handed
 
@@ -52,6 +57,10 @@ keep_of names keep_word.Nothing = keep.Nothing
 keep_of names (keep_word.One w) = keep.One (record { 0 = fd_of names w })
 
 -- ---- what a command asks for
+-- the entry of a call that somebody makes, if anybody does
+abbrev pub made_by : Option Caller → Call → Option Event
+made_by caller call = option_map (λ c. entry c.seat c.line c.pid (op_of call)) caller
+
 abbrev pub by : Numbers → Names → ℕ → List ℕ → Op → Option Asked
 by header names n proc o = Some (record { line = n; pid = pid_of header names proc; op = o })
 

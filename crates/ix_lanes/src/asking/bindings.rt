@@ -1,6 +1,7 @@
 ghost use Rattle.std.specs.{List.{position}, Prelude.{◌≡◌, OnOk, OnErr, true}};
 ghost use Rattle.std.specs.FinMap as map;
 ghost use Rattle.ix_model.specs.world.Naming.{same_bytes};
+ghost use Rattle.ix_lanes.specs.asking.Pairs.{beyond};
 
 use ix_model::NoMemory;
 use ix_script::NameWord;
@@ -26,6 +27,26 @@ fn place_of<N>(near: &[(Vec<u8>, N)], name: &[u8]) -> Option<usize>
     ensures { result ≡ position (λ e. same_bytes e.0.items name.now) near.now }
 {
     near.iter().position(|n| is(n.0.as_slice(), name))
+}
+
+/// What a name beyond the first few stands for.
+#[inline(always)]
+fn beyond<N: Copy>(numbers: &BTreeMap<Vec<u8>, N>, name: &[u8]) -> Option<N>
+    ensures { result ≡ beyond name.now numbers.now }
+{
+    if numbers.is_empty() {
+        return None;
+    }
+    in_tree(numbers, name)
+}
+
+/// What a name stands for in the tree. It is apart, since most lanes have none there.
+#[cold]
+#[inline(never)]
+fn in_tree<N: Copy>(numbers: &BTreeMap<Vec<u8>, N>, name: &[u8]) -> Option<N>
+    ensures { result ≡ beyond name.now numbers.now }
+{
+    numbers.get(name).copied()
 }
 
 impl<N> Model for Bindings<N> {
@@ -59,7 +80,7 @@ impl<N: Copy> Bindings<N> {
     {
         match place_of(self.near.as_slice(), name.as_bytes()) {
             Some(place) => Some(self.near[place].1),
-            None => self.numbers.get(name.as_bytes()).copied(),
+            None => beyond(&self.numbers, name.as_bytes()),
         }
     }
 

@@ -1,15 +1,17 @@
 ghost use Rattle.std.specs.{Prelude.{◌≡◌, ◌≤◌, take, true}, Option.{option_map}};
-ghost use Rattle.ix_model.specs.history.Calls.{event_of};
-ghost use Rattle.ix_lanes.specs.asking.Asked.{asked, both_bound, bound, named, number_in, written};
+ghost use Rattle.ix_model.specs.history.Calls.{op_of};
+ghost use Rattle.ix_model.specs.history.Events as op;
+ghost use Rattle.ix_lanes.specs.asking.Asked.{asked, both_bound, bound, made_by, named, number_in, written};
 ghost use Rattle.ix_script.specs.lines.Before.{listed, listed_two};
 ghost use Rattle.ix_lanes.specs.asking.Places.{given, has_all, has_places, KeepsNames, KeepsPlaces, standing};
 ghost use Rattle.ix_asking.specs.Runs.{entry_of};
 
 use crate::asking::bindings::Bindings;
+use crate::asking::caller::Caller;
 use crate::asking::handed::Handed;
 use crate::asking::places::Places;
-use ix_model::{Buf, Call, Entry};
-use ix_script::{Line, NameWord};
+use ix_model::{Buf, Call, Pid};
+use ix_script::{LabelWord, Line, NameWord, PathWord};
 
 /// Puts the bytes that a line writes, where it is a `write` line, at the front of a buffer, and answers how many they are.
 pub fn put_written(line: &Line<'_>, buf: &mut Buf) -> usize
@@ -26,8 +28,38 @@ pub fn put_written(line: &Line<'_>, buf: &mut Buf) -> usize
     }
 }
 
-/// The entry of the call that a line of a seat's lane asks for, if it is a command of one call. It borrows the script's text and these bytes,
-/// which are those that the line writes: nothing is copied.
+// A label is wide: the lines that have none are spared the place for it.
+
+/// Puts the call that sets an object's label where it is to lie.
+#[inline(never)]
+fn set_label<'a>(path: &PathWord<'a>, label: &LabelWord<'_>, call: &mut Call<'a>)
+    ensures { op_of call.new ≡ op.SetLabel path.now label.now }
+{
+    let (path, label) = (path.path(), label.label());
+    *call = Call::SetLabel { path, label };
+}
+
+/// Puts the call that sets the caller's label where it is to lie.
+#[inline(never)]
+fn set_self(label: &LabelWord<'_>, call: &mut Call<'_>)
+    ensures { op_of call.new ≡ op.SetSelf label.now }
+{
+    let label = label.label();
+    *call = Call::SetSelf { label };
+}
+
+/// Puts the call that sets a process's ceiling where it is to lie.
+#[inline(never)]
+fn set_ceiling(pid: Pid, label: &LabelWord<'_>, call: &mut Call<'_>)
+    ensures { op_of call.new ≡ op.SetCeiling pid.0 label.now }
+{
+    let label = label.label();
+    *call = Call::SetCeiling { pid, label };
+}
+
+/// Who makes the call that a line of a seat's lane asks for, if it is a command of one call, and that call. It borrows the script's text and
+/// these bytes, which are those that the line writes: nothing is copied. A call is wide: it is made where it is to lie.
+#[inline(always)]
 #[tactic(auto, unfolding(crate::specs::asking::Asked::asked))]
 pub fn call_of<'a>(
     header: &Bindings<u32>,
@@ -36,12 +68,16 @@ pub fn call_of<'a>(
     number: u32,
     line: &Line<'a>,
     bytes: &'a [u8],
-) -> Option<Entry<'a>>
+    call: &mut Call<'a>,
+) -> Option<Caller>
     requires { bytes.now ≡ written line.now }
-    ensures { option_map event_of result ≡ option_map (entry_of seat) (asked header.now (standing places.now) number line.now) }
+    ensures { made_by result call.new ≡ option_map (entry_of seat) (asked header.now (standing places.now) number line.now) }
 {
-    let (proc, call) = match line {
-        Line::Create { proc, path } => (proc, Call::CreateAt { path: path.path() }),
+    let proc = match line {
+        Line::Create { proc, path } => {
+            *call = Call::CreateAt { path: path.path() };
+            proc
+        }
         Line::Open {
             proc,
             path,
@@ -49,64 +85,121 @@ pub fn call_of<'a>(
             ..
         } => {
             let (path, mode) = (path.path(), *mode);
-            (proc, Call::OpenAt { path, mode })
+            *call = Call::OpenAt { path, mode };
+            proc
         }
         Line::Read { proc, fd, count } => {
             let (fd, count) = (places.fd(fd), *count);
-            (proc, Call::ReadFd { fd, count })
+            *call = Call::ReadFd { fd, count };
+            proc
         }
         Line::Write { proc, fd, .. } => {
             let fd = places.fd(fd);
-            (proc, Call::WriteFd { fd, bytes })
+            *call = Call::WriteFd { fd, bytes };
+            proc
         }
         Line::Cut { proc, fd, len } => {
             let (fd, len) = (places.fd(fd), *len);
-            (proc, Call::CutFd { fd, len })
+            *call = Call::CutFd { fd, len };
+            proc
         }
         Line::Seek { proc, fd, at } => {
             let (fd, at) = (places.fd(fd), *at);
-            (proc, Call::SeekFd { fd, at })
+            *call = Call::SeekFd { fd, at };
+            proc
         }
-        Line::Dup { proc, fd, .. } => (proc, Call::DupFd { fd: places.fd(fd) }),
-        Line::Close { proc, fd } => (proc, Call::CloseFd { fd: places.fd(fd) }),
-        Line::Pipe { proc, .. } => (proc, Call::MakePipe),
-        Line::Mkdir { proc, path } => (proc, Call::MakeDir { path: path.path() }),
+        Line::Dup { proc, fd, .. } => {
+            *call = Call::DupFd { fd: places.fd(fd) };
+            proc
+        }
+        Line::Close { proc, fd } => {
+            *call = Call::CloseFd { fd: places.fd(fd) };
+            proc
+        }
+        Line::Pipe { proc, .. } => {
+            *call = Call::MakePipe;
+            proc
+        }
+        Line::Mkdir { proc, path } => {
+            *call = Call::MakeDir { path: path.path() };
+            proc
+        }
         Line::Link { proc, target, path } => {
             let (target, path) = (target.path(), path.path());
-            (proc, Call::LinkAt { target, path })
+            *call = Call::LinkAt { target, path };
+            proc
         }
-        Line::Unlink { proc, path } => (proc, Call::UnlinkAt { path: path.path() }),
-        Line::Rmdir { proc, path } => (proc, Call::RemoveDir { path: path.path() }),
-        Line::Chdir { proc, path } => (proc, Call::ChangeDir { path: path.path() }),
-        Line::Stat { proc, path } => (proc, Call::StatAt { path: path.path() }),
+        Line::Unlink { proc, path } => {
+            *call = Call::UnlinkAt { path: path.path() };
+            proc
+        }
+        Line::Rmdir { proc, path } => {
+            *call = Call::RemoveDir { path: path.path() };
+            proc
+        }
+        Line::Chdir { proc, path } => {
+            *call = Call::ChangeDir { path: path.path() };
+            proc
+        }
+        Line::Stat { proc, path } => {
+            *call = Call::StatAt { path: path.path() };
+            proc
+        }
         Line::List { proc, path, index } => {
             let (path, index) = (path.path(), *index);
-            (proc, Call::ListAt { path, index })
+            *call = Call::ListAt { path, index };
+            proc
         }
         Line::Fork { proc, keep, .. } => {
             let keep = places.keep(keep);
-            (proc, Call::Fork { keep })
+            *call = Call::Fork { keep };
+            proc
         }
-        Line::Exec { proc, path } => (proc, Call::Exec { path: path.path() }),
+        Line::Exec { proc, path } => {
+            *call = Call::Exec { path: path.path() };
+            proc
+        }
         Line::Exit { proc, status } => {
             let status = (*status).min(255) as u8;
-            (proc, Call::Exit { status })
+            *call = Call::Exit { status };
+            proc
         }
-        Line::Wait { proc } => (proc, Call::WaitChild),
-        Line::Labelof { proc, path } => (proc, Call::LabelOf { path: path.path() }),
-        Line::Self_ { proc } => (proc, Call::SelfLabel),
+        Line::Wait { proc } => {
+            *call = Call::WaitChild;
+            proc
+        }
+        Line::Labelof { proc, path } => {
+            *call = Call::LabelOf { path: path.path() };
+            proc
+        }
+        Line::Self_ { proc } => {
+            *call = Call::SelfLabel;
+            proc
+        }
         Line::Setlabel { proc, path, label } => {
-            let (path, label) = (path.path(), label.label());
-            (proc, Call::SetLabel { path, label })
+            set_label(path, label, call);
+            proc
         }
         Line::Setself { proc, label } => {
-            let label = label.label();
-            (proc, Call::SetSelf { label })
+            set_self(label, call);
+            proc
         }
-        Line::Freeze { proc, path } => (proc, Call::Freeze { path: path.path() }),
-        Line::Freezeself { proc } => (proc, Call::FreezeSelf),
-        Line::Thaw { proc, path } => (proc, Call::Thaw { path: path.path() }),
-        Line::Thawself { proc } => (proc, Call::ThawSelf),
+        Line::Freeze { proc, path } => {
+            *call = Call::Freeze { path: path.path() };
+            proc
+        }
+        Line::Freezeself { proc } => {
+            *call = Call::FreezeSelf;
+            proc
+        }
+        Line::Thaw { proc, path } => {
+            *call = Call::Thaw { path: path.path() };
+            proc
+        }
+        Line::Thawself { proc } => {
+            *call = Call::ThawSelf;
+            proc
+        }
         Line::Setpriv {
             proc,
             path,
@@ -114,27 +207,40 @@ pub fn call_of<'a>(
             lic,
         } => {
             let (path, cap, lic) = (path.path(), *cap, *lic);
-            (proc, Call::SetPriv { path, cap, lic })
+            *call = Call::SetPriv { path, cap, lic };
+            proc
         }
-        Line::Droplic { proc, set } => (proc, Call::DropLic { set: *set }),
+        Line::Droplic { proc, set } => {
+            *call = Call::DropLic { set: *set };
+            proc
+        }
         Line::Grant { proc, to, set } => {
             let (pid, set) = (places.pid(header, to), *set);
-            (proc, Call::GrantLic { pid, set })
+            *call = Call::GrantLic { pid, set };
+            proc
         }
         Line::Ceiling { proc, of, label } => {
-            let (pid, label) = (places.pid(header, of), label.label());
-            (proc, Call::SetCeiling { pid, label })
+            set_ceiling(places.pid(header, of), label, call);
+            proc
         }
-        Line::Pex { proc, fd } => (proc, Call::Pex { fd: places.fd(fd) }),
-        Line::Unpex { proc, fd } => (proc, Call::Unpex { fd: places.fd(fd) }),
-        Line::Readlog { proc, index } => (proc, Call::ReadLog { index: *index }),
+        Line::Pex { proc, fd } => {
+            *call = Call::Pex { fd: places.fd(fd) };
+            proc
+        }
+        Line::Unpex { proc, fd } => {
+            *call = Call::Unpex { fd: places.fd(fd) };
+            proc
+        }
+        Line::Readlog { proc, index } => {
+            *call = Call::ReadLog { index: *index };
+            proc
+        }
         _ => return None,
     };
-    Some(Entry {
+    Some(Caller {
         seat,
         line: number,
         pid: places.pid(header, proc),
-        call,
     })
 }
 

@@ -14,6 +14,7 @@ use ix_script::{Line, Role};
 use ix_sessserv::SessServer;
 
 /// Begins a line of a lane: what it asks for. What it writes is put into the buffer. A part is wide: it is made where it lies.
+#[inline(always)]
 pub fn begin<'a>(
     policy: Option<&'a Policy>,
     header: &Bindings<u32>,

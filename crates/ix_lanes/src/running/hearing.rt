@@ -9,6 +9,7 @@ use ix_asking::{Asks, Copying, Step};
 use ix_model::Reply;
 
 /// Lets what asks for calls hear the answer to its next one. `Some` is what came of all, where nothing more is asked for.
+#[inline(never)]
 fn hear_on<A: Asks>(asks: &mut A, reply: &Reply, bytes: &[u8]) -> Option<A::Came>
     requires due { IsDue (first (A.asking asks.old)) }
     requires few { length bytes.now ≤ 4096 }
@@ -25,6 +26,7 @@ fn hear_on<A: Asks>(asks: &mut A, reply: &Reply, bytes: &[u8]) -> Option<A::Came
 }
 
 /// Lets a line hear the answer to its next call. `Some` is what comes of it for its names, where it asks for nothing more.
+#[inline(always)]
 pub fn heard(
     part: &mut Part<'_>,
     copying: &mut Copying,

@@ -12,7 +12,7 @@ use crate::running::here::Here;
 use crate::running::part::Part;
 use crate::running::phases::has_part;
 use ix_asking::{Asks, Copying, Step};
-use ix_model::{Buf, NoMemory, Reply};
+use ix_model::{Buf, Call, NoMemory, Reply};
 use ix_policy::Policy;
 use ix_script::laws::lanes_are_stretches;
 use ix_script::{Line, Role, Script, Stretch};
@@ -182,12 +182,13 @@ impl<'a> LaneCalls<'a> {
     {
         let _count = self.script.len();
         let (line, written) = (&self.here.line, &self.written[..count]);
-        let number = self.here.at + 1;
-        match call_of(self.header, &self.places, self.lane, number, line, written) {
-            Some(entry) => Step::Call {
-                line: entry.line,
-                pid: entry.pid,
-                call: entry.call,
+        let (number, mut call) = (self.here.at + 1, Call::MakePipe);
+        let (header, places) = (self.header, &self.places);
+        match call_of(header, places, self.lane, number, line, written, &mut call) {
+            Some(caller) => Step::Call {
+                line: caller.line,
+                pid: caller.pid,
+                call,
             },
             None => unreachable!(),
         }

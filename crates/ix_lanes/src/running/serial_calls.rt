@@ -2,12 +2,13 @@ ghost use Rattle.std.specs.Prelude.{◌≡◌, ◌+◌, ◌<◌, ◌≤◌, ℕ,
 ghost use Rattle.std.proofs.Common.{option_map};
 ghost use Rattle.ix_script.specs.{lines.{Before.{lanes_of}, Roles.{role_of}}, scripts.Schedule.{seat_after}};
 ghost use Rattle.ix_model.specs.history.Calls.{event_of};
-ghost use Rattle.ix_asking.specs.Steps.{next_of};
-ghost use Rattle.ix_lanes.specs.{asking.{Places.{standing}, Ruled.{rules_told}}, histories.{Indexed.{line_in}, Serial.{first_names, header_of}}};
+ghost use Rattle.ix_asking.specs.Asking.{first};
+ghost use Rattle.ix_lanes.specs.{asking.{Asked.{made_by}, Places.{standing}, Ruled.{rules_told}}, histories.{Indexed.{line_in}, Serial.{first_names, header_of}}};
 ghost use Rattle.ix_lanes.specs.running.{Left.{part_most}, Phases.{seat_at}, Serially.{ArePlaced, IsWithin, LeavesLines, entry_next, role_begins}};
 ghost use Rattle.ix_lanes.specs.declared.running.part.Part.TheVariants as part;
 
 use crate::asking::bindings::Bindings;
+use crate::asking::caller::Caller;
 use crate::asking::calls::{bind, call_of};
 use crate::asking::handed::Handed;
 use crate::asking::places::Places;
@@ -19,7 +20,7 @@ use crate::running::lane_calls::places_of;
 use crate::running::part::Part;
 use crate::running::turns::Turns;
 use ix_asking::{Asks, Copying, Step};
-use ix_model::{Buf, Entry, NoMemory, Reply};
+use ix_model::{Buf, Call, Entry, NoMemory, Reply};
 use ix_policy::Policy;
 use ix_script::{Line, Role, Script};
 use std::alloc::Global;
@@ -64,6 +65,7 @@ fn seat_asking(seat: Option<u32>, role: Role) -> Option<u32>
 
 impl<'a> Place<'a> {
     /// Goes past the line.
+    #[inline(always)]
     fn pass(&mut self, script: &Script, role: Role)
         requires role { role ≡ role_of (line_in script.now self.old.at) }
         requires within { self.old.at < length script.now }
@@ -159,7 +161,7 @@ impl<'a> SerialCalls<'a> {
     ghost use Rattle.std.specs.Prelude.{◌≡◌, ◌∷◌, ◌+◌, ◌<◌, ◌≤◌, ℕ, [], None, Some, IfOk, is_some, length, true};
     ghost use Rattle.std.proofs.Common.{option_map};
     ghost use Rattle.ix_model.specs.{history.{Calls.{event_of}, Events.{Event}, Step.{step_of}}, world.World.{World}};
-    ghost use Rattle.ix_lanes.specs.{asking.Ruled.{rules_told}, histories.Serial.{answered, first_names, serial_from}};
+    ghost use Rattle.ix_lanes.specs.{asking.{Asked.{made_by}, Ruled.{rules_told}}, histories.Serial.{answered, first_names, serial_from}};
     ghost use Rattle.ix_lanes.specs.running.Serially.{entries_left, most_entries, next_entry};
 
     /// The run of a script before its first call, by the script's policy, if it has one. It takes all the memory that its calls need.
@@ -202,16 +204,36 @@ impl<'a> SerialCalls<'a> {
         })
     }
 
-    /// The entry of the command in which it stands, which writes so many bytes.
-    fn command(&self, seat: u32, count: usize) -> Option<Entry<'_>>
+    /// Who makes the call of the command in which it stands, which writes so many bytes, and that call.
+    #[inline(always)]
+    fn command<'s>(&'s self, seat: u32, count: usize, call: &mut Call<'s>) -> Option<Caller>
         requires stands { self.now.part ≡ part.Command count }
         requires seat { self.now.seat ≡ Some seat }
-        ensures { option_map event_of result ≡ next_entry self.now }
+        ensures { made_by result call.new ≡ next_entry self.now }
     {
         let _count = self.script.len();
         let (line, written) = (&self.here.line, &self.written[..count]);
         let places = &self.places[seat as usize];
-        call_of(&self.header, places, seat, self.here.at + 1, line, written)
+        let number = self.here.at + 1;
+        call_of(&self.header, places, seat, number, line, written, call)
+    }
+
+    /// Who makes the call of the next entry, and that call, which is put where it is to lie; `None` exactly where none is left. It takes no
+    /// memory.
+    pub fn next_call<'s>(&'s self, call: &mut Call<'s>) -> Option<Caller>
+        ensures entry { made_by result call.new ≡ next_entry self.now }
+        ensures none { result ≡ None → (w : World) (place : ℕ) → entries_left self.now w place ≡ [] }
+    {
+        let Some(seat) = self.here.seat else {
+            return None;
+        };
+        match &self.part {
+            Part::Over => None,
+            Part::Command(count) => self.command(seat, *count, call),
+            Part::Copy => called(seat, &self.copying, call),
+            Part::Priv(server) => called(seat, server, call),
+            Part::Login(server) => called(seat, server, call),
+        }
     }
 
     /// The next entry; `None` exactly where none is left. It takes no memory.
@@ -219,17 +241,16 @@ impl<'a> SerialCalls<'a> {
         ensures entry { option_map event_of result ≡ next_entry self.now }
         ensures none { result ≡ None → (w : World) (place : ℕ) → entries_left self.now w place ≡ [] }
     {
-        let Some(seat) = self.here.seat else {
+        let mut call = Call::MakePipe;
+        let Some(caller) = self.next_call(&mut call) else {
             return None;
         };
-        let step = match &self.part {
-            Part::Over => return None,
-            Part::Command(count) => return self.command(seat, *count),
-            Part::Copy => return called(seat, self.copying.next()),
-            Part::Priv(server) => server.next(),
-            Part::Login(server) => server.next(),
-        };
-        called(seat, step)
+        Some(Entry {
+            seat: caller.seat,
+            line: caller.line,
+            pid: caller.pid,
+            call,
+        })
     }
 
     /// Takes the answer to the next entry: the reply, and the bytes that were read, if any. It takes no memory.
@@ -262,18 +283,21 @@ impl<'a> SerialCalls<'a> {
     }
 }
 
-/// The entry of a seat's call that stands next, if any.
-fn called<C: Drop>(seat: u32, step: Step<'_, C>) -> Option<Entry<'_>>
-    ensures { option_map event_of result ≡ entry_next seat (next_of step.entry) }
+/// Who makes the call that stands next, if any, and that call.
+#[inline(never)]
+fn called<'a, A: Asks>(seat: u32, asks: &'a A, call: &mut Call<'a>) -> Option<Caller>
+where
+    A::Came: Drop,
+    ensures { made_by result call.new ≡ entry_next seat (first (A.asking asks.now)) }
 {
-    match step {
-        Step::Call { line, pid, call } => {
-            return Some(Entry {
-                seat,
-                line,
-                pid,
-                call,
-            });
+    match asks.next() {
+        Step::Call {
+            line,
+            pid,
+            call: next,
+        } => {
+            *call = next;
+            return Some(Caller { seat, line, pid });
         }
         Step::Came(_) => return None,
     }

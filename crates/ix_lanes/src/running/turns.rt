@@ -49,6 +49,7 @@ impl Turns {
     }
 
     /// The seat of the lane in which the line after the one at an index stands.
+    #[inline(never)]
     pub fn seat_past(
         &mut self,
         script: &Script,

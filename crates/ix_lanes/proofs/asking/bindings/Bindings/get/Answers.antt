@@ -18,5 +18,5 @@ returns-in-None g c =
     let name = c.args.name.now in
     let none : list_any (is_of name) i.near.items ≡ false =
     no_place (is_of name) i.near.items (sym (c.place_of.ensures ∙ (λ j. position (is_of (c.as_bytes.ensures j)) (c.as_slice.ensures.value j))) ∙ c.in-None.is) in
-    rw (c.copied.ensures, c.get.ensures.value, c.as_bytes-in-None.ensures, ← c.self.view_is)
+    rw (c.beyond.ensures, c.as_bytes-in-None.ensures, ← c.self.view_is)
     (sym (get-pairs name (i.near.items ++ i.numbers.entries) ∙ far_value name i.near.items i.numbers.entries none))
