@@ -1,7 +1,7 @@
 ghost use Rattle.std.specs.Prelude.{◌≡◌, ◌++◌, ◌∷◌, ◌+◌, ◌<◌, ◌^◌, [], true, false, Some, None, length, OnOk, IfOk, IfErr, IsTrue};
 ghost use Rattle.ix_script.specs.{lines.Before.{form_told}, lines.Faults.{line_fault, text_fault}, lines.Roles.{role_of}, lines.Said.{line_of}};
-ghost use Rattle.ix_script.specs.{reader.Readers.{HasCause, IsFormed, IsPlain, LineMore, LineRight, is_whole}, reader.Told.{DraftTold, IsNextLane}, scripts.Scripts.{config_of}};
-ghost use Rattle.{std.{proofs.Common.{option_map}, specs.List.{list_all}}, ix_model.specs.opening.Valid.{is_valid, is_within}, ix_text.specs.Bytes.{is_empty}};
+ghost use Rattle.ix_script.specs.{reader.Readers.{HasCause, IsFormed, IsPlain, LineMore, LineRight, is_whole}, reader.Told.{CanGrow, DraftTold, IsNextLane}};
+ghost use Rattle.{std.{proofs.Common.{option_map}, specs.List.{list_all}}, ix_model.specs.opening.Valid.{is_within}, ix_text.specs.Bytes.{is_empty}};
 
 use crate::body::Body;
 use crate::fail::{ReadFail, Rule, fault_at};
@@ -43,10 +43,8 @@ impl<'a> Draft<'a> {
 
     /// One line more, which the text says. After an error the draft isn't used.
     fn add(&mut self, alloc: Global, text: &[u8], line: &Line<'a>) -> Result<(), NoMemory>
-        requires told { DraftTold self.old }
-        requires valid { is_valid (config_of self.old.lines) ≡ true }
+        requires grows { CanGrow self.old }
         requires right { LineRight self.old.lines line.now (line_fault self.old.lines text.now) (line_of (form_told self.old.lines) text.now) }
-        requires few { length self.old.lines + 1 < 2 ^ 32 }
         ensures told { OnOk result (DraftTold self.new) }
         ensures lines { OnOk result (self.new.lines ≡ self.old.lines ++ line.now ∷ []) }
     {
@@ -69,9 +67,7 @@ impl<'a> Draft<'a> {
     /// A command more that gives no name and is no server's: nothing is kept of it but its text and what it costs.
     #[inline(always)]
     fn add_command(&mut self, text: &[u8], cost: u64) -> Result<(), ReadFail>
-        requires told { DraftTold self.old }
-        requires valid { is_valid (config_of self.old.lines) ≡ true }
-        requires few { length self.old.lines + 1 < 2 ^ 32 }
+        requires grows { CanGrow self.old }
         requires later { is_empty self.old.lines ≡ false }
         requires plain { IsPlain self.old.lines text.now cost }
         ensures told { OnOk result (DraftTold self.new) }
@@ -100,9 +96,7 @@ impl<'a> Draft<'a> {
 
     /// That line: it breaks no rule.
     fn add_next_lane(&mut self, text: &'a [u8]) -> Result<(), NoMemory>
-        requires told { DraftTold self.old }
-        requires valid { is_valid (config_of self.old.lines) ≡ true }
-        requires few { length self.old.lines + 1 < 2 ^ 32 }
+        requires grows { CanGrow self.old }
         requires later { is_empty self.old.lines ≡ false }
         requires text { text_fault text.now ≡ None }
         requires next { IsNextLane self.old text.now }
@@ -126,9 +120,7 @@ impl<'a> Draft<'a> {
         words: &Words<'a>,
         steps: &mut Steps<L>,
     ) -> Result<(), ReadFail>
-        requires told { DraftTold self.old }
-        requires valid { is_valid (config_of self.old.lines) ≡ true }
-        requires few { length self.old.lines + 1 < 2 ^ 32 }
+        requires grows { CanGrow self.old }
         requires later { is_empty self.old.lines ≡ false }
         requires formed { IsFormed self.old.lines text.now form words.now }
         ensures told { OnOk result (DraftTold self.new) }
@@ -145,17 +137,32 @@ impl<'a> Draft<'a> {
         Ok(self.add(alloc, text, &line)?)
     }
 
-    /// The next line, which the text says; else its fault. Whether each of its bytes is known to be printable is told.
+    /// Adds a line that isn't cut into words, or tells its fault. No other line clears room for it.
+    #[inline(never)]
+    fn add_whole(&mut self, alloc: Global, text: &'a [u8]) -> Result<(), ReadFail>
+        requires grows { CanGrow self.old }
+        requires sound { text_fault text.now ≡ None }
+        requires whole { is_whole self.old.lines text.now ≡ true }
+        ensures told { OnOk result (DraftTold self.new) }
+        ensures line { OnOk result (LineMore self.old.lines self.new.lines text.now) }
+        ensures fail { IfErr result (λ e. HasCause e (option_map (λ rule. (length self.old.lines + 1, rule)) (line_fault self.old.lines text.now))) }
+    {
+        match self.whole_line(text) {
+            Ok(line) => Ok(self.add(alloc, text, &line)?),
+            Err(rule) => Err(self.fault(rule)),
+        }
+    }
+
+    /// The next line, which the text says; else its fault. Whether its bytes are known to be printable is told, and room for its words.
     pub fn add_line<L: Ledger>(
         &mut self,
         alloc: Global,
         printable: bool,
         text: &'a [u8],
+        words: &mut Words<'a>,
         steps: &mut Steps<L>,
     ) -> Result<(), ReadFail>
-        requires told { DraftTold self.old }
-        requires valid { is_valid (config_of self.old.lines) ≡ true }
-        requires few { length self.old.lines + 1 < 2 ^ 32 }
+        requires grows { CanGrow self.old }
         requires printable { IsTrue printable → list_all (is_within 32 126) text.now ≡ true }
         ensures told { OnOk result (DraftTold self.new) }
         ensures line { OnOk result (LineMore self.old.lines self.new.lines text.now) }
@@ -165,19 +172,15 @@ impl<'a> Draft<'a> {
             return Err(self.fault(rule));
         }
         if self.lines.len() == 0 || is_skipped(text) || is_policy_line(text) {
-            return match self.whole_line(text) {
-                Ok(line) => Ok(self.add(alloc, text, &line)?),
-                Err(rule) => Err(self.fault(rule)),
-            };
+            return self.add_whole(alloc, text);
         }
         if self.is_next_lane(text) {
             return Ok(self.add_next_lane(text)?);
         }
-        let mut words = Words::none();
         words.cut(text);
-        match self.form_by_words(&words) {
+        match self.form_by_words(words) {
             Ok(form) if form.is_entry() => self.add_command(text, ENTRY),
-            Ok(form) => self.add_formed(alloc, text, form, &words, steps),
+            Ok(form) => self.add_formed(alloc, text, form, words, steps),
             Err(rule) => Err(self.fault(rule)),
         }
     }

@@ -6,6 +6,7 @@ ghost use Rattle.{ix_script.specs.texts.Lines.{cut, lines_of}, ix_model.specs.op
 use crate::draft::Draft;
 use crate::fail::{ReadFail, Rule, fault_at};
 use crate::script::Script;
+use crate::words::Words;
 use bstr::ByteSlice;
 use ix_label::Steps;
 use std::alloc::Global;
@@ -58,10 +59,11 @@ impl<'a> Draft<'a> {
         ensures fail { IfErr result (λ e. HasCause e (fault_from [] (lines_of bytes.now))) }
     {
         let printable = all_printable_lines(bytes);
+        let mut words = Words::none();
         let mut rest = bytes;
         'lines: while !rest.is_empty() {
             let (text, more) = first_line(rest);
-            self.add_line(alloc, printable, text, steps)?;
+            self.add_line(alloc, printable, text, &mut words, steps)?;
             rest = more;
         }
         Ok(())

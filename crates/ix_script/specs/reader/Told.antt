@@ -6,11 +6,12 @@ use Rattle.ix_model.specs.rows.Telling.{blocks_for}
 use Rattle.ix_model.specs.world.Naming.{same_bytes}
 use Rattle.ix_text.specs.Bytes.{is_empty}
 use Rattle.ix_text.specs.Names.{is_script_name}
-use Rattle.ix_model.specs.opening.Valid.{fs_of, lying_on, blocks_taken}
+use Rattle.ix_model.specs.opening.Valid.{fs_of, is_valid, lying_on, blocks_taken}
 use Rattle.ix_model.specs.declared.config.FsSpec.{FsSpec}
 use Rattle.ix_model.specs.declared.config.ObjSpec.{ObjSpec}
 use Rattle.ix_script.specs.lines.Before.{default_fs, fss_told, fss_of, limits_of, whats_told, proc_names, objects_of, group, has_policy, in_body}
 use Rattle.ix_script.specs.lines.Before.{lane_now, phase_lanes, lanes_of, fds_given, procs_given, commands}
+use Rattle.ix_script.specs.scripts.Scripts.{config_of}
 use Rattle.ix_label.specs.declared.form.Form.{Form}
 use Rattle.ix_script.specs.declared.line.Line.{Line}
 use Rattle.ix_script.specs.declared.body.Body.{Body}
@@ -88,6 +89,12 @@ fss_after first told fss form (fs ∷ more) = if told == 0 then fs ∷ [] else f
 pub record DraftTold (d : Draft) : Type 0 where
   pub header : HeaderTold d.header d.lines
   pub body : BodyTold d.body d.lines
+
+-- a line more may be added: what the draft tells is right, what its lines say of a machine is valid, and they can be counted
+pub record CanGrow (d : Draft) : Type 0 where
+  pub told : DraftTold d
+  pub valid : is_valid (config_of d.lines) ≡ true
+  pub few : length d.lines + 1 < 2 ^ 32
 
 -- the text is the line of the next lane
 pub record IsNextLane (d : Draft) (text : List ℕ) : Type 0 where

@@ -4,13 +4,13 @@ use Rattle.ix_script.proofs.{reader.{Commands.on_ok, Counting.few_commands, Keep
 use Rattle.ix_script.proofs.draft.Draft.add.Goals as goal
 
 pub add-requires-clause-objects : goal.add-requires-clause-objects
-add-requires-clause-objects c = omega (arith, c.requires.told.header.objects, few_objects c.args.self.now.lines, c.requires.few)
+add-requires-clause-objects c = omega (arith, c.requires.grows.told.header.objects, few_objects c.args.self.now.lines, c.requires.grows.few)
 
 pub add-requires-clause-procs : goal.add-requires-clause-procs
-add-requires-clause-procs c = omega (arith, c.requires.told.header.proc_count, few_names c.args.self.now.lines, c.requires.few)
+add-requires-clause-procs c = omega (arith, c.requires.grows.told.header.proc_count, few_names c.args.self.now.lines, c.requires.grows.few)
 
 pub add-requires-2 : goal.add-requires-2
-add-requires-2 c = omega (arith, c.requires.told.body.commands, few_commands c.args.self.now.lines, c.requires.few)
+add-requires-2 c = omega (arith, c.requires.grows.told.body.commands, few_commands c.args.self.now.lines, c.requires.grows.few)
 
 pub push-requires-clause-faultless : goal.push-requires-clause-faultless
 push-requires-clause-faultless c = rw c.form_with-form.ensures (right_line c.args.self.now.lines c.args.line.now c.args.text.now c.requires.right).0
@@ -44,6 +44,6 @@ returns-clause-told c =
     on_ok c.push.result (λ pushed.
     let lines : c.push.new.self ≡ before ++ c.args.line.now ∷ [] = pushed ∙ ap (λ (l : Line). before ++ l ∷ []) is in
     rw lines record {
-      header = c.in_ok-add.ensures before (none_there c.len-first.result before c.len-first.ensures) c.requires.told.header c.requires.valid c.requires.right.fits;
-      body = c.in_ok-add-2.ensures before c.requires.told.body;
+      header = c.in_ok-add.ensures before (none_there c.len-first.result before c.len-first.ensures) c.requires.grows.told.header c.requires.grows.valid c.requires.right.fits;
+      body = c.in_ok-add-2.ensures before c.requires.grows.told.body;
     }) c.push.ensures

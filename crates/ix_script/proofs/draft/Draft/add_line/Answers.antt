@@ -1,9 +1,9 @@
 use Rattle.std.{proofs.Common.{◌≡◌, List, ℕ, Option, None, Some, false, sym, ap, ◌∙◌, subst}, specs.Option.option_map_or}
 use Rattle.ix_text.specs.Bytes.{is_empty}
 use Rattle.ix_script.specs.{texts.Cutting.{words_of, is_skipped, is_policy_line}, declared.{form.Form.Form, line.Line.Line}}
-use Rattle.ix_script.specs.lines.{Before.form_told, Faults.{said_fault, command_fault, line_fault}, Said.line_of}
-use Rattle.ix_script.specs.reader.Readers.{FormRight, IsFormed, LineRight}
-use Rattle.ix_script.proofs.{lines.Deciding.{whole_fault, some_lines, text_broken, by_words, said_by_form, said_is}, reader.Commands.entry_said}
+use Rattle.ix_script.specs.lines.{Before.form_told, Faults.{said_fault, command_fault}}
+use Rattle.ix_script.specs.reader.Readers.{FormRight, IsFormed}
+use Rattle.ix_script.proofs.{lines.Deciding.{some_lines, text_broken, by_words, said_by_form, said_is}, reader.Commands.entry_said}
 use Rattle.ix_script.proofs.draft.Draft.add_line.Goals as goal
 
 pub returns-in-Err-clause-fail : goal.returns-in-Err-clause-fail
@@ -16,11 +16,11 @@ add_command-requires-clause-plain g c =
     let some : is_empty before ≡ false = some_lines before c.len.result c.len.ensures c.if-len-eq0.false in
     let not_skipped : is_skipped text ≡ false = sym c.is_skipped.ensures ∙ c.if-is_skipped.false in
     let no_policy : is_policy_line text ≡ false = sym c.is_policy_line.ensures ∙ c.if-is_policy_line.false in
-    let right : FormRight before c.in-Ok-form_by_words.form (words_of text) = rw c.cut.ensures at c.in-Ok-form_by_words.ensures in
-    let e = entry_said (form_told before) c.in-Ok-form_by_words.form (words_of text) (sym c.is_entry.ensures ∙ c.if-is_entry.true) right.faultless in
+    let right : FormRight before c.in-Ok.form (words_of text) = rw c.cut.ensures at c.in-Ok.ensures in
+    let e = entry_said (form_told before) c.in-Ok.form (words_of text) (sym c.is_entry.ensures ∙ c.if-is_entry.true) right.faultless in
     record {
       line = e.line;
-      meant = said_by_form (form_told before) text c.in-Ok-form_by_words.form e.line not_skipped no_policy right.first e.says;
+      meant = said_by_form (form_told before) text c.in-Ok.form e.line not_skipped no_policy right.first e.says;
       fault = by_words before text c.in_default.ensures some not_skipped no_policy ∙ right.fault ∙ ap (λ (o : Option Line). option_map_or (said_fault before) o None) e.says;
       is_command = e.is_command;
       costs = e.costs;
@@ -35,28 +35,15 @@ returns-in-Err-form_by_words-clause-fail g c =
     let is = by_words before text c.in_default.ensures some (sym c.is_skipped.ensures ∙ c.if-is_skipped.false) (sym c.is_policy_line.ensures ∙ c.if-is_policy_line.false) ∙ broken in
     rw is c.fault-in-Err-form_by_words.ensures
 
-pub add-requires-clause-right : goal.add-requires-clause-right
-add-requires-clause-right g c = rw (whole_fault c.args.self.now.lines c.args.text.now c.in_default.ensures) c.in-Ok.ensures
-
-pub returns-in_ok-add-in-Ok-clause-line : goal.returns-in_ok-add-in-Ok-clause-line
-returns-in_ok-add-in-Ok-clause-line g c =
-    let right : LineRight c.args.self.now.lines c.in-Ok.line (line_fault c.args.self.now.lines c.args.text.now) (line_of (form_told c.args.self.now.lines) c.args.text.now) =
-    rw (whole_fault c.args.self.now.lines c.args.text.now c.in_default.ensures) c.in-Ok.ensures in
-    record { line = c.in-Ok.line; right = right; added = c.in_ok-add-in-Ok.ensures.lines }
-
-pub returns-in-Err-whole_line-clause-fail : goal.returns-in-Err-whole_line-clause-fail
-returns-in-Err-whole_line-clause-fail g c =
-    rw (whole_fault c.args.self.now.lines c.args.text.now c.in_default.ensures, c.in-Err-whole_line.ensures) c.fault-in-Err-whole_line.ensures
-
 pub add_formed-requires-clause-formed : goal.add_formed-requires-clause-formed
 add_formed-requires-clause-formed g c =
     let before : List Line = c.args.self.now.lines in
     let text : List ℕ = c.args.text.now in
-    let form : Form = c.in-Ok-form_by_words.form in
+    let form : Form = c.in-Ok.form in
     let some : is_empty before ≡ false = some_lines before c.len.result c.len.ensures c.if-len-eq0.false in
     let not_skipped : is_skipped text ≡ false = sym c.is_skipped.ensures ∙ c.if-is_skipped.false in
     let no_policy : is_policy_line text ≡ false = sym c.is_policy_line.ensures ∙ c.if-is_policy_line.false in
-    let right : FormRight before form (words_of text) = rw c.cut.ensures at c.in-Ok-form_by_words.ensures in
+    let right : FormRight before form (words_of text) = rw c.cut.ensures at c.in-Ok.ensures in
     subst (λ (words : List (List ℕ)). IsFormed before text form words) (sym c.cut.ensures) (record {
       faultless = right.faultless;
       meant = said_is (form_told before) text form not_skipped no_policy right.first;

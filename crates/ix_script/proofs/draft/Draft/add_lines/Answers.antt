@@ -1,4 +1,4 @@
-use Rattle.std.proofs.{Common.{◌≡◌, ℕ, List, [], length, sym, ◌∙◌, ap, subst}, lemmas.{Bool.eqb-true, List.nil_from_length, Result.err_from_is_err_and}}
+use Rattle.std.proofs.{Common.{◌≡◌, ℕ, List, [], length, sym, ◌∙◌, ap, arith, subst}, lemmas.{Bool.eqb-true, List.nil_from_length, Result.err_from_is_err_and}}
 use Rattle.ix_script.specs.{texts.Lines.cut, lines.Faults.fault_from, scripts.Scripts.{form_in, lines_said}}
 use Rattle.ix_script.proofs.reader.{Progress.{Reading, start, goes_on, stops, faultless, all_said, lines_cut}, Staying.valid_none}
 use Rattle.ix_script.proofs.texts.Feeds.{cut_printable, first_printable}
@@ -9,6 +9,11 @@ lines-init g c = record {
   reading = start c.args.bytes.now c.args.self.now c.requires.told c.requires.none valid_none;
   printable = λ all. cut_printable c.args.bytes.now (sym c.all_printable_lines-printable.ensures ∙ all);
 }
+
+pub add_line-requires-clause-grows : goal.add_line-requires-clause-grows
+add_line-requires-clause-grows g c =
+    let reading = c.lines.invariant.reading in
+    record { told = reading.told; valid = reading.valid; few = omega (arith, reading.short, c.requires.few) }
 
 pub add_line-requires-clause-printable : goal.add_line-requires-clause-printable
 add_line-requires-clause-printable g c = λ all. (first_printable c.lines.rest.now c.first_line.result.0.now
