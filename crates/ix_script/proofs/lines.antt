@@ -5,6 +5,7 @@ pub mod Deciding
 pub mod Sound
 pub mod Readings
 pub mod FirstWords
+pub mod FormTable
 pub mod FormWords
 pub mod Faultless
 pub mod Fitting

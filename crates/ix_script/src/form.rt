@@ -130,68 +130,66 @@ impl Form {
     }
 }
 
-/// Returns what stands beside the first of these texts that a word is.
-macro_rules! return_by_text {
-    ($word:ident; $($text:literal => $form:expr,)+) => {
-        $(if is($word, $text) {
-            return Some($form);
-        })+
-    };
-}
+/// The words that begin lines, with their forms. Those that most lines have come first.
+const FORMS: &[(&[u8], Form)] = &[
+    (b"read", Form::Counted(Counted::Read)),
+    (b"write", Form::Write),
+    (b"seek", Form::Counted(Counted::Seek)),
+    (b"self", Form::Plain(Plain::Self_)),
+    (b"cut", Form::Counted(Counted::Cut)),
+    (b"lane", Form::Lane),
+    (b"open", Form::Open),
+    (b"close", Form::OnFd(OnFd::Close)),
+    (b"phase", Form::Phase),
+    (b"create", Form::OnPath(OnPath::Create)),
+    (b"stat", Form::OnPath(OnPath::Stat)),
+    (b"wait", Form::Plain(Plain::Wait)),
+    (b"freezeself", Form::Plain(Plain::Freezeself)),
+    (b"thawself", Form::Plain(Plain::Thawself)),
+    (b"pex", Form::OnFd(OnFd::Pex)),
+    (b"unpex", Form::OnFd(OnFd::Unpex)),
+    (b"priv", Form::OnFd(OnFd::Priv)),
+    (b"mkdir", Form::OnPath(OnPath::Mkdir)),
+    (b"unlink", Form::OnPath(OnPath::Unlink)),
+    (b"rmdir", Form::OnPath(OnPath::Rmdir)),
+    (b"chdir", Form::OnPath(OnPath::Chdir)),
+    (b"exec", Form::OnPath(OnPath::Exec)),
+    (b"labelof", Form::OnPath(OnPath::Labelof)),
+    (b"freeze", Form::OnPath(OnPath::Freeze)),
+    (b"thaw", Form::OnPath(OnPath::Thaw)),
+    (b"dup", Form::Dup),
+    (b"pipe", Form::Pipe),
+    (b"link", Form::Link),
+    (b"list", Form::List),
+    (b"copy", Form::Copy),
+    (b"setlabel", Form::Setlabel),
+    (b"setpriv", Form::Setpriv),
+    (b"fork", Form::Fork),
+    (b"exit", Form::Exit),
+    (b"setself", Form::Setself),
+    (b"droplic", Form::Droplic),
+    (b"grant", Form::Grant),
+    (b"ceiling", Form::Ceiling),
+    (b"readlog", Form::Readlog),
+    (b"login", Form::Login),
+    (b"limit", Form::Limit),
+    (b"fs", Form::Fs),
+    (b"proc", Form::Proc),
+    (b"dir", Form::Dir),
+    (b"file", Form::File),
+];
 
-pub(crate) use return_by_text;
-
-/// The form of a line by its first word. Those that most lines have come first.
+/// The form of a line by its first word.
 pub(crate) fn form_of(word: &[u8]) -> Option<Form>
     ensures { result ≡ form_of word.now }
 {
-    return_by_text!(word;
-        b"read" => Form::Counted(Counted::Read),
-        b"write" => Form::Write,
-        b"seek" => Form::Counted(Counted::Seek),
-        b"self" => Form::Plain(Plain::Self_),
-        b"cut" => Form::Counted(Counted::Cut),
-        b"lane" => Form::Lane,
-        b"open" => Form::Open,
-        b"close" => Form::OnFd(OnFd::Close),
-        b"phase" => Form::Phase,
-        b"create" => Form::OnPath(OnPath::Create),
-        b"stat" => Form::OnPath(OnPath::Stat),
-        b"wait" => Form::Plain(Plain::Wait),
-        b"freezeself" => Form::Plain(Plain::Freezeself),
-        b"thawself" => Form::Plain(Plain::Thawself),
-        b"pex" => Form::OnFd(OnFd::Pex),
-        b"unpex" => Form::OnFd(OnFd::Unpex),
-        b"priv" => Form::OnFd(OnFd::Priv),
-        b"mkdir" => Form::OnPath(OnPath::Mkdir),
-        b"unlink" => Form::OnPath(OnPath::Unlink),
-        b"rmdir" => Form::OnPath(OnPath::Rmdir),
-        b"chdir" => Form::OnPath(OnPath::Chdir),
-        b"exec" => Form::OnPath(OnPath::Exec),
-        b"labelof" => Form::OnPath(OnPath::Labelof),
-        b"freeze" => Form::OnPath(OnPath::Freeze),
-        b"thaw" => Form::OnPath(OnPath::Thaw),
-        b"dup" => Form::Dup,
-        b"pipe" => Form::Pipe,
-        b"link" => Form::Link,
-        b"list" => Form::List,
-        b"copy" => Form::Copy,
-        b"setlabel" => Form::Setlabel,
-        b"setpriv" => Form::Setpriv,
-        b"fork" => Form::Fork,
-        b"exit" => Form::Exit,
-        b"setself" => Form::Setself,
-        b"droplic" => Form::Droplic,
-        b"grant" => Form::Grant,
-        b"ceiling" => Form::Ceiling,
-        b"readlog" => Form::Readlog,
-        b"login" => Form::Login,
-        b"limit" => Form::Limit,
-        b"fs" => Form::Fs,
-        b"proc" => Form::Proc,
-        b"dir" => Form::Dir,
-        b"file" => Form::File,
-    );
+    let table = FORMS;
+    'entries: for i in 0..table.len() {
+        let (text, form) = table[i];
+        if is(word, text) {
+            return Some(form);
+        }
+    }
     None
 }
 

@@ -5,7 +5,6 @@ ghost use Rattle.ix_script.specs.lines.Kinds as kind;
 ghost use Rattle.{ix_model.specs.world.Naming.{same_bytes}, ix_text.specs.{Bytes.{is_digit, begins_with}, Labels.{label_in}, Names.{name_of}}};
 
 use crate::fail::Rule;
-use crate::form::return_by_text;
 use crate::line::{FdWord, KeepWord, What};
 use crate::words::Words;
 use ix_label::{Form, Label};
@@ -76,6 +75,15 @@ impl<'a> NameWord<'a> {
     {
         Name::read(self.word).unwrap()
     }
+}
+
+/// Returns what stands beside the first of these texts that a word is.
+macro_rules! return_by_text {
+    ($word:ident; $($text:literal => $form:expr,)+) => {
+        $(if is($word, $text) {
+            return Some($form);
+        })+
+    };
 }
 
 /// `r`, `w` or `rw`.
