@@ -153,7 +153,8 @@ impl<'a> Draft<'a> {
         }
     }
 
-    /// The next line, which the text says; else its fault. Whether its bytes are known to be printable is told, and room for its words.
+    /// The next line, which the text says; else its fault. After an error the draft isn't used. Whether each of the text's
+    /// bytes is known to be printable is told, and the words that are handed in are those of the last line that was cut.
     pub fn add_line<L: Ledger>(
         &mut self,
         alloc: Global,

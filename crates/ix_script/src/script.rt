@@ -121,7 +121,8 @@ impl Script {
         self.lines.len() as u32
     }
 
-    /// What a machine starts from, as the header says it: valid, with room in its journal for what [`need`] says; or `NoMemory`.
+    /// What a machine starts from, as the header says it: it is valid, and its journal has room for what [`need`] says.
+    /// `NoMemory` where there was none for it.
     pub fn config(&self, alloc: Global) -> Result<Config, NoMemory>
         ensures config { IfOk result (λ c. c ≡ config_of self.now) }
         ensures valid { IfOk result (λ c. IsTrue (is_valid c)) }
