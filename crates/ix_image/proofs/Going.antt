@@ -15,11 +15,10 @@ pub wrote : (s : Saving) (next : Part) (before after first text : List ℕ) → 
     → Wrote s (with_next s next) before after
 unfolding left_of pieces_of
 wrote s next before after first text begun on none grown =
-    let piece : text ≡ on.piece = on.grown ∙ ap (λ (r : List ℕ). r ++ on.piece) none in
     record {
-      text = ap (λ (r : List ℕ). r ++ bytes_left s.fss.now (world_of s.core.now) next) (grown ∙ ap (λ (r : List ℕ). before ++ r) piece)
-          ∙ append_assoc before on.piece (bytes_left s.fss.now (world_of s.core.now) next)
-          ∙ ap (λ (r : List ℕ). before ++ r) on.writes.text;
+      text = ap (λ r. r ++ bytes_left s.fss.now (world_of s.core.now) next) (grown ∙ ap (λ r. before ++ r) (on.grown ∙ ap (λ r. r ++ on.piece) none))
+          ∙ append_assoc before on.piece _
+          ∙ ap (λ r. before ++ r) on.writes.text;
       grown = (text, grown);
       fewer = on.writes.fewer;
       begun = record { few = begun.few; marks = begun.marks; counted = begun.counted; stands = on.writes.stands };

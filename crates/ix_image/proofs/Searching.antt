@@ -11,19 +11,19 @@ use Rattle.ix_image.specs.{Found.{marked, IsDirAt, Finds}, Meant.AreMarks}
 -- ---- lists
 pub any_found : {A : Type 0} (p : A → Bool) (xs : List A) → list_any p xs ≡ true → (i : ℕ) × (x : A) × (slice_get xs i ≡ Some x) × (p x ≡ true)
 any_found p [] h = absurd (cc h)
-any_found p (x ∷ xs) h = elim (or_cases (p x) (list_any p xs) h) [
+any_found p (x ∷ xs) h = elim (or_cases _ _ h) [
   | inl here ↦ (0, x, refl, here)
   | inr there ↦ let r = any_found p xs there in (suc r.0, r.1, r.2, r.3)
 ]
 
 pub any_from : {A : Type 0} (p : A → Bool) (xs : List A) (i : ℕ) (x : A) → slice_get xs i ≡ Some x → p x ≡ true → list_any p xs ≡ true
 any_from p [] i x is h = absurd (cc is)
-any_from p (y ∷ xs) zero x is h = or_left (p y) (list_any p xs) (let same : y ≡ x = cc is in ap p same ∙ h)
+any_from p (y ∷ xs) zero x is h = or_left _ _ (ap p (cc is) ∙ h)
 any_from p (y ∷ xs) (suc i) x is h = or_right (p y) (list_any p xs) (any_from p xs i x is h)
 
 -- a test that implies another
 any_implies : {A : Type 0} (p q : A → Bool) (xs : List A) → ((x : A) → p x ≡ true → q x ≡ true) → list_any p xs ≡ true → list_any q xs ≡ true
-any_implies p q xs h any = let r = any_found p xs any in any_from q xs r.0 r.1 r.2 (h r.1 r.3)
+any_implies p q xs h any = let r = any_found p xs any in any_from q xs _ _ r.2 (h r.1 r.3)
 
 any_mapped : (ls : List LinkOf) (n : ℕ) → list_any (λ m. m == n) (map (λ l. l.1) ls) ≡ list_any (λ l. l.1 == n) ls
 any_mapped [] n = refl
@@ -31,25 +31,25 @@ any_mapped (l ∷ ls) n = ap (λ b. (l.1 == n) || b) (any_mapped ls n)
 
 -- a number that is one of one
 is_alone : (n m : ℕ) → list_any (λ k. k == m) (n ∷ []) ≡ true → m ≡ n
-is_alone n m h = sym (eqb-true n m (elim (or_cases (n == m) false h) [ inl e ↦ e | inr e ↦ absurd (cc e) ]))
+is_alone n m h = sym (eqb-true n m (elim (or_cases _ _ h) [ inl e ↦ e | inr e ↦ absurd (cc e) ]))
 
 any_append : (ns ms : List ℕ) (n : ℕ) → list_any (λ m. m == n) (ns ++ ms) ≡ true → (list_any (λ m. m == n) ns ≡ true) ⊎ (list_any (λ m. m == n) ms ≡ true)
 any_append [] ms n h = inr h
 any_append (x ∷ ns) ms n h = elim (or_cases (x == n) _ h) [
-  | inl here ↦ inl (or_left (x == n) _ here)
+  | inl here ↦ inl (or_left _ _ here)
   | inr there ↦ elim (any_append ns ms n there) [ inl l ↦ inl (or_right (x == n) _ l) | inr r ↦ inr r ]
 ]
 
 any_left : (ns ms : List ℕ) (n : ℕ) → list_any (λ m. m == n) ns ≡ true → list_any (λ m. m == n) (ns ++ ms) ≡ true
 any_left [] ms n h = absurd (cc h)
-any_left (x ∷ ns) ms n h = elim (or_cases (x == n) _ h) [ inl here ↦ or_left (x == n) _ here | inr there ↦ or_right (x == n) _ (any_left ns ms n there) ]
+any_left (x ∷ ns) ms n h = elim (or_cases (x == n) _ h) [ inl here ↦ or_left _ _ here | inr there ↦ or_right (x == n) _ (any_left ns ms n there) ]
 
 any_right : (ns ms : List ℕ) (n : ℕ) → list_any (λ m. m == n) ms ≡ true → list_any (λ m. m == n) (ns ++ ms) ≡ true
 any_right [] ms n h = h
 any_right (x ∷ ns) ms n h = or_right (x == n) _ (any_right ns ms n h)
 
 contained_at : (xs : List ℕ) (x : ℕ) → Contains xs x → (k : ℕ) × (k < length xs) × (slice_get xs k ≡ Some x)
-contained_at [] x h = absurd (let low = h.1 in omega arith)
+contained_at [] x h = absurd (omega (arith, h.1))
 contained_at (y ∷ xs) x (k, low, is) = go k low is
   where
     go : (k : ℕ) → k < suc (length xs) → get_or (y ∷ xs) k x ≡ x → (k : ℕ) × (k < suc (length xs)) × (slice_get (y ∷ xs) k ≡ Some x)
@@ -69,7 +69,7 @@ got_contains (y ∷ xs) (suc k) x is = let r = got_contains xs k x is in (suc r.
 got_within : {A : Type 0} (xs : List A) (k : ℕ) (x : A) → slice_get xs k ≡ Some x → k < length xs
 got_within [] k x is = absurd (cc is)
 got_within (y ∷ xs) zero x is = omega arith
-got_within (y ∷ xs) (suc k) x is = let r = got_within xs k x is in omega arith
+got_within (y ∷ xs) (suc k) x is = omega (arith, got_within xs k x is)
 
 got_left : {A : Type 0} (xs ys : List A) (k : ℕ) → k < length xs → slice_get (xs ++ ys) k ≡ slice_get xs k
 got_left [] ys k low = absurd (omega arith)
@@ -82,11 +82,11 @@ got_right (y ∷ xs) ys zero x high is = absurd (omega arith)
 got_right (y ∷ xs) ys (suc k) x high is = got_right xs ys k x (omega arith) is
 
 nothing_in : (x : ℕ) → Contains [] x → ⊥
-nothing_in x h = let low = h.1 in omega arith
+nothing_in x h = omega (arith, h.1)
 
 none_counted : (n : ℕ) → count_by (λ b. b) (replicate n false) ≡ 0
 none_counted zero = refl
-none_counted (suc n) = sum_by-cons (λ (b : Bool). cond {A = ℕ} b 1 0) false (replicate n false) ∙ (let rest = none_counted n in omega arith)
+none_counted (suc n) = sum_by-cons (λ b. cond b 1 0) false (replicate n false) ∙ (omega (arith, none_counted n))
 
 -- a mark that the code reads
 pub got_mark : (marks : List Bool) (i : ℕ) (b : Bool) → i < length marks → b ≡ get_or marks i b → marked marks i ≡ b
@@ -96,14 +96,14 @@ got_mark (m ∷ marks) (suc i) b low is = got_mark marks i b (omega arith) is
 
 pub got_place : (places : List ℕ) (i n : ℕ) → i < length places → n ≡ get_or places i n → slice_get places i ≡ Some n
 got_place [] i n low is = absurd (omega arith)
-got_place (m ∷ places) zero n low is = ap (λ (z : ℕ). Some z) (sym is)
+got_place (m ∷ places) zero n low is = ap (λ z. Some z) (sym is)
 got_place (m ∷ places) (suc i) n low is = got_place places i n (omega arith) is
 
 -- ---- finding
 module _ (nodes : List NodeOf) where
   -- an object that has names is a directory
   has_names : (n : ℕ) (x : NodeOf) → names_it n x ≡ true → is_directory x ≡ true
-  has_names n x h = go x.holds h
+  has_names n x h = go _ h
     where
       go : (held : Holds) → list_any (λ l. l.1 == n) (links_held held) ≡ true → are_links held ≡ true
       go (Bytes b) h = absurd (cc h)
@@ -124,24 +124,24 @@ module _ (nodes : List NodeOf) where
   }
 
   pub finds_none : (marks : List Bool) (places : List ℕ) → Finds nodes [] marks places marks places
-  finds_none marks places = nothing_found [] marks places (λ i x at h. absurd (cc h))
+  finds_none marks places = nothing_found [] _ _ (λ i x at h. absurd (cc h))
 
   -- it is one number, and what has it is marked, or there is no such directory
   pub finds_no_more : (n : ℕ) (marks : List Bool) (places : List ℕ) → ((i : ℕ) (x : NodeOf) → IsDirAt nodes i x → x.number ≡ n → marked marks i ≡ true) → Finds nodes (n ∷ []) marks places marks places
-  finds_no_more n marks places known = nothing_found (n ∷ []) marks places (λ i x at h. known i x at (is_alone n x.number h))
+  finds_no_more n marks places known = nothing_found _ _ _ (λ i x at h. known i x at (is_alone n _ h))
 
   -- a directory is found that wasn't yet
   pub finds_one : (n i : ℕ) (x : NodeOf) (marks : List Bool) (places : List ℕ) → length marks ≡ length nodes → IsDirAt nodes i x → x.number ≡ n → marked marks i ≡ false
       → ((j : ℕ) (y : NodeOf) → IsDirAt nodes j y → y.number ≡ n → j ≡ i) → Finds nodes (n ∷ []) marks places (set marks i true) (places ++ i ∷ [])
   finds_one n i x marks places long at number unmarked only =
-      let within : i < length marks = let low = got_within nodes i x at.is in omega arith in
+      let within : i < length marks = omega (arith, got_within _ i x at.is) in
       record {
         more = i ∷ [];
         behind = refl;
         long = length-set marks i true;
         few =
-            let off : cond {A = ℕ} (get_or marks i false) 1 0 ≡ 0 = ap (λ b. cond {A = ℕ} b 1 0) unmarked in
-            let total = sum_by-set (λ (b : Bool). cond {A = ℕ} b 1 0) marks i true false within in
+            let off = ap (λ b. cond {A = ℕ} b 1 0) unmarked in
+            let total = sum_by-set (λ b. cond {A = ℕ} b 1 0) marks i true false within in
             omega arith;
         kept = λ j h. elim (cases_eq j i) [
           | inl same ↦ ap (marked (set marks i true)) same ∙ get_or-set_same marks i true false within
@@ -155,12 +155,12 @@ module _ (nodes : List NodeOf) where
             let same : j ≡ i = only_one j h in (
               x,
               subst (λ k. IsDirAt nodes k x) (sym same) at,
-              or_left (n == x.number) false (eq-eqb n x.number (sym number)),
+              or_left _ false (eq-eqb n x.number (sym number)),
               ap (marked (set marks i true)) same
                   ∙ get_or-set_same marks i true false within,
             );
         all = λ j y is h.
-            ap (marked (set marks i true)) (only j y is (is_alone n y.number h)) ∙ get_or-set_same marks i true false within;
+            ap (marked (set marks i true)) (only j y is (is_alone n _ h)) ∙ get_or-set_same marks i true false within;
       }
     where
       only_one : (j : ℕ) → Contains (i ∷ []) j → j ≡ i
@@ -172,19 +172,19 @@ module _ (nodes : List NodeOf) where
       → Finds nodes (ns ++ ms) m0 p0 m2 p2
   finds_both ns ms m0 p0 m1 p1 m2 p2 a b = record {
     more = a.more ++ b.more;
-    behind = b.behind ∙ ap (λ (p : List ℕ). p ++ b.more) a.behind ∙ append_assoc p0 a.more b.more;
+    behind = b.behind ∙ ap (λ p. p ++ b.more) a.behind ∙ append_assoc p0 a.more b.more;
     long = b.long ∙ a.long;
-    few = let one = a.few in let two = b.few in omega (arith, length-append a.more b.more);
+    few = omega (arith, length-append a.more b.more, b.few);
     kept = λ i h. b.kept i (a.kept i h);
     new = λ i h. elim (b.new i h) [
       | inl before ↦ elim (a.new i before) [ inl long_before ↦ inl long_before | inr first ↦ inr (Contains-append_left a.more b.more i first) ]
       | inr second ↦ inr (Contains-append_right a.more b.more i second)
     ];
     named = λ i h. elim (Contains-append_cases a.more b.more i h) [
-      | inl first ↦ let r = a.named i first in (r.0, r.1, any_left ns ms r.0.number r.2, b.kept i r.3)
-      | inr second ↦ let r = b.named i second in (r.0, r.1, any_right ns ms r.0.number r.2, r.3)
+      | inl first ↦ let r = a.named i first in (r.0, r.1, any_left ns ms _ r.2, b.kept i r.3)
+      | inr second ↦ let r = b.named i second in (r.0, r.1, any_right ns ms _ r.2, r.3)
     ];
-    all = λ i x at h. elim (any_append ns ms x.number h) [
+    all = λ i x at h. elim (any_append ns ms _ h) [
       | inl first ↦ b.kept i (a.all i x at first)
       | inr second ↦ b.all i x at second
     ];
@@ -204,14 +204,13 @@ module _ (nodes : List NodeOf) where
       → FindsSoFar links more m p m3 p3
   finds_more links rest more l m p m2 p2 m3 p3 split so_far one = record {
     done = so_far.done ++ l.1 ∷ [];
-    whole = append_assoc so_far.done (l.1 ∷ []) (map (λ l. l.1) more) ∙ ap (λ (ls : List LinkOf). so_far.done ++ map (λ l. l.1) ls) (sym split) ∙ so_far.whole;
-    finds = finds_both so_far.done (l.1 ∷ []) m p m2 p2 m3 p3 so_far.finds one;
+    whole = append_assoc so_far.done _ (map (λ l. l.1) more) ∙ ap (λ ls. so_far.done ++ map (λ l. l.1) ls) (sym split) ∙ so_far.whole;
+    finds = finds_both _ _ m p m2 p2 m3 p3 so_far.finds one;
   }
 
   pub finds_end : (links rest : List LinkOf) (m : List Bool) (p : List ℕ) (m2 : List Bool) (p2 : List ℕ) → rest ≡ [] → FindsSoFar links rest m p m2 p2 → Finds nodes (map (λ l. l.1) links) m p m2 p2
   finds_end links rest m p m2 p2 none so_far =
-      let all : so_far.done ≡ map (λ l. l.1) links = sym (append-nil so_far.done) ∙ ap (λ (ls : List LinkOf). so_far.done ++ map (λ l. l.1) ls) (sym none) ∙ so_far.whole in
-      subst (λ (ns : List ℕ). Finds nodes ns m p m2 p2) all so_far.finds
+      subst (λ ns. Finds nodes ns m p m2 p2) (sym (append-nil so_far.done) ∙ ap (λ ls. so_far.done ++ map (λ l. l.1) ls) (sym none) ∙ so_far.whole) so_far.finds
 
   -- ---- reaching
   reached_root : (k n : ℕ) → n ≡ 0 → is_reached nodes k n ≡ true
@@ -221,15 +220,15 @@ module _ (nodes : List NodeOf) where
 
   reached_by : (k n i : ℕ) (x : NodeOf) → slice_get nodes i ≡ Some x → names_it n x ≡ true → is_reached nodes k x.number ≡ true → is_reached nodes (suc k) n ≡ true
   unfolding is_reached
-  reached_by k n i x at named reached = or_right (n == 0) _ (any_from (λ y. names_it n y && is_reached nodes k y.number) nodes i x at (and_from _ _ named reached))
+  reached_by k n i x at named reached = or_right _ _ (any_from _ _ i x at (and_from _ _ named reached))
 
   reached_more : (k n : ℕ) → is_reached nodes k n ≡ true → is_reached nodes (suc k) n ≡ true
   unfolding is_reached
-  reached_more zero n h = or_left (n == 0) _ h
+  reached_more zero n h = or_left _ _ h
   reached_more (suc k) n h = elim (or_cases (n == 0) _ h) [
-    | inl root ↦ or_left (n == 0) _ root
+    | inl root ↦ or_left _ _ root
     | inr named ↦ or_right (n == 0) _ (any_implies (λ y. names_it n y && is_reached nodes k y.number) (λ y. names_it n y && is_reached nodes (suc k) y.number) nodes
-        (λ y both. let p = and_parts _ _ both in and_from _ _ p.0 (reached_more k y.number p.1)) named)
+        (λ y both. let p = and_parts _ _ both in and_from _ _ p.0 (reached_more k _ p.1)) named)
   ]
 
   reached_further : (d k n : ℕ) → is_reached nodes k n ≡ true → is_reached nodes (d + k) n ≡ true
@@ -237,13 +236,13 @@ module _ (nodes : List NodeOf) where
     where
       zero_more : 0 + k ≡ k
       zero_more = omega arith
-  reached_further (suc d) k n h = ap (λ j. is_reached nodes j n) one_more ∙ reached_more (d + k) n (reached_further d k n h)
+  reached_further (suc d) k n h = ap (λ j. is_reached nodes j n) one_more ∙ reached_more _ n (reached_further d k n h)
     where
       one_more : suc d + k ≡ suc (d + k)
       one_more = omega arith
 
   reached_within : (k j n : ℕ) → k ≤ j → is_reached nodes k n ≡ true → is_reached nodes j n ≡ true
-  reached_within k j n low h = ap (λ m. is_reached nodes m n) (sym parts) ∙ reached_further (j - k) k n h
+  reached_within k j n low h = ap (λ m. is_reached nodes m n) (sym parts) ∙ reached_further _ k n h
     where
       parts : (j - k) + k ≡ j
       parts = omega arith
@@ -262,16 +261,16 @@ module _ (nodes : List NodeOf) where
   pub search_begins : (marks : List Bool) (places : List ℕ) → Finds nodes (0 ∷ []) (replicate (length nodes) false) [] marks places → Searched marks places 0
   search_begins marks places f = record {
     within = omega arith;
-    count = f.few ∙ ap (λ n. n + length f.more) (none_counted (length nodes)) ∙ zero_more (length f.more) ∙ sym (ap (λ (q : List ℕ). length q) f.behind);
-    long = f.long ∙ length-replicate (length nodes) false;
-    sound = λ p i is. let r = f.named i (got_contains f.more p i (sym (ap (λ (q : List ℕ). slice_get q p) f.behind) ∙ is)) in
-        (r.0, r.1, reached_root p r.0.number (is_alone 0 r.0.number r.2), r.3);
+    count = f.few ∙ ap (λ n. n + length f.more) (none_counted (length nodes)) ∙ zero_more _ ∙ sym (ap (λ q. length q) f.behind);
+    long = f.long ∙ length-replicate _ false;
+    sound = λ p i is. let r = f.named i (got_contains _ p i (sym (ap (λ q. slice_get q p) f.behind) ∙ is)) in
+        (r.0, r.1, reached_root p _ (is_alone 0 _ r.2), r.3);
     listed = λ i h. elim (f.new i h) [
-      | inl before ↦ absurd (let none = unmarked (length nodes) i in cc (none, before))
-      | inr more ↦ subst (λ (q : List ℕ). Contains q i) (sym f.behind) more
+      | inl before ↦ absurd (cc (unmarked (length nodes) i, before))
+      | inr more ↦ subst (λ q. Contains q i) (sym f.behind) more
     ];
     closed = λ p i x low. absurd (omega arith);
-    root = λ i x at number. f.all i x at (or_left (0 == x.number) false (eq-eqb 0 x.number (sym number)));
+    root = λ i x at number. f.all i x at (or_left _ false (eq-eqb 0 x.number (sym number)));
   }
     where
       zero_more : (n : ℕ) → 0 + n ≡ n
@@ -286,15 +285,15 @@ module _ (nodes : List NodeOf) where
   pub search_goes_on : (m : List Bool) (p : List ℕ) (at i : ℕ) (x : NodeOf) (m2 : List Bool) (p2 : List ℕ) → Searched m p at → at < length p → slice_get p at ≡ Some i → IsDirAt nodes i x
       → Finds nodes (map (λ l. l.1) (links_of x)) m p m2 p2 → Searched m2 p2 (at + 1)
   search_goes_on m p at i x m2 p2 s low here dir f = record {
-    within = let more = ap (λ (q : List ℕ). length q) f.behind in omega (arith, length-append p f.more);
-    count = f.few ∙ ap (λ n. n + length f.more) s.count ∙ sym (ap (λ (q : List ℕ). length q) f.behind ∙ length-append p f.more);
+    within = omega (arith, length-append p f.more, ap (λ q. length q) f.behind);
+    count = f.few ∙ ap (λ n. n + length f.more) s.count ∙ sym (ap (λ q. length q) f.behind ∙ length-append p f.more);
     long = f.long ∙ s.long;
-    sound = λ q j is. sound q j (sym (ap (λ (r : List ℕ). slice_get r q) f.behind) ∙ is);
-    listed = λ j h. subst (λ (q : List ℕ). Contains q j) (sym f.behind) (elim (f.new j h) [
+    sound = λ q j is. sound q j (sym (ap (λ r. slice_get r q) f.behind) ∙ is);
+    listed = λ j h. subst (λ q. Contains q j) (sym f.behind) (elim (f.new j h) [
       | inl before ↦ Contains-append_left p f.more j (s.listed j before)
       | inr more ↦ Contains-append_right p f.more j more
     ]);
-    closed = λ q j y low2 is at_j k z at_k named. closed q j y low2 (sym (ap (λ (r : List ℕ). slice_get r q) f.behind) ∙ is) at_j k z at_k named;
+    closed = λ q j y low2 is at_j k z at_k named. closed q j y low2 (sym (ap (λ r. slice_get r q) f.behind) ∙ is) at_j k z at_k named;
     root = λ j y at_j number. f.kept j (s.root j y at_j number);
   }
     where
@@ -302,61 +301,60 @@ module _ (nodes : List NodeOf) where
       reached_here =
           let r = s.sound at i here in
           let same : r.0 ≡ x = cc (r.1.is, dir.is) in
-          ap (λ (y : NodeOf). is_reached nodes at y.number) (sym same) ∙ r.2
+          ap (λ y. is_reached nodes at y.number) (sym same) ∙ r.2
 
       sound : (q j : ℕ) → slice_get (p ++ f.more) q ≡ Some j → (y : NodeOf) × IsDirAt nodes j y × (is_reached nodes q y.number ≡ true) × (marked m2 j ≡ true)
-      sound q j is = elim (cases_lt q (length p)) [
-        | inl before ↦ let r = s.sound q j (sym (got_left p f.more q before) ∙ is) in (r.0, r.1, r.2, f.kept j r.3)
+      sound q j is = elim (cases_lt q _) [
+        | inl before ↦ let r = s.sound q j (sym (got_left p _ q before) ∙ is) in (r.0, r.1, r.2, f.kept j r.3)
         | inr behind ↦
-            let r = f.named j (got_right p f.more q j behind is) in
-            let named : names_it r.0.number x ≡ true = sym (any_mapped (links_of x) r.0.number) ∙ r.2 in
-            (r.0, r.1, reached_within (suc at) q r.0.number (omega arith) (reached_by at r.0.number i x dir.is named reached_here), r.3)
+            let r = f.named j (got_right p _ q j behind is) in
+            (r.0, r.1, reached_within _ q _ (omega arith) (reached_by at _ i x dir.is (sym (any_mapped (links_of x) _) ∙ r.2) reached_here), r.3)
       ]
 
       closed : (q j : ℕ) (y : NodeOf) → q < at + 1 → slice_get (p ++ f.more) q ≡ Some j → IsDirAt nodes j y → (k : ℕ) (z : NodeOf) → IsDirAt nodes k z → names_it z.number y ≡ true → marked m2 k ≡ true
       closed q j y low2 is at_j k z at_k named = elim (cases_lt q at) [
-        | inl before ↦ f.kept k (s.closed q j y before (sym (got_left p f.more q (omega arith)) ∙ is) at_j k z at_k named)
+        | inl before ↦ f.kept k (s.closed q j y before (sym (got_left p _ q (omega arith)) ∙ is) at_j k z at_k named)
         | inr now ↦
             let q-is : q ≡ at = omega arith in
-            let there : slice_get p at ≡ Some j = ap (slice_get p) (sym q-is) ∙ sym (got_left p f.more q (omega arith)) ∙ is in
+            let there = ap (slice_get p) (sym q-is) ∙ sym (got_left p _ q (omega arith)) ∙ is in
             let place : i ≡ j = cc (here, there) in
             let same : y ≡ x = cc (place, at_j.is, dir.is) in
-            f.all k z at_k (any_mapped (links_of x) z.number ∙ ap (names_it z.number) (sym same) ∙ named)
+            f.all k z at_k (any_mapped (links_of x) _ ∙ ap (names_it z.number) (sym same) ∙ named)
       ]
 
   -- all were looked into
   complete : (m : List Bool) (p : List ℕ) (at : ℕ) → Searched m p at → length p ≤ at → (k i : ℕ) (x : NodeOf) → IsDirAt nodes i x → is_reached nodes k x.number ≡ true → marked m i ≡ true
   unfolding is_reached
   complete m p at s all zero i x dir h = s.root i x dir (eqb-true x.number 0 h)
-  complete m p at s all (suc k) i x dir h = elim (or_cases (x.number == 0) _ h) [
+  complete m p at s all (suc k) i x dir h = elim (or_cases _ _ h) [
     | inl root ↦ s.root i x dir (eqb-true x.number 0 root)
     | inr some ↦
-        let r = any_found (λ y. names_it x.number y && is_reached nodes k y.number) nodes some in
-        let both = and_parts (names_it x.number r.1) (is_reached nodes k r.1.number) r.3 in
-        let by : IsDirAt nodes r.0 r.1 = record { is = r.2; dir = has_names x.number r.1 both.0 } in
-        let q = contained_at p r.0 (s.listed r.0 (complete m p at s all k r.0 r.1 by both.1)) in
+        let r = any_found _ _ some in
+        let both = and_parts _ _ r.3 in
+        let by : IsDirAt nodes r.0 r.1 = record { is = r.2; dir = has_names _ r.1 both.0 } in
+        let q = contained_at p _ (s.listed r.0 (complete m p at s all k r.0 r.1 by both.1)) in
         s.closed q.0 r.0 r.1 (omega (arith, q.1)) q.2 by i x dir both.0
   ]
 
   pub search_ends : (m : List Bool) (p : List ℕ) (at : ℕ) → Searched m p at → length p ≤ at → AreMarks nodes m
   search_ends m p at s all = record {
     long = s.long;
-    each = λ i x is dir. both_ways (marked m i) (is_reached nodes (length nodes) x.number)
+    each = λ i x is dir. both_ways _ _
         (λ h.
         let q = contained_at p i (s.listed i h) in
         let r = s.sound q.0 i q.2 in
         let same : r.0 ≡ x = cc (r.1.is, is) in
-        let few : length p ≤ length nodes = let c = count_by-le-length (λ (b : Bool). b) m in let count = s.count in let long = s.long in omega arith in
-        reached_within q.0 (length nodes) x.number (omega (arith, q.1)) (ap (λ (y : NodeOf). is_reached nodes q.0 y.number) (sym same) ∙ r.2))
-        (λ h. complete m p at s all (length nodes) i x (record { is = is; dir = dir }) h);
+        let few : length p ≤ length nodes = omega (arith, s.long, count_by-le-length (λ b. b) m) in
+        reached_within _ _ _ (omega (arith, q.1)) (ap (λ y. is_reached nodes q.0 y.number) (sym same) ∙ r.2))
+        (λ h. complete m p at s all _ i x (record { is = is; dir = dir }) h);
   }
 
   -- whatever is found is there
   pub places_low : (m : List Bool) (p : List ℕ) (at k i : ℕ) → Searched m p at → slice_get p k ≡ Some i → i < length nodes
-  places_low m p at k i s is = let r = s.sound k i is in got_within nodes i r.0 r.1.is
+  places_low m p at k i s is = got_within _ i _ (s.sound k i is).1.is
 
   pub places_few : (m : List Bool) (p : List ℕ) (at : ℕ) → Searched m p at → length p ≤ length nodes
-  places_few m p at s = let c = count_by-le-length (λ (b : Bool). b) m in let count = s.count in let long = s.long in omega arith
+  places_few m p at s = omega (arith, s.long, count_by-le-length (λ b. b) m)
 
   pub dir_found : (m : List Bool) (p : List ℕ) (at k i : ℕ) (x : NodeOf) → Searched m p at → slice_get p k ≡ Some i → slice_get nodes i ≡ Some x → IsDirAt nodes i x
   dir_found m p at k i x s is got =

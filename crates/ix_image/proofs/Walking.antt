@@ -1,6 +1,5 @@
 -- Names that stand one behind the other: how they are read, and read again one by one.
-use Rattle.std.proofs.Common.{◌≡◌, ℕ, zero, suc, ◌-◌, true, false, List, [], ◌∷◌, length, Ok, Err, refl, sym, ap, ◌∙◌, arith}
-use Rattle.std.specs.Result.{is_ok}
+use Rattle.std.{proofs.Common.{◌≡◌, ℕ, zero, suc, ◌-◌, true, List, [], ◌∷◌, length, Ok, Err, refl, sym, ap, ◌∙◌, arith}, specs.Result.is_ok}
 use Rattle.ix_image.specs.{declared.fault.Fault.Fault, Trees.LinkOf, Reading.{Read, ◌>>=◌, link_at, links_at}, Meant.links_read}
 
 -- none
@@ -31,14 +30,14 @@ others_count n l (Err f) long ok = absurd (cc ok)
 
 first_count : (n : ℕ) (r : Read LinkOf) → ((text : List ℕ) → is_ok (links_at n text) ≡ true → length (links_read (links_at n text)) ≡ n) → is_ok (from_first n r) ≡ true
     → length (links_read (from_first n r)) ≡ suc n
-first_count n (Ok l) long ok = others_count n l.0 (links_at n l.1) (long l.1) ok
+first_count n (Ok l) long ok = others_count n _ (links_at n l.1) (long _) ok
 first_count n (Err f) long ok = absurd (cc ok)
 
 pub count_read : (n : ℕ) (text : List ℕ) → is_ok (links_at n text) ≡ true → length (links_read (links_at n text)) ≡ n
-count_read zero text ok = ap (λ (xs : List LinkOf). length xs) (none_read text)
+count_read zero text ok = ap (λ xs. length xs) (none_read _)
 count_read (suc n) text ok =
-    let so = begins_so n text in
-    ap (λ (r : Read (List LinkOf)). length (links_read r)) so ∙ first_count n (link_at text) (count_read n) (sym (ap is_ok so) ∙ ok)
+    let so = begins_so n _ in
+    ap (λ r. length (links_read r)) so ∙ first_count n (link_at text) (count_read n) (sym (ap is_ok so) ∙ ok)
 
 -- ---- the first and the others
 -- the others can be read, too
@@ -48,7 +47,7 @@ pub record Split (n : ℕ) (text : List ℕ) (l : LinkOf) (after : List ℕ) : T
 
 pub splits : (n : ℕ) (text : List ℕ) (l : LinkOf) (after : List ℕ) → is_ok (links_at (suc n) text) ≡ true → link_at text ≡ Ok (l, after) → Split n text l after
 splits n text l after ok first =
-    let so : links_at (suc n) text ≡ behind_first l (links_at n after) = begins_so n text ∙ ap (from_first n) first in
+    let so = begins_so n _ ∙ ap (from_first n) first in
     let both = go (links_at n after) (sym (ap is_ok so) ∙ ok) in
     record { readable = both.0; links = ap links_read so ∙ both.1 }
   where
@@ -59,8 +58,7 @@ splits n text l after ok first =
 -- the first can always be read
 pub no_fault : (n : ℕ) (text : List ℕ) (f : Fault) → is_ok (links_at (suc n) text) ≡ true → link_at text ≡ Err f → ⊥
 no_fault n text f ok first =
-    let so : links_at (suc n) text ≡ Err f = begins_so n text ∙ ap (from_first n) first in
-    let no : is_ok (links_at (suc n) text) ≡ false = ap is_ok so in
+    let no = ap is_ok (begins_so n _ ∙ ap (from_first n) first) in
     cc
 
 -- a count that is not 0

@@ -9,4 +9,4 @@ returns-then-bytes-i c =
     ∙ ap (λ f. Err f) (sym (c.here.ensures ∙ ap (breaks 2) (rest_whole c.args.bytes.now c.loop-i.i)))
 
 pub loop-i-preserved : goal.loop-i-preserved
-loop-i-preserved c = same_further first_bytes c.args.bytes.now c.loop-i.i (omega arith) (omega arith) c.if-bytes-i.false ∙ c.loop-i.invariant
+loop-i-preserved c = same_further first_bytes c.args.bytes.now _ (omega arith) (omega arith) c.if-bytes-i.false ∙ c.loop-i.invariant

@@ -10,14 +10,13 @@ pub returns-then-eq : goal.returns-then-eq
 returns-then-eq c =
     let names : map seen c.links.names.items ≡ map (λ k. k.0) (links_in c.args.links.now) =
     sym (append-nil (map seen c.links.names.items)) ∙ ap (λ (ls : List LinkOf). map seen c.links.names.items ++ map (λ k. k.0) ls) (sym c.in_default.ensures) ∙ c.links.invariant in
-    let no = same_differ seen c.sort_unstable.new.self.items c.loop-i.i c.index.result.now c.index-in-loop-i.result.now (omega arith) (omega arith) c.index.ensures c.index-in-loop-i.ensures
-    (sym c.eq.ensures ∙ c.if-eq.true) in
-    sym no ∙ sym (order_differ (map seen c.links.names.items) (map seen c.sort_unstable.new.self.items)
+    sym (same_differ seen c.sort_unstable.new.self.items c.loop-i.i c.index.result.now c.index-in-loop-i.result.now (omega arith) (omega arith) c.index.ensures c.index-in-loop-i.ensures
+    (sym c.eq.ensures ∙ c.if-eq.true)) ∙ sym (order_differ (map seen c.links.names.items) (map seen c.sort_unstable.new.self.items)
     (IsPermutation-map seen c.links.names.items c.sort_unstable.new.self.items c.sort_unstable.ensures.permutation))
     ∙ ap (λ (ns : List (List ℕ)). all_differ ns) names
 
 pub loop-i-preserved : goal.loop-i-preserved
-loop-i-preserved c = rising_on seen c.sort_unstable.new.self.items c.loop-i.i c.index.result.now c.index-in-loop-i.result.now (omega arith) (omega arith) c.index.ensures c.index-in-loop-i.ensures
+loop-i-preserved c = rising_on _ _ _ _ _ (omega arith) (omega arith) c.index.ensures c.index-in-loop-i.ensures
     (sym c.eq.ensures ∙ c.if-eq.false)
     c.sort_unstable.ensures.sorted c.loop-i.invariant
 
@@ -25,7 +24,6 @@ pub returns : goal.returns
 returns c =
     let names : map seen c.links.names.items ≡ map (λ k. k.0) (links_in c.args.links.now) =
     sym (append-nil (map seen c.links.names.items)) ∙ ap (λ (ls : List LinkOf). map seen c.links.names.items ++ map (λ k. k.0) ls) (sym c.in_default.ensures) ∙ c.links.invariant in
-    let yes_all = all_rise seen c.sort_unstable.new.self.items c.loop-i.i (omega arith) c.loop-i.invariant in
-    sym yes_all ∙ sym (order_differ (map seen c.links.names.items) (map seen c.sort_unstable.new.self.items)
+    sym (all_rise seen c.sort_unstable.new.self.items c.loop-i.i (omega arith) c.loop-i.invariant) ∙ sym (order_differ (map seen c.links.names.items) (map seen c.sort_unstable.new.self.items)
     (IsPermutation-map seen c.links.names.items c.sort_unstable.new.self.items c.sort_unstable.ensures.permutation))
     ∙ ap (λ (ns : List (List ℕ)). all_differ ns) names

@@ -1,5 +1,5 @@
-use Rattle.std.proofs.{Common.{◌≡◌, ◌-◌, ◌+◌, List, sym, subst, arith}, lemmas.Result.err_from_is_err_and}
-use Rattle.ix_image.{specs.{declared.node.Node.Node, Reading.nodes_at, Meant.nodes_of}, proofs.{Looping.with_front, Reread.{nodes_go_on, nodes_end, all_nodes}}}
+use Rattle.std.proofs.{Common.{◌≡◌, ◌-◌, ◌+◌, sym, subst, arith}, lemmas.Result.err_from_is_err_and}
+use Rattle.ix_image.{specs.{Reading.nodes_at, Meant.nodes_of}, proofs.{Looping.with_front, Reread.{nodes_go_on, nodes_end, all_nodes}}}
 use Rattle.ix_image.proofs.nodes.nodes_at.Goals as goal
 
 pub returns-in_err-node : goal.returns-in_err-node
@@ -10,13 +10,13 @@ returns-in_err-node c =
 
 pub loop-preserved : goal.loop-preserved
 loop-preserved c = record {
-  so_far = subst (λ (nodes : List Node). with_front (nodes_of nodes) (nodes_at c.args.fss.now (c.in_ok-node.node.number + 1) (c.args.count - (c.loop.counter + 1)) c.in_ok-node.after.now)
+  so_far = subst (λ nodes. with_front (nodes_of nodes) (nodes_at c.args.fss.now (c.in_ok-node.node.number + 1) (c.args.count - (c.loop.counter + 1)) c.in_ok-node.after.now)
       ≡ nodes_at c.args.fss.now 0 c.args.count c.args.bytes.now) (sym c.in_ok-push.ensures.ok)
-      (nodes_go_on c.args.fss.now c.loop.nodes.items c.args.count c.loop.counter c.loop.least c.loop.rest.now c.in_ok-node.node c.in_ok-node.after.now
+      (nodes_go_on _ _ _ _ _ _ _ _
       (nodes_at c.args.fss.now 0 c.args.count c.args.bytes.now) (omega arith) c.in_ok-node.ensures.read c.loop.invariant.so_far);
   small = omega (arith, c.in_ok-node.ensures.small);
 }
 
 pub returns : goal.returns
-returns c = all_nodes c.args.fss.now c.loop.nodes.items c.args.count c.loop.counter c.loop.least c.loop.rest.now (nodes_at c.args.fss.now 0 c.args.count c.args.bytes.now) (omega arith)
+returns c = all_nodes _ _ _ _ _ _ (nodes_at c.args.fss.now 0 c.args.count c.args.bytes.now) (omega arith)
     c.loop.invariant.so_far

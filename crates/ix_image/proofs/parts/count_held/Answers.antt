@@ -1,13 +1,12 @@
-use Rattle.std.proofs.Common.{ℕ, Option, ap, ◌∙◌, unwrap_or, arith}
+use Rattle.std.proofs.Common.{ap, ◌∙◌, unwrap_or, arith}
 use Rattle.ix_model.specs.history.History.{world_of}
 use Rattle.ix_image.proofs.Held.{size_few, size_is}
 use Rattle.ix_image.proofs.parts.count_held.Goals as goal
 
 pub overflow_cast-result : goal.overflow_cast-result
 overflow_cast-result c =
-    let same = c.unwrap_or-else-of_dir.ensures ∙ ap (λ (o : Option ℕ). unwrap_or o 0) c.size.ensures in
-    omega (arith, same, size_few (world_of c.args.core.now) c.args.n c.requires)
+    omega (arith, c.unwrap_or-else-of_dir.ensures ∙ ap (λ o. unwrap_or o 0) c.size.ensures, size_few (world_of c.args.core.now) c.args.n c.requires)
 
 pub returns-else-of_dir : goal.returns-else-of_dir
 returns-else-of_dir c = λ x is pipe dir.
-    c.unwrap_or-else-of_dir.ensures ∙ ap (λ (o : Option ℕ). unwrap_or o 0) c.size.ensures ∙ size_is (world_of c.args.core.now) c.args.n x is pipe (dir ∙ c.if-of_dir.false)
+    c.unwrap_or-else-of_dir.ensures ∙ ap (λ o. unwrap_or o 0) c.size.ensures ∙ size_is _ _ x is pipe (dir ∙ c.if-of_dir.false)

@@ -5,9 +5,9 @@ use Rattle.ix_image.proofs.parts.write_object.Goals as goal
 
 pub returns-in_default-clause-text : goal.returns-in_default-clause-text
 returns-in_default-clause-text c = λ fss.
-    skipped_goes fss (world_of c.args.core.now) c.args.n c.args.line.now.text (omega (arith, c.objects.ensures)) (none_kept (world_of c.args.core.now) c.args.n (sym c.kept.ensures ∙ c.in_default.is))
+    skipped_goes _ _ _ _ (omega (arith, c.objects.ensures)) (none_kept (world_of c.args.core.now) c.args.n (sym c.kept.ensures ∙ c.in_default.is))
 
 pub returns-clause-text : goal.returns-clause-text
 returns-clause-text c = λ fss.
-    head_goes fss (world_of c.args.core.now) c.args.n c.in-Some.view c.begin.result c.args.line.now.text c.push_head.new.line.text
-    (kept_there (world_of c.args.core.now) c.args.n c.in-Some.view (sym c.kept.ensures ∙ c.in-Some.is)) c.in_ok-push_head.ensures.text c.begin.ensures
+    head_goes _ _ _ _ _ _ _
+    (kept_there _ _ _ (sym c.kept.ensures ∙ c.in-Some.is)) c.in_ok-push_head.ensures.text c.begin.ensures

@@ -5,7 +5,7 @@ use Rattle.ix_image.proofs.places.has_directory.Goals as goal
 pub returns-in-Some : goal.returns-in-Some
 returns-in-Some c =
     let at = c.in-Some.ensures.some in
-    c.is_dir.ensures ∙ directory_here c.args.nodes.now c.in-Some.place c.args.number c.index-nodes-place.result c.requires (at_low c.args.nodes.now c.in-Some.place c.args.number at)
+    c.is_dir.ensures ∙ directory_here _ _ _ _ c.requires (at_low _ _ _ at)
     c.index-nodes-place.is at
 
 pub returns-in-None : goal.returns-in-None

@@ -3,4 +3,4 @@ use Rattle.ix_image.proofs.Placing.{object_here}
 use Rattle.ix_image.proofs.places.has_object.Goals as goal
 
 pub returns-in-Some : goal.returns-in-Some
-returns-in-Some c = sym (object_here _ c.in-Some.field-0 c.args.number c.in-Some.ensures.some)
+returns-in-Some c = sym (object_here _ _ _ c.in-Some.ensures.some)

@@ -3,13 +3,13 @@ use Rattle.ix_image.{specs.{declared.fault.Fault.Fault, Trees.TreeOf, Reading.tr
 use Rattle.ix_image.proofs.reading.read.Goals as goal
 
 pub returns-in-Ok-clause-image : goal.returns-in-Ok-clause-image
-returns-in-Ok-clause-image c = tree_takes c.args.bytes.now c.in-Ok.tree (λ i. omega (arith, c.type_inv.bytes i)) c.in-Ok.ensures
+returns-in-Ok-clause-image c = tree_takes _ _ (λ i. omega (arith, c.type_inv.bytes i)) c.in-Ok.ensures
 
 pub returns-in-Ok-clause-all : goal.returns-in-Ok-clause-all
-returns-in-Ok-clause-all c = λ t sound is. ok_is c.in-Ok.tree t (sym c.in-Ok.ensures ∙ ap tree_in is ∙ tree_again t sound)
+returns-in-Ok-clause-all c = λ t sound is. ok_is _ t (sym c.in-Ok.ensures ∙ ap tree_in is ∙ tree_again t sound)
 
 pub returns-in-Err-Fault-clause-all : goal.returns-in-Err-Fault-clause-all
-returns-in-Err-Fault-clause-all c = λ t sound is. absurd (not_both t c.in-Err-Fault.fault (tree_in c.args.bytes.now) (rw c.in-Err-Fault.field-0-is at c.in-Err-Fault.ensures)
+returns-in-Err-Fault-clause-all c = λ t sound is. absurd (not_both t _ _ (rw c.in-Err-Fault.field-0-is at c.in-Err-Fault.ensures)
     (ap tree_in is ∙ tree_again t sound))
   where
     not_both : (t : TreeOf) (f : Fault) (r : Result TreeOf Fault) → r ≡ Err f → r ≡ Ok t → ⊥
