@@ -1,42 +1,40 @@
 -- What tracks stand for after a claim.
-use Rattle.std.proofs.Common.{◌≡◌, ◌≢◌, ◌≤◌, ◌<◌, ◌+◌, ◌==◌, ◌&&◌, nat_lt, not, ℕ, Bool, true, false, true≢false, [], length, Option, Some, None, is_some, refl}
+use Rattle.std.proofs.Common.{◌≡◌, ◌≤◌, ◌<◌, ◌==◌, ◌&&◌, nat_lt, not, ℕ, Bool, true, false, true≢false, [], length, Option, Some, None, is_some, refl}
 use Rattle.std.proofs.Common.{option_map, if◌then◌else◌, sym, ap, ◌∙◌, arith, inl, inr}
 use Rattle.std.{specs.Option.{option_map_or, option_and_then}, proofs.lemmas.{Bool.{and_parts, not-true, or_right, Decides.eqb_tells}, List.get_or-set_other}}
-use Rattle.ix_model.specs.{laws.Sound.{Sound, ShapesSound}, world.World.{World, Frame, HoldingOf, Object, at, is_file, is_pipe}, rows.Walks.{OpenFile, behind}}
+use Rattle.ix_model.specs.{laws.Sound.{Sound, ShapesSound}, world.World.{World, Frame, Object, at, is_pipe}, rows.Walks.{OpenFile, behind}}
 use Rattle.ix_model.specs.world.Contents.{cleared, held_at, holding_of, holds_nothing, nothing_held, side}
-use Rattle.ix_model.specs.history.{Step.is_whole, Events.{Op, Event}, History.{History, world_of, next, with_entry}, Views.{has_side, size_at}}
-use Rattle.ix_model.specs.history.Events as op
-use Rattle.ix_model.specs.declared.reply.Reply.TheVariants as reply
+use Rattle.ix_model.specs.history.{Step.is_whole, Events.Event, History.{History, world_of, next, with_entry}, Views.{has_side, size_at}}
 use Rattle.ix_model.proofs.{paths_and_pipes.Wholes.becomes_empty, sound.Soundly.sound_step, words.Runs.world_of-push}
 use Rattle.ix_open.specs.declared.view.OpenView.{OpenView}
 use Rattle.ix_flow.specs.{Origins.origins_of, Lines.lines_of_entry, Marks.marks_of, Moves.{edited, emptied_there}, Tracking.{AreTracks, side_of}}
-use Rattle.ix_flow.specs.declared.{sides.Sides.Sides, tracks.Tracks.Tracks}
+use Rattle.ix_flow.{specs.declared.{sides.Sides.Sides, tracks.Tracks.Tracks}, proofs.Through.{kept_marks, not_opened, through}}
 use Rattle.ix_flow.proofs.{Arms.{followed, unmoved}, Forgotten.{forgotten_sides, nothing_there}, NewObjects.{Stood, stood_step}, Staying.marks_next}
-use Rattle.ix_flow.proofs.Through.{kept_marks, not_opened, through}
+use Rattle.ix_model.specs.history.Events as op
+use Rattle.ix_model.specs.declared.reply.Reply.TheVariants as reply
 
 -- ---- whole paths
 -- an object of which both ends are claimed is a pipe
 whole_is : (f : Frame) (o : ℕ) → ShapesSound f → is_whole f o ≡ true → (x : Object) × (at f.objects o ≡ Some x) × (is_pipe x ≡ true)
-whole_is f o shapes whole = go (at f.objects o) refl whole
+whole_is f o shapes whole = go _ refl whole
   where
     go : (x : Option Object) → at f.objects o ≡ x → option_map_or (λ y. is_some (at y.claims 0) && is_some (at y.claims 1)) x false ≡ true
         → (y : Object) × (at f.objects o ≡ Some y) × (is_pipe y ≡ true)
     go None is claimed = absurd (true≢false (sym claimed))
-    go (Some y) is claimed = (y, is, kind (is_pipe y) refl)
+    go (Some y) is claimed = (y, is, kind _ refl)
       where
         kind : (b : Bool) → is_pipe y ≡ b → b ≡ true
         kind true pipe = refl
         kind false plain =
-            let none : is_some (at y.claims 0) ≡ false = ap (λ claims. is_some (at claims 0)) (shapes.unclaimed o y is plain) in
-            absurd (true≢false (sym (and_parts _ _ claimed).0 ∙ none))
+            absurd (true≢false (sym (and_parts _ _ claimed).0 ∙ (ap (λ claims. is_some (at claims 0)) (shapes.unclaimed o y is plain))))
 
 -- where an end of an object can read nothing, that is told
 told_empty : (w : World) (o end : ℕ) (x : Object) → at w.frame.objects o ≡ Some x → is_pipe x ≡ true → nat_lt end 2 ≡ true → holding_of w.content o ≡ holds_nothing → size_at w o end ≡ Some 0
 unfolding size_at
 told_empty w o end x is pipe near empty =
     ap (λ y. option_and_then (λ z. if has_side z end then Some (length (side end (holding_of w.content o))) else None) y) is
-    ∙ ap (λ b. if b then Some (length (side end (holding_of w.content o))) else None) (or_right (is_file x && end == 0) (is_pipe x && nat_lt end 2) (λ i. pipe i && near i))
-    ∙ ap (λ (y : HoldingOf ℕ). Some (length (side end y))) empty
+    ∙ ap (λ b. if b then Some (length (side end (holding_of w.content o))) else None) (or_right _ _ (λ i. pipe i && near i))
+    ∙ ap (λ y. Some (length (side end y))) empty
     ∙ ap Some (none (end == 0))
   where
     none : (b : Bool) → length (if b then holds_nothing.first else holds_nothing.second) ≡ 0
@@ -58,10 +56,10 @@ module _ (h : History) (seat line pid fd : ℕ) where
   marks_claim = marks_next h e
 
   stood : Stood f g
-  stood = stood_step (world_of h) (length h.events + 1) pid (op.Pex fd) refl
+  stood = stood_step _ _ _ _ refl
 
   silent : (d count k : ℕ) → e.op ≡ op.ReadFd d count → (next h e).reply ≡ reply.Bytes k → k ≡ 0
-  silent d count k is gives = let no : op.Pex fd ≡ op.ReadFd d count = is in cc
+  silent d count k is gives = cc
 
   module _ (few : length (with_entry h e).events ≤ 6800000) (t : Tracks) (are : AreTracks t h) (v : OpenFile → OpenView) where
     still : marks_of (with_entry h e) ≡ kept_marks h e → AreTracks t (with_entry h e) × (lines_of_entry h e ≡ [])
@@ -70,7 +68,7 @@ module _ (h : History) (seat line pid fd : ℕ) where
     -- nothing stands behind the descriptor
     pub claim_none : option_map v (behind (world_of (with_entry h e)).frame pid fd) ≡ None → AreTracks t (with_entry h e) × (lines_of_entry h e ≡ [])
     unfolding emptied_there
-    claim_none none = still (marks_claim ∙ go (behind f pid fd) refl)
+    claim_none none = still (marks_claim ∙ go _ refl)
       where
         go : (b : Option OpenFile) → behind f pid fd ≡ b → emptied_there f g b (kept_marks h e) ≡ kept_marks h e
         go None is = refl
@@ -81,32 +79,30 @@ module _ (h : History) (seat line pid fd : ℕ) where
       on_object : (b : OpenFile) → behind f pid fd ≡ Some b → b.entry.object ≡ view.obj.0
       on_object b is =
           let r = through h e fd b are.sound is refl in
-          let there : Some (v r.after) ≡ Some view = sym (ap (option_map v) r.is_after) ∙ seen in
-          let one : v r.after ≡ view = cc (there) in
+          let one : v r.after ≡ view = cc (sym (ap (option_map v) r.is_after) ∙ seen) in
           sym r.on ∙ sym (object r.after) ∙ ap (λ (x : OpenView). x.obj.0) one
 
       now_sound : Sound (next h e).world
-      now_sound = sound_step (world_of h) (length h.events + 1) pid (op.Pex fd) are.sound
+      now_sound = sound_step _ _ _ _ are.sound
 
       -- where the claim makes a path whole, nothing can be read
       empties : (b : OpenFile) → b.entry.object ≡ view.obj.0 → (is_whole g b.entry.object && not (is_whole f b.entry.object)) ≡ true → (end : ℕ) → nat_lt end 2 ≡ true
           → size_at (world_of (with_entry h e)) view.obj.0 end ≡ Some 0
       empties b is whole end near =
           let parts = and_parts _ _ whole in
-          let y = whole_is g b.entry.object now_sound.shapes parts.0 in
-          let empty : holding_of (next h e).world.content b.entry.object ≡ holds_nothing = becomes_empty (world_of h) (length h.events + 1) pid (op.Pex fd) b.entry.object
-          (not-true _ parts.1) parts.0 in
-          ap (λ (w : World). size_at w view.obj.0 end) (world_of-push h e) ∙ ap (λ n. size_at (next h e).world n end) (sym is) ∙ told_empty (next h e).world b.entry.object end y.0 y.1 y.2 near empty
+          let y = whole_is g _ now_sound.shapes parts.0 in
+          ap (λ w. size_at w view.obj.0 end) (world_of-push h e) ∙ ap (λ n. size_at (next h e).world n end) (sym is) ∙ told_empty _ _ _ _ y.1 y.2 near (becomes_empty _ _ _ _ _
+          (not-true _ parts.1) parts.0)
 
       -- something can be read: so nothing was emptied
       pub claim_left : (size_at (world_of (with_entry h e)) view.obj.0 0 ≡ Some 0 → size_at (world_of (with_entry h e)) view.obj.0 1 ≡ Some 0 → ⊥)
           → AreTracks t (with_entry h e) × (lines_of_entry h e ≡ [])
       unfolding emptied_there
-      claim_left some = still (marks_claim ∙ go (behind f pid fd) refl)
+      claim_left some = still (marks_claim ∙ go _ refl)
         where
           go : (b : Option OpenFile) → behind f pid fd ≡ b → emptied_there f g b (kept_marks h e) ≡ kept_marks h e
           go None is = refl
-          go (Some b) is = test (is_whole g b.entry.object && not (is_whole f b.entry.object)) refl
+          go (Some b) is = test _ refl
             where
               test : (c : Bool) → (is_whole g b.entry.object && not (is_whole f b.entry.object)) ≡ c → (if c then cleared b.entry.object (kept_marks h e) else kept_marks h e) ≡ kept_marks h e
               test true whole = absurd (some (empties b (on_object b is) whole 0 refl) (empties b (on_object b is) whole 1 refl))
@@ -126,7 +122,7 @@ module _ (h : History) (seat line pid fd : ℕ) where
           nothing end low = elim (eqb_tells end 0) [
             | inl zero ↦ ap (λ n. origins_of (side n (held_at (marks_of (with_entry h e)) view.obj.0))) zero.1 ∙ nothing_there (with_entry h e) view.obj.0 0 first
             | inr some ↦
-                let one : end ≡ 1 = let other : end ≢ 0 = some.1 in omega (arith, low, other) in
+                let one : end ≡ 1 = omega (arith, low, some.1) in
                 ap (λ n. origins_of (side n (held_at (marks_of (with_entry h e)) view.obj.0))) one ∙ nothing_there (with_entry h e) view.obj.0 1 second
           ]
 

@@ -1,13 +1,12 @@
 -- How many reads and lines there are after one entry more, and at most.
 use Rattle.std.proofs.Common.{◌≡◌, ◌≤◌, ◌+◌, ◌*◌, ℕ, suc, Bool, true, false, List, [], ◌∷◌, ◌++◌, length, Option, Some, if◌then◌else◌, refl, sym, ap, ◌∙◌}
-use Rattle.std.proofs.Common.{arith, append-nil, append_assoc, subst}
-use Rattle.std.proofs.lemmas.List.{length-map, length-take}
+use Rattle.std.proofs.{Common.{arith, append-nil, append_assoc, subst}, lemmas.List.{length-map, length-take}}
 use Rattle.ix_model.specs.{world.Contents.{offset_of, readable_in}, rows.Walks.{OpenFile, behind}, declared.reply.Reply.Reply}
 use Rattle.ix_model.specs.history.{Step.step, Events.{Op, Event}, History.{History, world_of, next, with_entry}}
+use Rattle.ix_flow.specs.{Origins.{Origin, origins_of}, Marks.{marks_of, marks_read, read_by, read_through}, Tracking.{counts_from, counts_of}}
+use Rattle.ix_flow.{specs.Lines.{Counts, Piece, in_front, pieces_from, pieces_read, with_pieces}, proofs.ReadWorlds.read_few}
 use Rattle.ix_model.specs.history.Events as op
 use Rattle.ix_model.specs.declared.reply.Reply.TheVariants as reply
-use Rattle.ix_flow.{specs.Origins.{Origin, origins_of}, specs.Marks.{marks_of, marks_read, read_by, read_through}, specs.Tracking.{counts_from, counts_of}}
-use Rattle.ix_flow.{specs.Lines.{Counts, Piece, follows, in_front, pieces_from, pieces_read, with_pieces}, proofs.ReadWorlds.read_few}
 
 -- ---- one entry more
 counts_push : (h : History) (n : Counts) (events : List Event) (e : Event) → counts_from h n (events ++ e ∷ []) ≡ with_pieces (pieces_read (record h { events = h.events ++ events }) e)
@@ -15,21 +14,21 @@ counts_push : (h : History) (n : Counts) (events : List Event) (e : Event) → c
 unfolding counts_from
 counts_push h n [] e = ap (λ xs. with_pieces (pieces_read (record h { events = xs }) e) n) (sym (append-nil h.events))
 counts_push h n (x ∷ events) e =
-    counts_push (with_entry h x) (with_pieces (pieces_read h x) n) events e
-    ∙ ap (λ xs. with_pieces (pieces_read (record h { events = xs }) e) (counts_from (with_entry h x) (with_pieces (pieces_read h x) n) events)) (append_assoc h.events (x ∷ []) events)
+    counts_push (with_entry h x) (with_pieces (pieces_read h x) n) _ e
+    ∙ ap (λ xs. with_pieces (pieces_read (record h { events = xs }) e) (counts_from (with_entry h x) (with_pieces (pieces_read h x) n) events)) (append_assoc h.events _ events)
 
 pub counts_more : (h : History) (e : Event) → counts_of (with_entry h e) ≡ with_pieces (pieces_read h e) (counts_of h)
-counts_more h e = counts_push (record { config = h.config; events = [] }) (record { reads = 0; lines = 0 }) h.events e
+counts_more h e = counts_push _ _ _ e
 
 -- ---- not too many
 pieces_few : (n : ℕ) (xs : List Origin) → length (pieces_from n xs) ≤ length xs
 unfolding pieces_from
 pieces_few n [] = omega arith
-pieces_few n (x ∷ xs) = let rest = pieces_few (suc n) xs in let one = go (pieces_from (suc n) xs) in omega (arith, rest, one)
+pieces_few n (x ∷ xs) = let one = go (pieces_from (suc n) xs) in omega (arith, pieces_few (suc n) xs, one)
   where
     go : (pieces : List Piece) → length (in_front n x pieces) ≤ suc (length pieces)
     go [] = omega arith
-    go (p ∷ pieces) = either (follows x p.origin)
+    go (p ∷ pieces) = either _
       where
         either : (b : Bool) → length (if b then record { first = n; count = suc p.count; origin = x } ∷ pieces else record { first = n; count = 1; origin = x } ∷ p ∷ pieces) ≤ suc
             (suc (length pieces))
@@ -39,23 +38,21 @@ pieces_few n (x ∷ xs) = let rest = pieces_few (suc n) xs in let one = go (piec
 marks_few : (h : History) (pid fd count : ℕ) (b : Option OpenFile) (r : Reply) → behind (world_of h).frame pid fd ≡ b → (step (world_of h) (length h.events + 1) pid (op.ReadFd fd count)).reply ≡ r
     → length (read_through (world_of h) (marks_of h) b r) ≤ 4096
 marks_few h pid fd count (Some e) (reply.Bytes k) there gives =
-    let few = read_few (world_of h) (length h.events + 1) pid fd count k e gives there in
     let many = length-take k (readable_in (world_of h).frame (offset_of (world_of h).content e.id) e (marks_of h)) in
-    omega (arith, few, many)
+    omega (arith, read_few _ _ _ fd _ k e gives there, many)
 marks_few h pid fd count b r there gives = omega arith
 
 by_few : (h : History) (e : Event) (o : Op) → e.op ≡ o → length (read_by (world_of h) (marks_of h) e.pid o (next h e)) ≤ 4096
 unfolding read_by
-by_few h e (op.ReadFd fd count) is = marks_few h e.pid fd count (behind (world_of h).frame e.pid fd) (next h e).reply refl (ap (λ o. (step (world_of h) (length h.events + 1) e.pid o).reply) (sym is))
+by_few h e (op.ReadFd fd count) is = marks_few h _ fd count _ _ refl (ap (λ o. (step (world_of h) (length h.events + 1) e.pid o).reply) (sym is))
 by_few h e o is = omega arith
 
 -- an entry has at most 4096 lines
 pub lines_few : (h : History) (e : Event) → length (pieces_read h e) ≤ 4096
 lines_few h e =
-    let few = by_few h e e.op refl in
     let lines = pieces_few 0 (origins_of (marks_read h e)) in
     let same = length-map (marks_read h e) (λ m. m.origin) in
-    omega (arith, few, lines, same)
+    omega (arith, by_few h e _ refl, lines, same)
 
 -- so many entries make at most so many reads and lines
 record AreFew (n : Counts) (entries : ℕ) : Type 0 where
@@ -68,10 +65,10 @@ few_with (p ∷ pieces) n entries short few = record { reads = omega (arith, few
 
 few_from : (h : History) (n : Counts) (events : List Event) (entries : ℕ) → AreFew n entries → AreFew (counts_from h n events) (entries + length events)
 unfolding counts_from
-few_from h n [] entries few = subst (AreFew n) (let z : entries ≡ entries + 0 = omega arith in z) few
+few_from h n [] entries few = subst (AreFew n) (omega arith) few
 few_from h n (e ∷ events) entries few =
-    subst (AreFew (counts_from (with_entry h e) (with_pieces (pieces_read h e) n) events)) (let z : entries + 1 + length events ≡ entries + suc (length events) = omega arith in z)
-    (few_from (with_entry h e) (with_pieces (pieces_read h e) n) events (entries + 1) (few_with (pieces_read h e) n entries (lines_few h e) few))
+    subst (AreFew (counts_from (with_entry h e) (with_pieces (pieces_read h e) n) events)) (omega arith)
+    (few_from (with_entry h e) _ events _ (few_with _ n _ (lines_few h e) few))
 
 pub counts_few : (h : History) → ((counts_of h).reads ≤ length h.events) × ((counts_of h).lines ≤ 4096 * length h.events)
 counts_few h =

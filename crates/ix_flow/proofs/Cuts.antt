@@ -1,19 +1,16 @@
 -- What tracks stand for after a cut.
-use Rattle.std.proofs.Common.{◌≡◌, ◌≤◌, ◌+◌, ℕ, true, false, List, [], length, Option, Some, None, option_map, refl, sym, ap, ◌∙◌, subst}
-use Rattle.std.{specs.Option.option_map_or, proofs.lemmas.Bool.not-true}
+use Rattle.std.{proofs.{Common.{◌≡◌, ◌≤◌, ℕ, true, false, List, [], length, Option, Some, None, option_map, refl, sym, ap, ◌∙◌, subst}, lemmas.Bool.not-true}, specs.Option.option_map_or}
 use Rattle.ix_label.specs.Category.{Categories}
-use Rattle.ix_model.specs.{world.{World.{World, Frame, HoldingOf, is_pipe}, Contents.{offset_of, on_pipe, on_side, resized}}, history.AuditLog.is_answer}
-use Rattle.ix_model.specs.rows.{Walks.{OpenFile, behind}, OnDescriptors.{LengthChecks, cut_fd}, Table.{row, verdict}, Telling.told}
-use Rattle.ix_model.specs.{history.Step.{answer, cut_answer, plainly, step}, history.Events.{Op, Event}, history.History.{History, world_of, next, with_entry}}
-use Rattle.ix_model.specs.declared.reply.Reply.{Reply}
-use Rattle.ix_model.specs.history.Events as op
-use Rattle.ix_model.specs.declared.reply.Reply.TheVariants as reply
+use Rattle.ix_model.specs.{world.{World.{World, Frame, HoldingOf, is_pipe}, Contents.{offset_of, on_pipe, on_side, resized}}, history.AuditLog.is_answer, declared.reply.Reply.Reply}
+use Rattle.ix_model.specs.rows.{Walks.{OpenFile, behind}, OnDescriptors.{LengthChecks, cut_fd}, Table.row, Telling.told}
+use Rattle.ix_model.specs.history.{Step.{answer, cut_answer, plainly, step}, Events.Event, History.{History, world_of, next, with_entry}}
 use Rattle.ix_model.proofs.words.{Answered.passed, Ends.{Ends, Anything, ends_bind, ends_need, ends_object, ends_opened, ends_then}}
 use Rattle.ix_open.specs.declared.view.OpenView.{OpenView}
 use Rattle.ix_flow.specs.{Origins.{Marked, gap_mark}, Lines.lines_of_entry, Marks.marks_of, Moves.{cut_there, edited}, Tracking.{AreSides, AreTracks, HasEnd}}
-use Rattle.ix_flow.specs.declared.{sides.Sides.Sides, tracks.Tracks.Tracks}
+use Rattle.ix_flow.{specs.declared.{sides.Sides.Sides, tracks.Tracks.Tracks}, proofs.Through.{Through, has_end, kept_marks, not_opened, through, viewed}}
 use Rattle.ix_flow.proofs.{Arms.{followed, kept_sides, unmoved}, NewObjects.{Stood, stood_step}, ReadWorlds.ends_anyway, Staying.marks_next}
-use Rattle.ix_flow.proofs.Through.{Through, has_end, kept_marks, not_opened, through, viewed}
+use Rattle.ix_model.specs.history.Events as op
+use Rattle.ix_model.specs.declared.reply.Reply.TheVariants as reply
 
 -- ---- what stands behind the descriptor
 -- a file
@@ -26,11 +23,11 @@ cut_known : (t : LengthChecks) (pid fd len : ℕ) (f : Frame) → Ends (cut_fd t
 unfolding cut_fd
 cut_known t pid fd len f =
     let Q : Reply → Frame → Type 0 = λ r g. CutBehind f pid fd in
-    ends_bind _ _ f Anything Q (ends_opened pid fd f Anything _ (λ e is.
-    ends_then _ _ f Anything Q (ends_need _ _ f Anything _ (λ may.
-    ends_bind _ _ f Anything Q (ends_object e.entry.object f Anything _ (λ x here.
-    ends_then _ _ f Anything Q (ends_need _ _ f Anything _ (λ file.
-    ends_anyway _ (CutBehind f pid fd) (record { behind_it = e; is_behind = is; file = ap (λ o. option_map_or is_pipe o false) here ∙ not-true _ file })) tt)) tt)) tt)) tt)
+    ends_bind _ _ f _ Q (ends_opened _ fd f _ _ (λ e is.
+    ends_then _ _ f _ Q (ends_need _ _ f _ _ (λ may.
+    ends_bind _ _ f _ Q (ends_object _ f _ _ (λ x here.
+    ends_then _ _ f _ Q (ends_need _ _ f _ _ (λ file.
+    ends_anyway _ _ (record { behind_it = e; is_behind = is; file = ap (λ o. option_map_or is_pipe o false) here ∙ not-true _ file })) tt)) tt)) tt)) tt)
 
 cut_answers : (w : World) (len : ℕ) (b : Option OpenFile) (r : Reply) (g : Frame) → (cut_answer w len b r g).reply ≡ reply.Done → is_answer r ≡ true
 unfolding cut_answer plainly
@@ -41,8 +38,7 @@ cut_behind : (w : World) (place pid fd len : ℕ) → (step w place pid (op.CutF
 unfolding step answer row
 cut_behind w place pid fd len is =
     let t = told w pid (op.CutFd fd len) in
-    let d = verdict t place pid (op.CutFd fd len) w.frame in
-    passed t place pid (op.CutFd fd len) w.frame (λ r g. CutBehind w.frame pid fd) (cut_known t pid fd len w.frame) (cut_answers w len (behind w.frame pid fd) d.reply d.frame is)
+    passed t _ _ _ _ (λ r g. CutBehind w.frame pid fd) (cut_known t _ fd _ _) (cut_answers w _ _ _ _ is)
 
 -- ---- what is held
 cut_none : (len : ℕ) (b : Option OpenFile) (r : Reply) (hs : List (HoldingOf Marked)) → (r ≡ reply.Done → ⊥) → cut_there gap_mark len b r hs ≡ hs
@@ -59,17 +55,17 @@ module _ (h : History) (seat line pid fd len : ℕ) where
   marks_cut = marks_next h e
 
   stood : Stood (world_of h).frame (next h e).world.frame
-  stood = stood_step (world_of h) (length h.events + 1) pid (op.CutFd fd len) refl
+  stood = stood_step _ _ _ _ refl
 
   silent : (d count k : ℕ) → e.op ≡ op.ReadFd d count → (next h e).reply ≡ reply.Bytes k → k ≡ 0
-  silent d count k is gives = let no : op.CutFd fd len ≡ op.ReadFd d count = is in cc
+  silent d count k is gives = cc
 
   pub cut_refused : length (with_entry h e).events ≤ 6800000 → (t : Tracks) → AreTracks t h → ((next h e).reply ≡ reply.Done → ⊥) → AreTracks t (with_entry h e) × (lines_of_entry h e ≡ [])
-  cut_refused few t are other = unmoved h e few refl silent t are stood (marks_cut ∙ cut_none len (behind (world_of h).frame pid fd) (next h e).reply (kept_marks h e) other)
+  cut_refused few t are other = unmoved h e few refl silent t are stood (marks_cut ∙ cut_none _ _ _ _ other)
 
   module _ (t : Tracks) (are : AreTracks t h) (done : (next h e).reply ≡ reply.Done) where
     abbrev file : CutBehind (world_of h).frame pid fd
-    file = cut_behind (world_of h) (length h.events + 1) pid fd len done
+    file = cut_behind _ _ _ fd _ done
 
     abbrev b : OpenFile
     b = file.behind_it

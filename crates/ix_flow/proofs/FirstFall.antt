@@ -1,7 +1,6 @@
 -- The places at which an object is let down, and the first of them behind a place.
 use Rattle.std.proofs.Common.{◌≡◌, ◌≢◌, ◌≤◌, ◌<◌, ◌+◌, ◌-◌, ◌*◌, ◌^◌, ◌==◌, ◌&&◌, cond, is_some, nat_lt, ℕ, suc, Bool, true, false, true≢false, List, [], ◌∷◌}
-use Rattle.std.proofs.Common.{◌++◌, length, Some, None, if◌then◌else◌, refl, sym, ap, ◌∙◌, arith, inl, inr}
-use Rattle.std.proofs.lemmas.Bool.{eq-eqb, lt-ltb, ltb-false, ltb-true, ne_eqb, Decides.eqb_tells}
+use Rattle.std.proofs.{Common.{◌++◌, length, Some, None, if◌then◌else◌, refl, sym, ap, ◌∙◌, arith, inl, inr}, lemmas.Bool.{eq-eqb, lt-ltb, ltb-false, ltb-true, ne_eqb, Decides.eqb_tells}}
 use Rattle.std.specs.{BTreeMap.get, Ordering.{is_gt, nat_cmp}, declared.cmp.Ordering.TheVariants.{Less, Equal, Greater}}
 use Rattle.ix_model.specs.{opening.Opening.opening_world, history.{History.History, Step.{step_of, run}, Events.Event}, world.World.World}
 use Rattle.ix_flow.specs.{Lowerings.{falls, first_fall}, Tracking.{AreFalls, falls_at}, declared.falls.Falls.Falls}
@@ -25,42 +24,42 @@ apart_over a b low = λ same. omega (arith, low, same)
 pub none_early : (w : World) (place : ℕ) (events : List Event) (o that : ℕ) → that < place → falls_at w place events o that ≡ false
 unfolding falls_at
 none_early w place [] o that low = refl
-none_early w place (e ∷ events) o that low = at_later w place e events o that (apart_from that place low) ∙ none_early (step_of w place e).world (suc place) events o that (omega (arith, low))
+none_early w place (e ∷ events) o that low = at_later w _ e _ o _ (apart_from _ _ low) ∙ none_early (step_of w place e).world (suc place) events o _ (omega (arith, low))
 
 pub none_late : (w : World) (place : ℕ) (events : List Event) (o that : ℕ) → length events + place ≤ that → falls_at w place events o that ≡ false
 unfolding falls_at
 none_late w place [] o that high = refl
-none_late w place (e ∷ events) o that high = at_later w place e events o that (apart_over that place (omega (arith, high)))
-    ∙ none_late (step_of w place e).world (suc place) events o that (omega (arith, high))
+none_late w place (e ∷ events) o that high = at_later w place e events o that (apart_over _ _ (omega (arith, high)))
+    ∙ none_late (step_of w place e).world (suc place) events o _ (omega (arith, high))
 
 -- so it stands at one of their places
 is_late : (w : World) (place : ℕ) (events : List Event) (o that : ℕ) → falls_at w place events o that ≡ true → place ≤ that
 is_late w place events o that is = go (nat_lt that place) refl
   where
     go : (b : Bool) → nat_lt that place ≡ b → place ≤ that
-    go true low = absurd (true≢false (sym is ∙ none_early w place events o that (ltb-true that place low)))
+    go true low = absurd (true≢false (sym is ∙ none_early w _ _ o _ (ltb-true that place low)))
     go false high = omega (arith, ltb-false that place high)
 
 -- ---- one entry more
 pub falls_push : (w : World) (place : ℕ) (events : List Event) (e : Event) (o that : ℕ) → that ≢ length events + place → falls_at w place (events ++ e ∷ []) o that ≡ falls_at w place events o that
 unfolding falls_at
-falls_push w place [] e o that apart = at_later w place e [] o that (λ same. apart (omega (arith, same)))
+falls_push w place [] e o that apart = at_later w _ e [] o _ (λ same. apart (omega (arith, same)))
 falls_push w place (x ∷ events) e o that apart = elim (eqb_tells that place) [
-  | inl same ↦ at_first w place x (events ++ e ∷ []) o that same.1 ∙ sym (at_first w place x events o that same.1)
+  | inl same ↦ at_first w _ x _ o _ same.1 ∙ sym (at_first w _ x _ o _ same.1)
   | inr other ↦
-      at_later w place x (events ++ e ∷ []) o that other.1
-      ∙ falls_push (step_of w place x).world (suc place) events e o that (λ same. apart (omega (arith, same)))
-      ∙ sym (at_later w place x events o that other.1)
+      at_later w _ x _ o _ other.1
+      ∙ falls_push (step_of w place x).world _ events e o _ (λ same. apart (omega (arith, same)))
+      ∙ sym (at_later w _ x _ o _ other.1)
 ]
 
 pub falls_last : (w : World) (place : ℕ) (events : List Event) (e : Event) (o that : ℕ) → that ≡ length events + place
     → falls_at w place (events ++ e ∷ []) o that ≡ falls (run w place events).frame (step_of (run w place events) that e).world.frame o
 falls_last w place [] e o that same =
     let is : that ≡ place = omega (arith, same) in
-    at_first w place e [] o that is ∙ ap (λ n. falls w.frame (step_of w n e).world.frame o) (sym is)
+    at_first w _ e [] o _ is ∙ ap (λ n. falls w.frame (step_of w n e).world.frame o) (sym is)
 falls_last w place (x ∷ events) e o that same =
-    at_later w place x (events ++ e ∷ []) o that (apart_over that place (omega (arith, same)))
-    ∙ falls_last (step_of w place x).world (suc place) events e o that (omega (arith, same))
+    at_later w place x (events ++ e ∷ []) o that (apart_over _ _ (omega (arith, same)))
+    ∙ falls_last (step_of w place x).world (suc place) events e o _ (omega (arith, same))
 
 -- ---- the first one
 not_first : (w : World) (place : ℕ) (e : Event) (events : List Event) (o after : ℕ) → (nat_lt after place && falls w.frame (step_of w place e).world.frame o) ≡ false
@@ -74,7 +73,7 @@ unfolding first_fall
 is_first w place e events o after here = ap (λ b. if b then Some place else first_fall (step_of w place e).world (suc place) events o after) here
 
 passes_not : (after place : ℕ) (b : Bool) → (after < place → b ≡ false) → (nat_lt after place && b) ≡ false
-passes_not after place b isnt = go (nat_lt after place) refl
+passes_not after place b isnt = go _ refl
   where
     go : (c : Bool) → nat_lt after place ≡ c → (c && b) ≡ false
     go true low = isnt (ltb-true after place low)
@@ -100,12 +99,11 @@ first_is w place (e ∷ events) o after p there low none = elim (eqb_tells p pla
   | inl same ↦
       let here : p ≡ place = same.1 in
       let falls_here : falls w.frame (step_of w place e).world.frame o ≡ true = sym (at_first w place e events o p here) ∙ there in
-      let early : nat_lt after place ≡ true = lt-ltb after place (omega (arith, low, here)) in
-      is_first w place e events o after (ap (λ b. b && falls w.frame (step_of w place e).world.frame o) early ∙ falls_here) ∙ ap Some (sym here)
+      is_first w place e events o after (ap (λ b. b && falls w.frame (step_of w place e).world.frame o) (lt-ltb after place (omega (arith, low, here))) ∙ falls_here) ∙ ap Some (sym here)
   | inr other ↦
       let later : falls_at (step_of w place e).world (suc place) events o p ≡ true = sym (at_later w place e events o p other.1) ∙ there in
-      let high : suc place ≤ p = is_late (step_of w place e).world (suc place) events o p later in
-      not_first w place e events o after (passes_not after place _ (λ early. sym (at_first w place e events o place refl) ∙ none place early (omega (arith, high))))
+      not_first w place e events o after (passes_not after place _ (λ early. sym (at_first w place e events o place refl)
+      ∙ none place early (omega (arith, is_late (step_of w place e).world (suc place) events o p later))))
       ∙ first_is (step_of w place e).world (suc place) events o after p later low (λ q early before. elim (eqb_tells q place) [
         | inl same ↦ none_early (step_of w place e).world (suc place) events o q (omega (arith, same.1))
         | inr apart ↦ sym (at_later w place e events o q apart.1) ∙ none q early before
@@ -119,7 +117,7 @@ not_above a b low = go (nat_lt a b) (a == b) refl refl
     go : (x y : Bool) → nat_lt a b ≡ x → (a == b) ≡ y → is_gt (nat_cmp a b) ≡ false
     go true y below is = ap (λ t. is_gt (cond t Less (cond (a == b) Equal Greater))) below
     go false true high is = ap (λ t. is_gt (cond t Less (cond (a == b) Equal Greater))) high ∙ ap (λ t. is_gt (cond t Equal Greater)) is
-    go false false high is = let least = ltb-false a b high in let same : a ≡ b = omega (arith, low, least) in absurd (true≢false (sym (eq-eqb a b same) ∙ is))
+    go false false high is = let same : a ≡ b = omega (arith, low, ltb-false a b high) in absurd (true≢false (sym (eq-eqb a b same) ∙ is))
 
 -- ---- what is noted
 module _ (f : Falls) (h : History) (are : AreFalls f h) (o after : ℕ) where
@@ -136,20 +134,20 @@ module _ (f : Falls) (h : History) (are : AreFalls f h) (o after : ℕ) where
   pub first_noted : (found : ℕ) → key (after + 1) ≤ found → found ≤ key 4294967295 → there found ≡ true → ((k : ℕ) → key (after + 1) ≤ k → k ≤ key 4294967295 → there k ≡ true → found ≤ k)
       → Some (found - key 0) ≡ first_fall (opening_world h.config) 1 h.events o after
   first_noted found low high is least =
-      let place : ℕ = found - key 0 in
+      let place = found - key 0 in
       let small : place < 2 ^ 32 = omega (arith, high) in
       let here : key place ≡ found = omega (arith, low) in
-      sym (first_is (opening_world h.config) 1 h.events o after place (falls_there place small ∙ ap there here ∙ is) (omega (arith, low))
-      (λ q later before. falls_there q (omega (arith, before, small)) ∙ not_noted q (there (key q)) refl later before small here))
+      sym (first_is _ 1 _ o _ _ (falls_there _ small ∙ ap there here ∙ is) (omega (arith, low))
+      (λ q later before. falls_there q (omega (arith, before, small)) ∙ not_noted q _ refl later before small here))
     where
       not_noted : (q : ℕ) (b : Bool) → there (key q) ≡ b → after < q → q < found - key 0 → found - key 0 < 2 ^ 32 → key (found - key 0) ≡ found → b ≡ false
       not_noted q false isnt later before small here = refl
-      not_noted q true is_there later before small here = let less = least (key q) (omega (arith, later)) (omega (arith, before, small)) is_there in absurd (omega (arith, less, before, here))
+      not_noted q true is_there later before small here = absurd (omega (arith, least _ (omega (arith, later)) (omega (arith, before, small)) is_there, before, here))
 
   -- where no key stands for a later place there is none
   pub none_noted : ((k : ℕ) → key (after + 1) ≤ k → k ≤ key 4294967295 → there k ≡ false) → None ≡ first_fall (opening_world h.config) 1 h.events o after
-  none_noted none = sym (none_first (opening_world h.config) 1 h.events o after (λ q later. go q later (nat_lt q 4294967296) refl))
+  none_noted none = sym (none_first _ 1 _ o _ (λ q later. go q later _ refl))
     where
       go : (q : ℕ) → after < q → (b : Bool) → nat_lt q 4294967296 ≡ b → falls_at (opening_world h.config) 1 h.events o q ≡ false
-      go q later true low = let small = ltb-true q 4294967296 low in falls_there q (omega (arith, small)) ∙ none (key q) (omega (arith, later)) (omega (arith, small))
-      go q later false high = none_late (opening_world h.config) 1 h.events o q (omega (arith, are.few, ltb-false q 4294967296 high))
+      go q later true low = let small = ltb-true q 4294967296 low in falls_there q (omega (arith, small)) ∙ none _ (omega (arith, later)) (omega (arith, small))
+      go q later false high = none_late _ 1 _ o q (omega (arith, are.few, ltb-false q 4294967296 high))

@@ -1,14 +1,12 @@
 -- What sides stand for after an object was forgotten, which holds nothing.
-use Rattle.std.proofs.Common.{◌≡◌, ◌<◌, ◌+◌, ◌==◌, ◌&&◌, ℕ, Bool, true, false, true≢false, List, [], ◌∷◌, length, Option, Some, None, is_some, if◌then◌else◌}
-use Rattle.std.proofs.Common.{refl, sym, ap, ◌∙◌, subst, arith, inl, inr}
+use Rattle.std.proofs.Common.{◌≡◌, ◌<◌, ◌&&◌, ℕ, Bool, true, false, true≢false, List, [], ◌∷◌, length, Option, Some, None, is_some, if◌then◌else◌, refl, sym, ap, ◌∙◌, subst, arith, inl, inr}
 use Rattle.std.{specs.Option.option_and_then, proofs.lemmas.{Bool.Decides.eqb_tells, List.length-map}}
 use Rattle.ix_label.specs.Category.{Categories}
 use Rattle.ix_model.specs.{laws.Sound.Sound, world.{World.{World, HoldingOf, Object, at}, Contents.{held_at, holding_of, nothing_held, side}}}
 use Rattle.ix_model.specs.history.{Events.Event, History.{History, world_of, next, with_entry}, Views.{has_side, size_at}}
 use Rattle.ix_model.proofs.{clean.Carrying.get_or-keep, sound.Carried.there_is, words.Runs.world_of-push}
 use Rattle.ix_flow.specs.{Origins.{Marked, origins_of}, Marks.marks_of, Tracking.{AreSides, IsTracked, side_of}, declared.{side.Side.Side, sides.Sides.Sides}}
-use Rattle.ix_flow.proofs.{Mapping.held_side, Marking.marked_run, ReadMarks.kept_is, Staying.origins_past, Through.kept_marks}
-use Rattle.ix_flow.proofs.Tracked.{kind_stays, tracked_next}
+use Rattle.ix_flow.proofs.{Mapping.held_side, Marking.marked_run, ReadMarks.kept_is, Staying.origins_past, Through.kept_marks, Tracked.{kind_stays, tracked_next}}
 
 -- ---- what is nothing
 no_length : {A : Type 0} (xs : List A) → length xs ≡ 0 → xs ≡ []
@@ -18,18 +16,18 @@ no_length (x ∷ xs) none = absurd (omega (arith, none))
 -- where there is nothing at an end, there are no origins
 pub nothing_there : (h : History) (o end : ℕ) → size_at (world_of h) o end ≡ Some 0 → origins_of (side end (held_at (marks_of h) o)) ≡ []
 unfolding size_at
-nothing_there h o end none = no_length _ (long ∙ go (at (world_of h).frame.objects o) none)
+nothing_there h o end none = no_length _ (long ∙ go _ none)
   where
     long : length (origins_of (side end (held_at (marks_of h) o))) ≡ length (side end (holding_of (world_of h).content o))
     long =
-        length-map (side end (held_at (marks_of h) o)) (λ m. m.origin)
-        ∙ sym (length-map (side end (held_at (marks_of h) o)) (λ m. m.byte))
-        ∙ ap length (sym (held_side (λ (m : Marked). m.byte) (marks_of h) o end) ∙ ap (λ hs. side end (held_at hs o)) ((marked_run h).held))
+        length-map _ (λ m. m.origin)
+        ∙ sym (length-map _ (λ m. m.byte))
+        ∙ ap length (sym (held_side _ _ o _) ∙ ap (λ hs. side end (held_at hs o)) ((marked_run h).held))
 
     go : (x : Option Object) → option_and_then (λ y. if has_side y end then Some (length (side end (holding_of (world_of h).content o))) else None) x ≡ Some 0
         → length (side end (holding_of (world_of h).content o)) ≡ 0
     go None is = cc
-    go (Some y) is = ends (has_side y end) is
+    go (Some y) is = ends _ is
       where
         ends : (b : Bool) → (if b then Some (length (side end (holding_of (world_of h).content o))) else None) ≡ Some 0 → length (side end (holding_of (world_of h).content o)) ≡ 0
         ends true is = cc
@@ -39,17 +37,17 @@ module _ (h : History) (e : Event) (sound : Sound (world_of h)) where
   -- nothing is kept where nothing stood
   pub nothing_kept : (o end : ℕ) → at (world_of h).frame.objects o ≡ None → origins_of (side end (held_at (kept_marks h e) o)) ≡ []
   nothing_kept o end free =
-      ap (λ (x : HoldingOf Marked). origins_of (side end x))
-      (get_or-keep nothing_held (λ n. is_some (at (world_of h).frame.objects n) && is_some (at (next h e).world.frame.objects n)) 0 (marks_of h) o
-      ∙ ap (λ n. if is_some (at (world_of h).frame.objects n) && is_some (at (next h e).world.frame.objects n) then held_at (marks_of h) o else nothing_held) (let z : 0 + o ≡ o = omega arith in z)
+      ap (λ x. origins_of (side end x))
+      (get_or-keep _ _ 0 _ o
+      ∙ ap (λ n. if is_some (at (world_of h).frame.objects n) && is_some (at (next h e).world.frame.objects n) then held_at (marks_of h) o else nothing_held) (omega arith)
       ∙ ap (λ x. if is_some x && is_some (at (next h e).world.frame.objects o) then held_at (marks_of h) o else nothing_held) free)
-      ∙ nothing end
+      ∙ nothing _
     where
       none : List Marked
       none = []
 
       nothing : (end : ℕ) → origins_of (side end nothing_held) ≡ []
-      nothing end = go (end == 0)
+      nothing end = go _
         where
           go : (b : Bool) → origins_of (if b then none else none) ≡ []
           go true = refl

@@ -4,21 +4,20 @@ use Rattle.std.proofs.Common.{refl, sym, ap, ◌∙◌, subst, arith, get_or, �
 use Rattle.std.proofs.{lemmas.Bool.{le-leb, leb-false, leb-true, lt-leb}, Math.ListN.get_or-append}
 use Rattle.std.proofs.lemmas.List.{append_assoc, get_or-append_right, get_or-drop, get_or-replicate, get_or-take, length-drop, length-replicate, length-take}
 use Rattle.ix_model.specs.world.Contents.{written_over}
-use Rattle.ix_flow.specs.{Origins.{Origin, Written, Gap}, Sides.{IsLike, numbered, origin_at, source_in, start_of}}
-use Rattle.ix_flow.specs.declared.{side.Side.Side, source.Source.Source}
+use Rattle.ix_flow.specs.{Origins.{Origin, Written, Gap}, Sides.{IsLike, numbered, origin_at, source_in, start_of}, declared.{side.Side.Side, source.Source.Source}}
 use Rattle.ix_flow.specs.declared.source.Source.TheVariants as source
 
 -- ---- numbered origins
 pub length-numbered : (origin : ℕ → Origin) (k n : ℕ) → length (numbered origin k n) ≡ n
 unfolding numbered
 length-numbered origin k zero = refl
-length-numbered origin k (suc n) = ap suc (length-numbered origin (suc k) n)
+length-numbered origin k (suc n) = ap suc (length-numbered _ _ n)
 
 pub get_or-numbered : (origin : ℕ → Origin) (k n i : ℕ) (d : Origin) → i < n → get_or (numbered origin k n) i d ≡ origin (k + i)
 unfolding numbered
 get_or-numbered origin k zero i d low = absurd (omega (arith, low))
-get_or-numbered origin k (suc n) zero d low = ap origin (let z : k ≡ k + 0 = omega arith in z)
-get_or-numbered origin k (suc n) (suc i) d low = get_or-numbered origin (suc k) n i d (omega (arith, low)) ∙ ap origin (let z : suc k + i ≡ k + suc i = omega arith in z)
+get_or-numbered origin k (suc n) zero d low = ap origin (omega arith)
+get_or-numbered origin k (suc n) (suc i) d low = get_or-numbered _ _ n i d (omega (arith, low)) ∙ ap origin (omega arith)
 
 -- ---- a list written over
 module _ (from : ℕ) (new old : List Origin) (some : 0 < length new) where
@@ -29,7 +28,7 @@ module _ (from : ℕ) (new old : List Origin) (some : 0 < length new) where
   back = new ++ drop (from + length new) old
 
   over_is : written_over Gap from new old ≡ front ++ back
-  over_is = go (nat_le (length new) 0) (lt-leb (length new) 0 some) ∙ sym (append_assoc (take from old) (replicate (from - length old) Gap) back)
+  over_is = go _ (lt-leb _ 0 some) ∙ sym (append_assoc _ _ back)
     where
       go : (b : Bool) → b ≡ false → (if b then old else take from old ++ (replicate (from - length old) Gap ++ (new ++ drop (from + length new) old))) ≡ take from old ++
           (replicate (from - length old) Gap ++ (new ++ drop (from + length new) old))
@@ -37,37 +36,37 @@ module _ (from : ℕ) (new old : List Origin) (some : 0 < length new) where
       go false h = refl
 
   front_long : length front ≡ from
-  front_long = let a = length-append (take from old) (replicate (from - length old) Gap) in let b = length-take from old in let c = length-replicate (from - length old) Gap in omega (arith, a, b, c)
+  front_long = let b = length-take from old in let c = length-replicate (from - length old) Gap in omega (arith, length-append (take from old) (replicate (from - length old) Gap), b, c)
 
   pub over_long : length (written_over Gap from new old) ≡ max (length old) (from + length new)
-  over_long = ap length over_is ∙ (let a = length-append front back in let b = length-append new (drop (from + length new) old) in let c = length-drop (from + length new) old in omega
-      (arith, a, b, c, front_long))
+  over_long = ap length over_is ∙ (let b = length-append new (drop (from + length new) old) in let c = length-drop (from + length new) old in omega
+      (arith, length-append front back, b, c, front_long))
 
   pub over_before : (i : ℕ) → i < from → i < length old → get_or (written_over Gap from new old) i Gap ≡ get_or old i Gap
   over_before i low inside =
       ap (λ xs. get_or xs i Gap) over_is ∙ get_or-append front back Gap i (omega (arith, front_long, low))
-      ∙ get_or-append (take from old) (replicate (from - length old) Gap) Gap i (let b = length-take from old in omega (arith, b, low, inside)) ∙ get_or-take from old i Gap low
+      ∙ get_or-append _ _ Gap i (omega (arith, length-take from old, low, inside)) ∙ get_or-take from old i Gap low
 
   pub over_gap : (i : ℕ) → i < from → length old ≤ i → get_or (written_over Gap from new old) i Gap ≡ Gap
   over_gap i low past =
       ap (λ xs. get_or xs i Gap) over_is ∙ get_or-append front back Gap i (omega (arith, front_long, low))
-      ∙ get_or-append_right (take from old) (replicate (from - length old) Gap) (length old) i Gap (let b = length-take from old in omega (arith, b, low, past)) past
-      ∙ get_or-replicate (from - length old) (i - length old) Gap Gap (omega (arith, low, past))
+      ∙ get_or-append_right _ _ _ i Gap (omega (arith, length-take from old, low, past)) past
+      ∙ get_or-replicate (from - length old) _ Gap Gap (omega (arith, low, past))
 
   pub over_there : (i : ℕ) → from ≤ i → i < from + length new → get_or (written_over Gap from new old) i Gap ≡ get_or new (i - from) Gap
   over_there i low high =
       ap (λ xs. get_or xs i Gap) over_is ∙ get_or-append_right front back from i Gap front_long low
-      ∙ get_or-append new (drop (from + length new) old) Gap (i - from) (omega (arith, low, high))
+      ∙ get_or-append new _ Gap _ (omega (arith, low, high))
 
   pub over_behind : (i : ℕ) → from + length new ≤ i → get_or (written_over Gap from new old) i Gap ≡ get_or old i Gap
   over_behind i past =
       ap (λ xs. get_or xs i Gap) over_is ∙ get_or-append_right front back from i Gap front_long (omega (arith, past))
-      ∙ get_or-append_right new (drop (from + length new) old) (length new) (i - from) Gap refl (omega (arith, past))
-      ∙ get_or-drop (from + length new) old (i - from - length new) Gap ∙ ap (λ n. get_or old n Gap) (let z : from + length new + (i - from - length new) ≡ i = omega (arith, past) in z)
+      ∙ get_or-append_right new _ _ _ Gap refl (omega (arith, past))
+      ∙ get_or-drop _ old _ Gap ∙ ap (λ n. get_or old n Gap) (omega (arith, past))
 
 -- at or below, or above
 pub side_of : (a b : ℕ) → (a ≤ b) ⊎ (b < a)
-side_of a b = go (nat_le a b) refl
+side_of a b = go _ refl
   where
     go : (x : Bool) → nat_le a b ≡ x → (a ≤ b) ⊎ (b < a)
     go true is = inl (leb-true a b is)
@@ -75,7 +74,7 @@ side_of a b = go (nat_le a b) refl
 
 -- a source that is another has begun where that has
 begun_too : (a b : Source) (n : ℕ) → a ≡ b → start_of b ≤ n → start_of a ≤ n
-begun_too a b n is begun = subst (λ (x : Source). start_of x ≤ n) (sym is) begun
+begun_too a b n is begun = subst (λ x. start_of x ≤ n) (sym is) begun
 
 -- ---- a write
 module _ (s m t : Side) (from count place label : ℕ) (old : List Origin) (first : s.front ≡ 0) (first_now : t.front ≡ 0) (some : 0 < count)
@@ -90,23 +89,23 @@ module _ (s m t : Side) (from count place label : ℕ) (old : List Origin) (firs
   new = numbered (Written place) 0 count
 
   long : length new ≡ count
-  long = length-numbered (Written place) 0 count
+  long = length-numbered _ 0 _
 
   any : 0 < length new
   any = omega (arith, some, long)
 
   was : (n : ℕ) → n < s.end → get_or old n Gap ≡ origin_at (source_in s.runs.entries n) n
-  was n low = ap (λ k. get_or old k Gap) (let z : n ≡ n - s.front = omega (arith, first) in z) ∙ like.each n (omega (arith, first)) low
+  was n low = ap (λ k. get_or old k Gap) (omega (arith, first)) ∙ like.each n (omega (arith, first)) low
 
   now : (n : ℕ) → n < t.end → get_or (written_over Gap from new old) n Gap ≡ origin_at (source_in t.runs.entries n) n
-  now n low = elim (side_of from n) [
-    | inl far ↦ elim (side_of (from + count) n) [
+  now n low = elim (side_of _ n) [
+    | inl far ↦ elim (side_of _ n) [
       | inl past ↦
           let inside : n < s.end = omega (arith, past, some, low, end, reach) in
           over_behind from new old any n (omega (arith, past, long)) ∙ was n inside ∙ ap (λ x. origin_at x n) (sym (behind n past (omega (arith, inside, reach)) ∙ kept n inside))
       | inr inside ↦
           over_there from new old any n far (omega (arith, inside, long)) ∙ get_or-numbered (Written place) 0 count (n - from) Gap (omega (arith, far, inside))
-          ∙ ap (Written place) (let z : 0 + (n - from) ≡ n - from = omega arith in z)
+          ∙ ap (Written place) (omega arith)
           ∙ ap (λ x. origin_at x n) (sym (there n far inside))
     ]
     | inr near ↦ elim (side_of s.end n) [
@@ -116,8 +115,8 @@ module _ (s m t : Side) (from count place label : ℕ) (old : List Origin) (firs
   ]
 
   begun : (n : ℕ) → n < t.end → start_of (source_in t.runs.entries n) ≤ n
-  begun n low = elim (side_of from n) [
-    | inl far ↦ elim (side_of (from + count) n) [
+  begun n low = elim (side_of _ n) [
+    | inl far ↦ elim (side_of _ n) [
       | inl past ↦
           let inside : n < s.end = omega (arith, past, some, low, end, reach) in
           begun_too _ _ n (behind n past (omega (arith, inside, reach)) ∙ kept n inside) (like.proper n (omega (arith, first)) inside)
@@ -131,15 +130,15 @@ module _ (s m t : Side) (from count place label : ℕ) (old : List Origin) (firs
 
   pub written_like : IsLike t (written_over Gap from new old)
   written_like = record {
-    long = let a = over_long from new old any in omega (arith, a, long, first_now, end, reach, like.long, first);
-    each = λ n low high. ap (λ k. get_or (written_over Gap from new old) k Gap) (let z : n - t.front ≡ n = omega (arith, first_now) in z) ∙ now n high;
+    long = omega (arith, over_long from new old any, long, first_now, end, reach, like.long, first);
+    each = λ n low high. ap (λ k. get_or (written_over Gap from new old) k Gap) (omega (arith, first_now)) ∙ now n high;
     proper = λ n low high. begun n high;
   }
 
 -- no bytes
 pub none_written : (s : Side) (from count place : ℕ) (old : List Origin) → count ≡ 0 → IsLike s old → IsLike s (written_over Gap from (numbered (Written place) 0 count) old)
-none_written s from count place old none like = subst (IsLike s) (sym (go (nat_le (length (numbered (Written place) 0 count)) 0)
-    (le-leb _ 0 (let long = length-numbered (Written place) 0 count in omega (arith, long, none))))) like
+none_written s from count place old none like = subst (IsLike s) (sym (go _
+    (le-leb _ 0 (omega (arith, length-numbered (Written place) 0 count, none))))) like
   where
     go : (b : Bool) → b ≡ true → (if b then old else take from old ++ (replicate (from - length old) Gap ++
         (numbered (Written place) 0 count ++ drop (from + length (numbered (Written place) 0 count)) old))) ≡ old
@@ -156,7 +155,7 @@ unfolding numbered
 nothing_behind place old = append-nil old
 
 pub none_appended : (s : Side) (count place : ℕ) (old : List Origin) → count ≡ 0 → IsLike s old → IsLike s (old ++ numbered (Written place) 0 count)
-none_appended s count place old none like = subst (IsLike s) (sym (ap (λ n. old ++ numbered (Written place) 0 n) none ∙ nothing_behind place old)) like
+none_appended s count place old none like = subst (IsLike s) (sym (ap (λ n. old ++ numbered (Written place) 0 n) none ∙ nothing_behind _ _)) like
 
 module _ (s t : Side) (count place label : ℕ) (old : List Origin) (same : t.front ≡ s.front)
     (before : (n : ℕ) → n < s.end → source_in t.runs.entries n ≡ source_in s.runs.entries n)
@@ -166,12 +165,12 @@ module _ (s t : Side) (count place label : ℕ) (old : List Origin) (same : t.fr
   appended_like =
       let long = length-numbered (Written place) 0 count in
       record {
-        long = let a = length-append old (numbered (Written place) 0 count) in omega (arith, a, long, end, same, like.long);
+        long = omega (arith, length-append old (numbered (Written place) 0 count), long, end, same, like.long);
         each = λ n low high. elim (side_of s.end n) [
           | inl past ↦
               get_or-append_right old (numbered (Written place) 0 count) (length old) (n - t.front) Gap refl (omega (arith, past, same, like.long))
               ∙ get_or-numbered (Written place) 0 count (n - t.front - length old) Gap (omega (arith, past, high, same, end, like.long))
-              ∙ ap (Written place) (let z : 0 + (n - t.front - length old) ≡ n - s.end = omega (arith, past, same, like.long) in z)
+              ∙ ap (Written place) (omega (arith, past, same, like.long))
               ∙ ap (λ x. origin_at x n) (sym (there n past (omega (arith, high, end))))
           | inr inside ↦
               get_or-append old (numbered (Written place) 0 count) Gap (n - t.front) (omega (arith, inside, low, same, like.long))
@@ -202,8 +201,8 @@ filled_like t source count first end there begun =
     record {
       long = omega (arith, long, first, end);
       each = λ n low high.
-          get_or-numbered (origin_at source) 0 count (n - t.front) Gap (omega (arith, high, end))
-          ∙ ap (origin_at source) (let z : 0 + (n - t.front) ≡ n = omega (arith, first) in z)
+          get_or-numbered _ 0 _ _ _ (omega (arith, high, end))
+          ∙ ap (origin_at source) (omega (arith, first))
           ∙ ap (λ x. origin_at x n) (sym (there n (omega arith) (omega (arith, high, end))));
-      proper = λ n low high. begun_too _ source n (there n (omega arith) (omega (arith, high, end))) (omega (arith, begun));
+      proper = λ n low high. begun_too _ _ n (there n (omega arith) (omega (arith, high, end))) (omega (arith, begun));
     }

@@ -1,12 +1,11 @@
 -- The line of a piece, written part by part.
-use Rattle.std.proofs.Common.{◌≡◌, ◌≤◌, ◌+◌, ◌-◌, ℕ, suc, List, [], ◌∷◌, ◌++◌, length, take, drop, codes, Option, sym, ap, ◌∙◌, append_assoc, get_or, subst}
-use Rattle.std.proofs.Common.{arith}
+use Rattle.std.proofs.Common.{◌≡◌, ◌≤◌, ◌+◌, ◌-◌, ℕ, List, [], ◌∷◌, ◌++◌, length, take, drop, codes, Option, sym, ap, ◌∙◌, append_assoc, get_or, subst, arith}
 use Rattle.std.{specs.{List.flat_map, Fmt.decimal}, proofs.lemmas.Option.get_or_from_slice_get}
 use Rattle.ix_label.specs.{Category.{Categories, bottom}, Spelling.spelling}
-use Rattle.ix_label.specs.declared.form.Form.TheVariants as form
 use Rattle.ix_model.specs.{opening.Opening.opening_world, history.History.History}
-use Rattle.ix_flow.specs.{Origins.{Origin, Written, InConfig}, Lines.{Piece, piece_line, pieces_from, place_text}, Lowerings.{first_fall, label_of, via}}
+use Rattle.ix_flow.specs.{Origins.Origin, Lines.{Piece, piece_line, pieces_from, place_text}, Lowerings.{first_fall, label_of, via}}
 use Rattle.ix_flow.specs.{Reads.between, Sides.origin_at, Tracking.IsUnder, declared.source.Source.Source}
+use Rattle.ix_label.specs.declared.form.Form.TheVariants as form
 use Rattle.ix_flow.specs.declared.source.Source.TheVariants as source
 
 -- what is put behind a text in seven parts
@@ -23,8 +22,8 @@ module _ (h : History) (place o first count : ℕ) (out a b c d e f g : List ℕ
       → g ≡ out ++ (decimal place ++ codes " " ++ decimal first ++ codes " " ++ decimal count ++ codes " " ++
       (word ++ decimal that ++ codes " " ++ decimal k ++ codes " " ++ (spelling form.Two l ++ codes " " ++ place_text via)) ++ codes "\n")
   line_of word that k l via four five six last is down =
-      seven out a b c d e f g (decimal place ++ codes " ") (decimal first ++ codes " ") (decimal count ++ codes " ") word (decimal that ++ codes " ") (decimal k ++ codes " ")
-      (spelling form.Two l ++ codes " " ++ place_text via ++ codes "\n") one two three four five six
+      seven _ a b c d e f g (decimal place ++ codes " ") _ _ _ _ _
+      _ one two three four five six
       (last ∙ ap (λ x. f ++ (spelling form.Two x ++ codes " " ++ place_text fall ++ codes "\n")) is ∙ ap (λ x. f ++ (spelling form.Two l ++ codes " " ++ place_text x ++ codes "\n")) down)
       ∙ simp append_assoc
 
@@ -33,9 +32,9 @@ module _ (h : History) (place o first count : ℕ) (out a b c d e f g : List ℕ
       → g ≡ f ++ (spelling form.Two seen ++ codes " " ++ place_text fall ++ codes "\n") → g ≡ out ++ piece_line h place o (record { first = first; count = count; origin = origin_at src number })
   unfolding via
   line_of_write that start is under down four five six last =
-      line_of (codes "write ") that (number - start) (label_of h (Written that (number - start))) (via h o (Written that (number - start))) four five six last
-      (looked ∙ get_or_from_slice_get labels label (label_of h (Written that (number - start))) bottom
-      (let P : Source → Type 0 = λ x. IsUnder labels x (label_of h (origin_at x number)) in subst P is under)) down
+      line_of _ _ _ _ _ four five six last
+      (looked ∙ get_or_from_slice_get labels label _ bottom
+      (subst (λ x. IsUnder labels x (label_of h (origin_at x number))) is under)) down
       ∙ ap (λ x. out ++ piece_line h place o (record { first = first; count = count; origin = origin_at x number })) (sym is)
 
   pub line_of_file : (object : ℕ) → src ≡ source.File object label → IsUnder labels src (label_of h (origin_at src number)) → fall ≡ first_fall (opening_world h.config) 1 h.events o 0
@@ -43,9 +42,9 @@ module _ (h : History) (place o first count : ℕ) (out a b c d e f g : List ℕ
       → g ≡ f ++ (spelling form.Two seen ++ codes " " ++ place_text fall ++ codes "\n") → g ≡ out ++ piece_line h place o (record { first = first; count = count; origin = origin_at src number })
   unfolding via
   line_of_file object is under down four five six last =
-      line_of (codes "file ") object number (label_of h (InConfig object number)) (via h o (InConfig object number)) four five six last
-      (looked ∙ get_or_from_slice_get labels label (label_of h (InConfig object number)) bottom
-      (let P : Source → Type 0 = λ x. IsUnder labels x (label_of h (origin_at x number)) in subst P is under)) down
+      line_of _ _ _ _ _ four five six last
+      (looked ∙ get_or_from_slice_get labels label _ bottom
+      (subst (λ x. IsUnder labels x (label_of h (origin_at x number))) is under)) down
       ∙ ap (λ x. out ++ piece_line h place o (record { first = first; count = count; origin = origin_at x number })) (sym is)
 
 -- ---- one piece after the other
@@ -53,10 +52,10 @@ pub next_told : (line : Piece → List ℕ) (base out new : List ℕ) (p : Piece
     → out ++ flat_map line pieces ≡ base ++ flat_map line all
     → new ++ flat_map line rest ≡ base ++ flat_map line all
 next_told line base out new p pieces rest all split text told =
-    ap (λ x. x ++ flat_map line rest) text ∙ append_assoc out (line p) (flat_map line rest) ∙ ap (λ ps. out ++ flat_map line ps) (sym split) ∙ told
+    ap (λ x. x ++ flat_map line rest) text ∙ append_assoc out _ _ ∙ ap (λ ps. out ++ flat_map line ps) (sym split) ∙ told
 
 pub next_counted : (n k : ℕ) (p : Piece) (pieces rest : List Piece) → pieces ≡ p ∷ rest → n + length pieces ≡ k → n + 1 + length rest ≡ k
-next_counted n k p pieces rest split told = let long : length pieces ≡ suc (length rest) = ap length split in omega (arith, long, told)
+next_counted n k p pieces rest split told = omega (arith, ap length split, told)
 
 pub none_left : (k front number to : ℕ) (origins : List Origin) → to ≤ number → pieces_from k (between front number to origins) ≡ []
 unfolding pieces_from
@@ -66,4 +65,4 @@ pub all_left : (front from to n m : ℕ) (origins : List Origin) → n ≡ from 
 all_left front from to n m origins first last =
     ap (λ x. pieces_from (x - from) (between front x m origins)) first
     ∙ ap (λ y. pieces_from (from - from) (between front from y origins)) last
-    ∙ ap (λ k. pieces_from k (between front from to origins)) (let z : from - from ≡ 0 = omega arith in z)
+    ∙ ap (λ k. pieces_from k (between front from to origins)) (omega arith)

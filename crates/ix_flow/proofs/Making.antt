@@ -1,15 +1,13 @@
 -- What tracks stand for after an object was made.
-use Rattle.std.proofs.Common.{◌≡◌, ◌≤◌, ◌<◌, ◌+◌, ℕ, Bool, true, false, true≢false, [], length, Some, None, is_some, option_map, refl, sym, ap, ◌∙◌, subst, ◌⊎◌}
-use Rattle.std.proofs.Common.{inl, inr}
-use Rattle.ix_model.specs.{world.{Naming.PathOf, World.{World, at}}, rows.Walks.{OpenFile, behind}, declared.ids.Fd.Fd}
+use Rattle.std.proofs.Common.{◌≡◌, ◌≤◌, ◌<◌, ◌+◌, ℕ, Bool, true, false, true≢false, [], length, Some, None, is_some, option_map, refl, sym, ap, ◌∙◌, subst, ◌⊎◌, inl, inr}
+use Rattle.ix_model.{specs.{world.{Naming.PathOf, World.{World, at}}, rows.Walks.{OpenFile, behind}, declared.ids.Fd.Fd}, proofs.words.Runs.world_of-push}
 use Rattle.ix_model.specs.history.{AuditLog.is_answer, Step.step, Events.{Op, Event}, History.{History, world_of, next, with_entry}}
-use Rattle.ix_model.specs.history.Events as op
-use Rattle.ix_model.specs.declared.reply.Reply.TheVariants as reply
-use Rattle.ix_model.proofs.words.Runs.{world_of-push}
 use Rattle.ix_open.specs.declared.view.OpenView.{OpenView}
 use Rattle.ix_flow.specs.{Lines.lines_of_entry, Marks.marks_of, Moves.edited, Tracking.{AreTracks, side_of}, declared.{sides.Sides.Sides, tracks.Tracks.Tracks}}
 use Rattle.ix_flow.proofs.{Arms.{followed, unmoved}, Forgotten.{forgotten_sides, nothing_kept}, NewObjects.{MadeOne, OneNew, Stood, created, made_dir, piped}}
 use Rattle.ix_flow.proofs.{Relabelling.sets_label, Staying.marks_next, Through.kept_marks}
+use Rattle.ix_model.specs.history.Events as op
+use Rattle.ix_model.specs.declared.reply.Reply.TheVariants as reply
 
 -- whether a call makes an object
 abbrev pub makes : Op → Bool
@@ -33,7 +31,7 @@ quiet op.MakePipe is = refl
 quiet _ is = cc
 
 reads_not : (c : Op) (fd count : ℕ) → makes c ≡ true → c ≡ op.ReadFd fd count → ⊥
-reads_not c fd count is same = let no : makes (op.ReadFd fd count) ≡ true = ap makes (sym same) ∙ is in absurd (true≢false (sym no))
+reads_not c fd count is same = absurd (true≢false (sym (ap makes (sym same) ∙ is)))
 
 module _ (h : History) (seat line pid : ℕ) (c : Op) (is : makes c ≡ true) (few : length (with_entry h (record { seat = seat; line = line; pid = pid; op = c })).events ≤ 6800000) (t : Tracks)
     (are : AreTracks t h) where
@@ -41,11 +39,11 @@ module _ (h : History) (seat line pid : ℕ) (c : Op) (is : makes c ≡ true) (f
   e = record { seat = seat; line = line; pid = pid; op = c }
 
   silent : (d count k : ℕ) → e.op ≡ op.ReadFd d count → (next h e).reply ≡ reply.Bytes k → k ≡ 0
-  silent d count k reads gives = absurd (reads_not c d count is reads)
+  silent d count k reads gives = absurd (reads_not c d _ is reads)
 
   -- where nothing is made
   pub none_made : Stood (world_of h).frame (next h e).world.frame → AreTracks t (with_entry h e) × (lines_of_entry h e ≡ [])
-  none_made stood = unmoved h e few (quiet c is) silent t are stood (marks_made h seat line pid c is)
+  none_made stood = unmoved h e few (quiet c is) silent t are stood (marks_made h _ _ _ c is)
 
   -- where one is made
   pub one_made : (o : ℕ) → at (world_of h).frame.objects o ≡ None → OneNew (world_of h).frame (next h e).world.frame o → (new : Sides) → ((end : ℕ) → end < 2 → side_of new o end ≡ None)
@@ -66,13 +64,13 @@ made_by_call : (h : History) (pid : ℕ) (c : Op) → MakesOne c
     → ((is_answer (step (world_of h) (length h.events + 1) pid c).reply ≡ false) × Stood (world_of h).frame (step (world_of h) (length h.events + 1) pid c).world.frame)
     ⊎ MadeOne (world_of h).frame (step (world_of h) (length h.events + 1) pid c).reply (step (world_of h) (length h.events + 1) pid c).world.frame
 made_by_call h pid c (File path is) =
-    subst (λ (d : Op). ((is_answer (step (world_of h) (length h.events + 1) pid d).reply ≡ false) × Stood (world_of h).frame (step (world_of h) (length h.events + 1) pid d).world.frame)
+    subst (λ d. ((is_answer (step (world_of h) (length h.events + 1) pid d).reply ≡ false) × Stood (world_of h).frame (step (world_of h) (length h.events + 1) pid d).world.frame)
     ⊎ MadeOne (world_of h).frame (step (world_of h) (length h.events + 1) pid d).reply (step (world_of h) (length h.events + 1) pid d).world.frame) (sym is)
-    (created (world_of h) (length h.events + 1) pid path)
+    (created _ _ _ _)
 made_by_call h pid c (Dir path is) =
-    subst (λ (d : Op). ((is_answer (step (world_of h) (length h.events + 1) pid d).reply ≡ false) × Stood (world_of h).frame (step (world_of h) (length h.events + 1) pid d).world.frame)
+    subst (λ d. ((is_answer (step (world_of h) (length h.events + 1) pid d).reply ≡ false) × Stood (world_of h).frame (step (world_of h) (length h.events + 1) pid d).world.frame)
     ⊎ MadeOne (world_of h).frame (step (world_of h) (length h.events + 1) pid d).reply (step (world_of h) (length h.events + 1) pid d).world.frame) (sym is)
-    (made_dir (world_of h) (length h.events + 1) pid path)
+    (made_dir _ _ _ _)
 
 makes_one : (c : Op) → MakesOne c → makes c ≡ true
 makes_one c (File path is) = ap makes is
@@ -121,10 +119,9 @@ module _ (h : History) (seat line pid : ℕ) (few : length (with_entry h (record
     pipe_opened none = elim (piped (world_of h) (length h.events + 1) pid) [
       | inl refused ↦ true≢false (sym (ap is_answer told) ∙ refused.0)
       | inr made ↦
-          let there : Some (v made.entry) ≡ None = sym
+          true≢false (ap is_some (sym
           (ap (option_map v) (ap (λ (w : World). behind w.frame pid a.0) (world_of-push h piped_as)
-          ∙ ap (λ (d : Fd). behind (next h piped_as).world.frame pid d.0) (sym (first_is (sym made.told ∙ told))) ∙ made.is_behind)) ∙ none in
-          true≢false (ap is_some there)
+          ∙ ap (λ (d : Fd). behind (next h piped_as).world.frame pid d.0) (sym (first_is (sym made.told ∙ told))) ∙ made.is_behind)) ∙ none))
     ]
 
     pub pipe_made : (view : OpenView) → ((c : OpenFile) → (v c).obj.0 ≡ c.entry.object) → option_map v (behind (world_of (with_entry h piped_as)).frame pid a.0) ≡ Some view

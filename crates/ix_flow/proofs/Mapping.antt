@@ -1,14 +1,11 @@
 -- What is made of each thing held is made of it after each edit as before.
-use Rattle.std.proofs.Common.{◌≡◌, ◌+◌, ◌-◌, ◌==◌, nat_le, ℕ, zero, suc, Bool, true, false, not, ◌&&◌, List, [], ◌∷◌, ◌++◌, length, map, take, drop, replicate}
-use Rattle.std.proofs.Common.{Option, Some, None, is_some, if◌then◌else◌, refl, sym, ap, ◌∙◌, set}
-use Rattle.std.proofs.{Math.ListN.get_or-map, lemmas.List.{length-map, map-append, map-set, take-map, drop-map}}
-use Rattle.ix_model.specs.{world.World.{World, Frame, Content, HoldingOf, at}, rows.Walks.OpenFile, history.{Step.{Given, is_whole}, Events.Op}}
-use Rattle.ix_model.specs.declared.reply.Reply.{Reply}
+use Rattle.std.proofs.Common.{◌≡◌, ◌+◌, ◌-◌, nat_le, ℕ, zero, suc, Bool, true, false, List, [], ◌∷◌, ◌++◌, length, map, take, drop, replicate}
+use Rattle.std.proofs.{Common.{Option, Some, None, if◌then◌else◌, refl, sym, ap, ◌∙◌, set}, Math.ListN.get_or-map, lemmas.List.{length-map, map-append, map-set, take-map, drop-map}}
+use Rattle.ix_model.specs.{world.{World.{World, Frame, Content, HoldingOf}, Contents.written_over}, rows.Walks.OpenFile, history.{Step.Given, Events.Op}, declared.reply.Reply.Reply}
 use Rattle.ix_model.specs.world.Contents.{filled, held_at, keep, kept, nothing_held, offset_of, on_pipe, on_side, readable_in, resized, side, with_side}
-use Rattle.ix_model.specs.world.Contents.{written_over}
+use Rattle.ix_flow.specs.{Origins.each, Moves.{taken, put_there, cut_there, emptied_there, edited, moved}}
 use Rattle.ix_model.specs.history.Events as op
 use Rattle.ix_model.specs.declared.reply.Reply.TheVariants as reply
-use Rattle.ix_flow.specs.{Origins.each, Moves.{taken, put_there, cut_there, emptied_there, edited, moved}}
 
 module _ {A B : Type 0} (F : A → B) where
   -- ---- lists
@@ -17,11 +14,11 @@ module _ {A B : Type 0} (F : A → B) where
   replicate_map (suc n) x = ap (λ xs. F x ∷ xs) (replicate_map n x)
 
   filled_map : (gap : A) (n : ℕ) (xs : List A) → map F (filled gap n xs) ≡ filled (F gap) n (map F xs)
-  filled_map gap n xs = map-append F xs (replicate (n - length xs) gap) ∙ (λ i. map F xs ++ replicate_map (n - length xs) gap i)
+  filled_map gap n xs = map-append F xs _ ∙ (λ i. map F xs ++ replicate_map (n - length xs) gap i)
       ∙ ap (λ k. map F xs ++ replicate (n - k) (F gap)) (sym (length-map xs F))
 
   pub resized_map : (gap : A) (n : ℕ) (xs : List A) → map F (resized gap n xs) ≡ resized (F gap) n (map F xs)
-  resized_map gap n xs = sym (take-map F n (filled gap n xs)) ∙ ap (take n) (filled_map gap n xs)
+  resized_map gap n xs = sym (take-map F n _) ∙ ap (take n) (filled_map _ n xs)
 
   -- new ones among the old, after a gap where they begin past the end
   amid : {C : Type 0} → C → ℕ → List C → List C → List C
@@ -30,34 +27,33 @@ module _ {A B : Type 0} (F : A → B) where
   amid_map : (gap : A) (from : ℕ) (new old : List A) → map F (amid gap from new old) ≡ amid (F gap) from (map F new) (map F old)
   unfolding amid
   amid_map gap from new old =
-      let hole : List A = replicate (from - length old) gap in
-      map-append F (take from old) (hole ++ (new ++ drop (from + length new) old))
-      ∙ (λ i. sym (take-map F from old) i ++ (map-append F hole (new ++ drop (from + length new) old)
+      map-append F _ _
+      ∙ (λ i. sym (take-map F from old) i ++ (map-append F (replicate _ gap) (new ++ drop (from + length new) old)
       ∙ (λ j. replicate_map (from - length old) gap j ++ map-append F new (drop (from + length new) old) j)) i)
       ∙ (λ i. take from (map F old) ++ (replicate (from - sym (length-map old F) i) (F gap) ++
       (map F new ++ (sym (drop-map F (from + length new) old) ∙ ap (λ k. drop (from + k) (map F old)) (sym (length-map new F))) i)))
 
   pub over_map : (gap : A) (from : ℕ) (new old : List A) → map F (written_over gap from new old) ≡ written_over (F gap) from (map F new) (map F old)
   unfolding amid
-  over_map gap from new old = go (nat_le (length new) 0) ∙ (λ i. if nat_le (sym (length-map new F) i) 0 then map F old else amid (F gap) from (map F new) (map F old))
+  over_map gap from new old = go _ ∙ (λ i. if nat_le (sym (length-map new F) i) 0 then map F old else amid (F gap) from (map F new) (map F old))
     where
       go : (b : Bool) → map F (if b then old else amid gap from new old) ≡ (if b then map F old else amid (F gap) from (map F new) (map F old))
       go true = refl
-      go false = amid_map gap from new old
+      go false = amid_map _ from _ _
 
   -- ---- what is held
   pub held_map : (hs : List (HoldingOf A)) (o : ℕ) → held_at (map (each F) hs) o ≡ each F (held_at hs o)
-  held_map hs o = get_or-map (each F) hs o nothing_held
+  held_map hs o = get_or-map _ hs o nothing_held
 
   side_map : (end : ℕ) (h : HoldingOf A) → side end (each F h) ≡ map F (side end h)
-  side_map end h = go (end == 0)
+  side_map end h = go _
     where
       go : (b : Bool) → (if b then map F h.first else map F h.second) ≡ map F (if b then h.first else h.second)
       go true = refl
       go false = refl
 
   with_side_map : (end : ℕ) (now : List A) (h : HoldingOf A) → each F (with_side end now h) ≡ with_side end (map F now) (each F h)
-  with_side_map end now h = go (end == 0)
+  with_side_map end now h = go _
     where
       one : HoldingOf A
       one = record h { first = now }
@@ -76,12 +72,12 @@ module _ {A B : Type 0} (F : A → B) where
       go false = refl
 
   pub held_side : (hs : List (HoldingOf A)) (o end : ℕ) → side end (held_at (map (each F) hs) o) ≡ map F (side end (held_at hs o))
-  held_side hs o end = ap (side end) (held_map hs o) ∙ side_map end (held_at hs o)
+  held_side hs o end = ap (side end) (held_map hs o) ∙ side_map _ (held_at hs o)
 
   pub readable_map : (f : Frame) (offset : ℕ) (e : OpenFile) (hs : List (HoldingOf A)) → readable_in f offset e (map (each F) hs) ≡ map F (readable_in f offset e hs)
   readable_map f offset e hs =
-      let from : ℕ = if on_pipe f e then 0 else offset in
-      ap (drop from) (held_side hs e.entry.object e.entry.end) ∙ drop-map F from (side e.entry.end (held_at hs e.entry.object))
+      let from = if on_pipe f e then 0 else offset in
+      ap (drop from) (held_side hs _ _) ∙ drop-map F from _
 
   -- ---- edits
   keep_each : (p : ℕ → Bool) (k : ℕ) (xs : List (HoldingOf A)) → map (each F) (keep nothing_held p k xs) ≡ keep nothing_held p k (map (each F) xs)
@@ -94,15 +90,14 @@ module _ {A B : Type 0} (F : A → B) where
       go false = refl
 
   kept_map : (f g : Frame) (hs : List (HoldingOf A)) → map (each F) (kept f g hs) ≡ kept f g (map (each F) hs)
-  kept_map f g hs = keep_each (λ o. is_some (at f.objects o) && is_some (at g.objects o)) 0 hs
+  kept_map f g hs = keep_each _ 0 hs
 
   on_side_map : (o end : ℕ) (h : List A → List A) (k : List B → List B) (hs : List (HoldingOf A)) → ((xs : List A) → map F (h xs) ≡ k (map F xs))
       → map (each F) (on_side o end h hs) ≡ on_side o end k (map (each F) hs)
   on_side_map o end h k hs same =
-      let old : List A = side end (held_at hs o) in
-      let new : each F (with_side end (h old) (held_at hs o)) ≡ with_side end (k (side end (held_at (map (each F) hs) o))) (held_at (map (each F) hs) o) =
-      with_side_map end (h old) (held_at hs o) ∙ (λ i. with_side end ((same old ∙ ap k (sym (held_side hs o end))) i) (sym (held_map hs o) i)) in
-      map-set (each F) hs o (with_side end (h old) (held_at hs o)) ∙ ap (λ x. set (map (each F) hs) o x) new
+      let new =
+      with_side_map _ _ (held_at hs o) ∙ (λ i. with_side end ((same (side end (held_at hs o)) ∙ ap k (sym (held_side hs o end))) i) (sym (held_map hs o) i)) in
+      map-set _ hs o _ ∙ ap (λ x. set (map (each F) hs) o x) new
 
   either_map : (b : Bool) (x y : List (HoldingOf A)) (v w : List (HoldingOf B)) → map (each F) x ≡ v → map (each F) y ≡ w → map (each F) (if b then x else y) ≡ (if b then v else w)
   either_map true x y v w r s = r
@@ -110,37 +105,37 @@ module _ {A B : Type 0} (F : A → B) where
 
   taken_map : (f : Frame) (e : Option OpenFile) (r : Reply) (hs : List (HoldingOf A)) → map (each F) (taken f e r hs) ≡ taken f e r (map (each F) hs)
   unfolding taken
-  taken_map f (Some e) (reply.Bytes k) hs = either_map (on_pipe f e) _ _ _ _ (on_side_map e.entry.object e.entry.end (drop k) (drop k) hs (λ xs. sym (drop-map F k xs))) refl
+  taken_map f (Some e) (reply.Bytes k) hs = either_map _ _ _ _ _ (on_side_map _ _ _ (drop k) hs (λ xs. sym (drop-map F k xs))) refl
   taken_map f _ r hs = refl
 
   put_map : (gap : A) (f : Frame) (c : Content) (new : List A) (e : Option OpenFile) (r : Reply) (hs : List (HoldingOf A))
       → map (each F) (put_there gap f c new e r hs) ≡ put_there (F gap) f c (map F new) e r (map (each F) hs)
   unfolding put_there
-  put_map gap f c new (Some e) (reply.Number k) hs = either_map (on_pipe f e) _ _ _ _
-      (on_side_map e.entry.object (1 - e.entry.end) (λ old. old ++ new) (λ old. old ++ map F new) hs (λ xs. map-append F xs new))
-      (on_side_map e.entry.object e.entry.end (written_over gap (offset_of c e.id) new) (written_over (F gap) (offset_of c e.id) (map F new)) hs (λ xs. over_map gap (offset_of c e.id) new xs))
+  put_map gap f c new (Some e) (reply.Number k) hs = either_map _ _ _ _ _
+      (on_side_map _ (1 - e.entry.end) _ (λ old. old ++ map F new) hs (λ xs. map-append F xs new))
+      (on_side_map e.entry.object e.entry.end (written_over _ _ _) (written_over _ _ _) hs (λ xs. over_map gap (offset_of c e.id) new xs))
   put_map gap f c new _ r hs = refl
 
   cut_map : (gap : A) (len : ℕ) (e : Option OpenFile) (r : Reply) (hs : List (HoldingOf A)) → map (each F) (cut_there gap len e r hs) ≡ cut_there (F gap) len e r (map (each F) hs)
   unfolding cut_there
-  cut_map gap len (Some e) reply.Done hs = on_side_map e.entry.object e.entry.end (resized gap len) (resized (F gap) len) hs (λ xs. resized_map gap len xs)
+  cut_map gap len (Some e) reply.Done hs = on_side_map _ e.entry.end (resized gap len) (resized (F gap) len) hs (λ xs. resized_map gap len xs)
   cut_map gap len _ r hs = refl
 
   emptied_map : (f g : Frame) (e : Option OpenFile) (hs : List (HoldingOf A)) → map (each F) (emptied_there f g e hs) ≡ emptied_there f g e (map (each F) hs)
   unfolding emptied_there
-  emptied_map f g (Some e) hs = either_map (is_whole g e.entry.object && not (is_whole f e.entry.object)) _ _ _ _ (map-set (each F) hs e.entry.object nothing_held) refl
+  emptied_map f g (Some e) hs = either_map _ _ _ _ _ (map-set _ hs e.entry.object nothing_held) refl
   emptied_map f g None hs = refl
 
   edited_map : (gap : A) (new : List A) (w : World) (pid : ℕ) (o : Op) (given : Given) (hs : List (HoldingOf A))
       → map (each F) (edited gap new w pid o given hs) ≡ edited (F gap) (map F new) w pid o given (map (each F) hs)
   unfolding edited
-  edited_map gap new w pid (op.ReadFd fd count) given hs = taken_map w.frame _ given.reply hs
-  edited_map gap new w pid (op.WriteFd fd bytes) given hs = put_map gap w.frame _ new _ given.reply hs
-  edited_map gap new w pid (op.CutFd fd len) given hs = cut_map gap len _ given.reply hs
-  edited_map gap new w pid (op.Pex fd) given hs = emptied_map w.frame given.world.frame _ hs
+  edited_map gap new w pid (op.ReadFd fd count) given hs = taken_map _ _ _ hs
+  edited_map gap new w pid (op.WriteFd fd bytes) given hs = put_map _ _ _ _ _ _ hs
+  edited_map gap new w pid (op.CutFd fd len) given hs = cut_map _ _ _ _ hs
+  edited_map gap new w pid (op.Pex fd) given hs = emptied_map _ _ _ hs
   edited_map gap new w pid o given hs = refl
 
   -- so it is for a whole call
   pub moved_map : (gap : A) (new : List A) (w : World) (pid : ℕ) (o : Op) (given : Given) (hs : List (HoldingOf A))
       → map (each F) (moved gap new w pid o given hs) ≡ moved (F gap) (map F new) w pid o given (map (each F) hs)
-  moved_map gap new w pid o given hs = edited_map gap new w pid o given (kept w.frame given.world.frame hs) ∙ ap (edited (F gap) (map F new) w pid o given) (kept_map w.frame given.world.frame hs)
+  moved_map gap new w pid o given hs = edited_map _ _ w _ o _ _ ∙ ap (edited (F gap) (map F new) w pid o given) (kept_map w.frame given.world.frame hs)

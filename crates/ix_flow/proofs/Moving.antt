@@ -1,15 +1,12 @@
 -- What a step does to the bytes that objects hold is what a call does to whatever they hold.
-use Rattle.std.proofs.Common.{◌≡◌, ℕ, zero, suc, Bool, true, false, not, ◌&&◌, List, [], ◌∷◌, length, take, Option, Some, None, if◌then◌else◌, refl, sym, ap}
-use Rattle.std.proofs.Common.{◌∙◌, set}
-use Rattle.ix_model.{specs.world.World.{World, Frame, Content, Holding, is_ended, at}, specs.rows.Walks.{OpenFile, behind}, specs.history.Events.Op}
-use Rattle.ix_model.{specs.declared.reply.Reply.Reply, proofs.words.Answered.step_frame}
-use Rattle.ix_model.specs.world.Contents.{after_cut, after_exit, after_read, after_seek, after_write, carried, emptied, kept, on_pipe, readable}
+use Rattle.std.proofs.Common.{◌≡◌, ℕ, zero, suc, Bool, true, false, not, ◌&&◌, List, [], ◌∷◌, length, take, Option, Some, None, if◌then◌else◌, refl, sym, ap, ◌∙◌, set}
+use Rattle.ix_model.{specs.{world.World.{World, Frame, Content, Holding}, rows.Walks.{OpenFile, behind}, history.Events.Op, declared.reply.Reply.Reply}, proofs.words.Answered.step_frame}
+use Rattle.ix_model.specs.{world.Contents.{after_cut, after_exit, after_read, after_seek, after_write, carried, emptied, kept, on_pipe, readable}, history.Step.{pex_answer, is_whole}}
 use Rattle.ix_model.specs.history.Step.{answer, step, plainly, read_answer, write_answer, cut_answer, seek_answer, stat_answer, exit_answer, wait_answer}
-use Rattle.ix_model.specs.history.Step.{pex_answer, is_whole}
+use Rattle.ix_flow.specs.Moves.{taken, put_there, cut_there, emptied_there, edited, moved, bytes_written}
 use Rattle.ix_model.specs.history.Events as op
 use Rattle.ix_model.specs.declared.reply.Kind.TheVariants as kind
 use Rattle.ix_model.specs.declared.reply.Reply.TheVariants as reply
-use Rattle.ix_flow.specs.Moves.{taken, put_there, cut_there, emptied_there, edited, moved, bytes_written}
 
 either_held : (b : Bool) (x y : Content) (v w : List Holding) → x.holdings ≡ v → y.holdings ≡ w → (if b then x else y).holdings ≡ (if b then v else w)
 either_held true x y v w r s = r
@@ -41,7 +38,7 @@ cut_held w len _ r g = refl
 pex_held : (w : World) (b : Option OpenFile) (r : Reply) (g : Frame)
     → (pex_answer w b r g).world.content.holdings ≡ emptied_there w.frame (pex_answer w b r g).world.frame b (kept w.frame g w.content.holdings)
 unfolding pex_answer plainly emptied emptied_there carried
-pex_held w (Some e) r g = either_held (is_whole g e.entry.object && not (is_whole w.frame e.entry.object)) _ _ _ _ refl refl
+pex_held w (Some e) r g = either_held (is_whole g e.entry.object && not _) _ _ _ _ refl refl
 pex_held w None r g = refl
 
 seek_held : (w : World) (offset : ℕ) (b : Option OpenFile) (r : Reply) (g : Frame) → (seek_answer w offset b r g).world.content.holdings ≡ kept w.frame g w.content.holdings
@@ -56,7 +53,7 @@ stat_held w r g = refl
 
 exit_held : (w : World) (pid status : ℕ) (r : Reply) (g : Frame) → (exit_answer w pid status r g).world.content.holdings ≡ kept w.frame g w.content.holdings
 unfolding exit_answer plainly after_exit carried
-exit_held w pid status reply.Done g = go (is_ended (at g.processes pid))
+exit_held w pid status reply.Done g = go _
   where
     c : Content
     c = carried w.frame g w.content
@@ -73,18 +70,18 @@ wait_held w r g = refl
 
 pub step_held : (w : World) (place pid : ℕ) (o : Op) → (step w place pid o).world.content.holdings ≡ moved 0 (bytes_written o) w pid o (step w place pid o) w.content.holdings
 unfolding step answer edited plainly carried
-step_held w place pid (op.ReadFd fd count) = read_held w count _ _ _
+step_held w place pid (op.ReadFd fd count) = read_held w _ _ _ _
     ∙ ap (λ g. taken w.frame (behind w.frame pid fd) (step w place pid (op.ReadFd fd count)).reply (kept w.frame g w.content.holdings)) (sym (step_frame w place pid (op.ReadFd fd count)))
-step_held w place pid (op.WriteFd fd bytes) = write_held w bytes _ _ _
+step_held w place pid (op.WriteFd fd bytes) = write_held w _ _ _ _
     ∙ ap (λ g. put_there 0 w.frame (carried w.frame (step w place pid (op.WriteFd fd bytes)).world.frame w.content) bytes (behind w.frame pid fd) (step w place pid (op.WriteFd fd bytes)).reply
     (kept w.frame g w.content.holdings)) (sym (step_frame w place pid (op.WriteFd fd bytes)))
-step_held w place pid (op.CutFd fd len) = cut_held w len _ _ _
+step_held w place pid (op.CutFd fd len) = cut_held w _ _ _ _
     ∙ ap (λ g. cut_there 0 len (behind w.frame pid fd) (step w place pid (op.CutFd fd len)).reply (kept w.frame g w.content.holdings)) (sym (step_frame w place pid (op.CutFd fd len)))
 step_held w place pid (op.Pex fd) = pex_held w _ _ _
     ∙ ap (λ g. emptied_there w.frame (step w place pid (op.Pex fd)).world.frame (behind w.frame pid fd) (kept w.frame g w.content.holdings)) (sym (step_frame w place pid (op.Pex fd)))
-step_held w place pid (op.SeekFd fd offset) = seek_held w offset _ _ _ ∙ ap (λ g. kept w.frame g w.content.holdings) (sym (step_frame w place pid (op.SeekFd fd offset)))
+step_held w place pid (op.SeekFd fd offset) = seek_held w _ _ _ _ ∙ ap (λ g. kept w.frame g w.content.holdings) (sym (step_frame w place pid (op.SeekFd fd offset)))
 step_held w place pid (op.StatAt path) = stat_held w _ _ ∙ ap (λ g. kept w.frame g w.content.holdings) (sym (step_frame w place pid (op.StatAt path)))
-step_held w place pid (op.Exit status) = exit_held w pid status _ _ ∙ ap (λ g. kept w.frame g w.content.holdings) (sym (step_frame w place pid (op.Exit status)))
+step_held w place pid (op.Exit status) = exit_held w _ _ _ _ ∙ ap (λ g. kept w.frame g w.content.holdings) (sym (step_frame w place pid (op.Exit status)))
 step_held w place pid op.WaitChild = wait_held w _ _ ∙ ap (λ g. kept w.frame g w.content.holdings) (sym (step_frame w place pid op.WaitChild))
 step_held w place pid o = refl
 
@@ -102,7 +99,7 @@ front_of w _ r = []
 
 read_bytes : (w : World) (count : ℕ) (b : Option OpenFile) (r : Reply) (g : Frame) → (read_answer w count b r g).bytes ≡ front_of w b (read_answer w count b r g).reply
 unfolding read_answer plainly
-read_bytes w count (Some e) (reply.Bytes k) g = sym (take_short (readable w.frame w.content e) count)
+read_bytes w count (Some e) (reply.Bytes k) g = sym (take_short _ _)
 read_bytes w count b r g = refl
 
 -- what a call reads, as bytes
@@ -147,12 +144,12 @@ pex_bytes w None r g = refl
 
 pub step_bytes : (w : World) (place pid : ℕ) (o : Op) → (step w place pid o).bytes ≡ fronts w pid o (step w place pid o).reply
 unfolding step answer plainly
-step_bytes w place pid (op.ReadFd fd count) = read_bytes w count _ _ _
-step_bytes w place pid (op.WriteFd fd bytes) = write_bytes w bytes _ _ _
-step_bytes w place pid (op.CutFd fd len) = cut_bytes w len _ _ _
-step_bytes w place pid (op.SeekFd fd offset) = seek_bytes w offset _ _ _
+step_bytes w place pid (op.ReadFd fd count) = read_bytes w _ _ _ _
+step_bytes w place pid (op.WriteFd fd bytes) = write_bytes w _ _ _ _
+step_bytes w place pid (op.CutFd fd len) = cut_bytes w _ _ _ _
+step_bytes w place pid (op.SeekFd fd offset) = seek_bytes w _ _ _ _
 step_bytes w place pid (op.StatAt path) = stat_bytes w _ _
-step_bytes w place pid (op.Exit status) = exit_bytes w pid status _ _
+step_bytes w place pid (op.Exit status) = exit_bytes w _ _ _ _
 step_bytes w place pid op.WaitChild = wait_bytes w _ _
 step_bytes w place pid (op.Pex fd) = pex_bytes w _ _ _
 step_bytes w place pid o = refl

@@ -1,24 +1,22 @@
 -- Which objects are new after an entry: those that a making call tells.
-use Rattle.std.proofs.Common.{◌≡◌, ◌≢◌, ◌<◌, ℕ, Bool, true, false, true≢false, List, length, Option, Some, None, is_some, option_map, refl, sym, ap, ◌∙◌, subst}
-use Rattle.std.proofs.Common.{◌⊎◌, inl, inr}
+use Rattle.std.proofs.Common.{◌≡◌, ◌≢◌, ◌<◌, ℕ, Bool, true, false, true≢false, List, length, Option, Some, None, is_some, option_map, refl, sym, ap, ◌∙◌, subst, ◌⊎◌, inl, inr}
 use Rattle.std.{specs.List.list_all, proofs.lemmas.List.{get_or-set_same, get_or-set_other}}
 use Rattle.ix_label.specs.Category.{Categories, bottom}
 use Rattle.ix_model.specs.world.{Naming.PathOf, World.{Frame, World, Object, Process, Open, at, put, change, living, lowest_free}, Numbers.free_pipe}
-use Rattle.ix_model.specs.{rows.Walks.{OpenFile, behind, behind_of, entry_at, missing, walked_to}, rows.OnPaths.{make, create_at, make_dir, new_object}}
-use Rattle.ix_model.specs.{rows.Refusals.keeps_label, rows.OnProcesses.end_process, rows.OnDescriptors.{LengthChecks, make_pipe, pipe_end}, rows.Telling.told}
-use Rattle.ix_model.specs.{rows.Auditing.logged, rows.Table.{row, verdict}, history.{AuditLog.is_answer, Step.{step, answer, plainly}, Events.Op}}
+use Rattle.ix_model.specs.rows.{Walks.{OpenFile, behind, behind_of, entry_at, missing, walked_to}, OnPaths.{make, create_at, make_dir, new_object}}
+use Rattle.ix_model.{specs.rows.{Refusals.keeps_label, OnProcesses.end_process, OnDescriptors.{LengthChecks, make_pipe, pipe_end}, Telling.told}, proofs.refused.RefusedSteps.refused_step}
+use Rattle.ix_model.specs.{rows.{Auditing.logged, Table.{row, verdict}}, history.{AuditLog.is_answer, Step.{step, answer, plainly}, Events.Op}}
 use Rattle.ix_model.specs.{laws.Laws.Refused, declared.{audit.AuditLine.AuditLine, ids.Fd.Fd, refusal.Refusal.Refusal, reply.{Kind.Kind, Reply.Reply}}}
 use Rattle.ix_model.specs.rows.Rows.{change_object, change_process, change_open, put_object, put_open, put_process, add_process, affect, observe}
+use Rattle.ix_model.proofs.tables.{Finds.{at_put, at_change}, FreeNumbers.{free_inode_is, free_pipe_is, lowest_free_is}, Tables.at_changed}
+use Rattle.ix_model.proofs.words.{Living.{is_living, not_ended, lives_as}, Endings.ends_put_object, Keeps.{Holds, Keeps, keeping}}
+use Rattle.ix_model.proofs.words.{Rowwise.{Change, Making, Words, changes_of, kept_row}, Lasts.decided, Answered.{step_frame, passed}}
+use Rattle.ix_model.proofs.words.Ends.{Ends, Anything, ends_kept, ends_bind, ends_then, ends_pass, ends_frame, ends_need, ends_some, ends_caller, ends_object}
+use Rattle.ix_model.proofs.words.Ends.{ends_change_object, ends_change_caller, ends_put_open}
 use Rattle.ix_model.specs.history.Events as op
 use Rattle.ix_model.specs.declared.call.Mode.TheVariants as mode
 use Rattle.ix_model.specs.declared.reply.Kind.TheVariants as kind
 use Rattle.ix_model.specs.declared.reply.Reply.TheVariants as reply
-use Rattle.ix_model.proofs.tables.{Finds.{at_put, at_change}, FreeNumbers.{free_inode_is, free_pipe_is, lowest_free_is}, Tables.at_changed}
-use Rattle.ix_model.proofs.{words.Living.{is_living, not_ended, lives_as}, words.Endings.ends_put_object, words.Keeps.{Holds, Keeps, keeping}}
-use Rattle.ix_model.proofs.{words.Rowwise.{Change, Making, Words, changes_of, kept_row}, words.Lasts.decided, words.Answered.{step_frame, passed}}
-use Rattle.ix_model.proofs.refused.RefusedSteps.{refused_step}
-use Rattle.ix_model.proofs.words.Ends.{Ends, Anything, ends_kept, ends_bind, ends_then, ends_pass, ends_frame, ends_need, ends_some, ends_caller, ends_object}
-use Rattle.ix_model.proofs.words.Ends.{ends_change_object, ends_change_caller, ends_put_open}
 
 -- what stands in the second frame stood in the first
 pub record Stood (f g : Frame) : Type 0 where
@@ -32,8 +30,8 @@ module _ (f : Frame) where
   unfolding change_object Holds
   stood_changed o h = record {
     led = λ g r. record {
-      objects = λ n x is. elim (at_change g.objects o h n x is) [
-        | inl c ↦ r.objects n c.was (ap (at g.objects) c.here ∙ c.is_was)
+      objects = λ n x is. elim (at_change _ o h n x is) [
+        | inl c ↦ r.objects n c.was (ap (at _) c.here ∙ c.is_was)
         | inr other ↦ r.objects n x other.1
       ];
     };
@@ -43,8 +41,8 @@ module _ (f : Frame) where
   unfolding put_object Holds
   stood_gone o = record {
     led = λ g r. record {
-      objects = λ n x is. elim (at_put g.objects o n None x is) [
-        | inl c ↦ let e : ◌≡◌ {A = Option Object} None (Some x) = c.1 in cc
+      objects = λ n x is. elim (at_put _ o n _ x is) [
+        | inl c ↦ cc
         | inr other ↦ r.objects n x other.1
       ];
     };
@@ -87,7 +85,7 @@ stood_words : (pid : ℕ) (f : Frame) → Words makes_none pid (Stood f)
 stood_words pid f = record {
   object = λ o h same. stood_changed f o h;
   process = λ p h same. stood_process f p h;
-  float = λ h same. stood_process f pid h;
+  float = λ h same. stood_process f _ h;
   entry = λ e x low. stood_open f e (Some x);
   through = λ can e l. stood_through f e _;
   unclaim = λ o end. stood_changed f o _;
@@ -104,11 +102,11 @@ stood_words pid f = record {
 }
 
 stood_decided : (t : LengthChecks) (place pid : ℕ) (c : Op) (f : Frame) → list_all makes_none (changes_of c) ≡ true → Stood f (verdict t place pid c f).frame
-stood_decided t place pid c f makes = decided (Stood f) t place pid c f (stood_itself f) ((kept_row makes_none pid (Stood f) (stood_words pid f) t place c makes).led f (stood_itself f))
+stood_decided t place pid c f makes = decided (Stood f) t place pid c f (stood_itself f) ((kept_row _ _ _ (stood_words _ f) t _ c makes).led f (stood_itself f))
 
 -- a call that makes nothing
 pub stood_step : (w : World) (place pid : ℕ) (c : Op) → list_all makes_none (changes_of c) ≡ true → Stood w.frame (step w place pid c).world.frame
-stood_step w place pid c makes = subst (λ (g : Frame). Stood w.frame g) (sym (step_frame w place pid c)) (stood_decided (told w pid c) place pid c w.frame makes)
+stood_step w place pid c makes = subst (λ g. Stood w.frame g) (sym (step_frame w _ _ c)) (stood_decided _ _ _ c _ makes)
 
 -- ---- what makes
 -- what stands in the second frame, but at one number, stood in the first
@@ -116,15 +114,15 @@ pub record OneNew (f g : Frame) (o : ℕ) : Type 0 where
   pub objects : (n : ℕ) (x : Object) → at g.objects n ≡ Some x → (n ≡ o) ⊎ (is_some (at f.objects n) ≡ true)
 
 one_put : (f h : Frame) (o : ℕ) (y : Object) → Stood f h → (n : ℕ) (x : Object) → at (put h.objects o (Some y)) n ≡ Some x → (n ≡ o) ⊎ (is_some (at f.objects n) ≡ true)
-one_put f h o y r n x is = elim (at_put h.objects o n (Some y) x is) [
+one_put f h o y r n x is = elim (at_put _ o n _ x is) [
   | inl here ↦ inl here.0
   | inr old ↦ inr (r.objects n x old.1)
 ]
 
 one_named : (f h : Frame) (o d : ℕ) (y : Object) (k : Object → Object) → Stood f h → OneNew f (record h { objects = change (put h.objects o (Some y)) d k }) o
 one_named f h o d y k r = record {
-  objects = λ n x is. elim (at_change (put h.objects o (Some y)) d k n x is) [
-    | inl c ↦ one_put f h o y r n c.was (ap (at (put h.objects o (Some y))) c.here ∙ c.is_was)
+  objects = λ n x is. elim (at_change _ d k n x is) [
+    | inl c ↦ one_put f h o y r n _ (ap (at _) c.here ∙ c.is_was)
     | inr other ↦ one_put f h o y r n x other.1
   ];
 }
@@ -166,16 +164,16 @@ stood_affected f pid o l = search (keeping, stood_changed) depth 30
 makes : (pid : ℕ) (path : PathOf) (kind : Kind) (f : Frame) → Ends (make pid path kind f) Anything (MadeOne f)
 unfolding make
 makes pid path kind f =
-    let Q : Reply → Frame → Type 0 = MadeOne f in
-    ends_bind _ _ f Anything Q (ends_kept (SameObjects f) (missing pid path f) Anything _ ((looked_missing f pid path).led f refl) (λ r g kept. tt) (λ d g kept.
-    ends_bind _ _ g Anything Q (ends_object d g Anything _ (λ x here.
-    ends_bind _ _ g Anything Q (ends_frame g Anything _ (
-    ends_bind _ _ g Anything Q (ends_some _ _ g Anything _ (λ o free.
-    ends_then _ _ g Anything Q (ends_need _ _ g Anything _ (λ room.
-    ends_then _ _ g Anything Q (ends_kept (Stood f) (affect pid d bottom g) Anything _ ((stood_affected f pid d bottom).led g (stood_same f g kept)) (λ r h still. tt) (λ u h still.
-    ends_then _ _ h Anything Q (ends_put_object o _ h Anything _ (
-    ends_then _ _ _ Anything Q (ends_change_object d _ _ Anything _ (
-    ends_pass _ _ Anything Q (record { object = o; told = refl; free = ap (λ t. at t o) (sym kept) ∙ (free_inode_is g _ o free).free; new = one_named f h o d _ _ still }))))))))
+    let Q = MadeOne f in
+    ends_bind _ _ f _ Q (ends_kept _ (missing _ path f) _ _ ((looked_missing f _ _).led f refl) (λ r g kept. tt) (λ d g kept.
+    ends_bind _ _ g _ Q (ends_object d g _ _ (λ x here.
+    ends_bind _ _ g _ Q (ends_frame g _ _ (
+    ends_bind _ _ g _ Q (ends_some _ _ g _ _ (λ o free.
+    ends_then _ _ g _ Q (ends_need _ _ g _ _ (λ room.
+    ends_then _ _ g _ Q (ends_kept _ (affect pid d bottom g) _ _ ((stood_affected f _ d _).led g (stood_same f g kept)) (λ r h still. tt) (λ u h still.
+    ends_then _ _ h _ Q (ends_put_object o _ h _ _ (
+    ends_then _ _ _ _ Q (ends_change_object d _ _ _ _ (
+    ends_pass _ _ _ Q (record { object = o; told = refl; free = ap (λ t. at t o) (sym kept) ∙ (free_inode_is g _ o free).free; new = one_named f h o d _ _ still }))))))))
     tt)) tt)))) tt)))
 
 -- a pipe, which stands behind the first of the two descriptors that the reply tells
@@ -191,35 +189,34 @@ pub record MadePipe (pid : ℕ) (f : Frame) (r : Reply) (g : Frame) : Type 0 whe
 -- the second of two free numbers isn't the first
 free_apart : {A : Type 0} (t : List (Option A)) (d e : ℕ) (x : A) → lowest_free t ≡ Some d → lowest_free (put t d (Some x)) ≡ Some e → d ≢ e
 free_apart t d e x first second = λ same.
-    let inside = (lowest_free_is t d first).0 in
-    let none = (lowest_free_is (put t d (Some x)) e second).1 in
-    let z : Some x ≡ None = sym (get_or-set_same t d (Some x) None inside) ∙ ap (at (put t d (Some x))) same ∙ none in
+    let none = (lowest_free_is _ e second).1 in
+    let z = sym (get_or-set_same t d _ None ((lowest_free_is t d first).0)) ∙ ap (at _) same ∙ none in
     absurd (true≢false (ap is_some z))
 
 first_of_two : {A : Type 0} (t : List (Option A)) (d e : ℕ) (x y : A) → d < length t → d ≢ e → at (put (put t d (Some x)) e (Some y)) d ≡ Some x
-first_of_two t d e x y inside apart = get_or-set_other (put t d (Some x)) e d (Some y) None apart ∙ get_or-set_same t d (Some x) None inside
+first_of_two t d e x y inside apart = get_or-set_other _ e d _ None apart ∙ get_or-set_same t d _ None inside
 
 seen_behind : (g : Frame) (pid fd d : ℕ) (p : Process) (y : Open) → living (at g.processes pid) ≡ Some p → at p.fds fd ≡ Some d → at g.opens d ≡ Some y
     → behind g pid fd ≡ Some (record { id = d; entry = y })
 unfolding behind
-seen_behind g pid fd d p y lives descriptor is = ap (λ q. behind_of q g fd) lives ∙ ap (entry_at g) descriptor ∙ ap (option_map (λ x. let b : OpenFile = record { id = d; entry = x } in b)) is
+seen_behind g pid fd d p y lives descriptor is = ap (λ q. behind_of q g fd) lives ∙ ap (entry_at g) descriptor ∙ ap (option_map (λ x. record { id = d; entry = x })) is
 
 pipes : (pid : ℕ) (f : Frame) → Ends (make_pipe pid f) Anything (MadePipe pid f)
 unfolding make_pipe
 pipes pid f =
-    let Q : Reply → Frame → Type 0 = MadePipe pid f in
-    ends_bind _ _ f Anything Q (ends_frame f Anything _ (
-    ends_bind _ _ f Anything Q (ends_some _ _ f Anything _ (λ o free.
-    ends_bind _ _ f Anything Q (ends_caller pid f Anything _ (λ p lives.
-    ends_bind _ _ f Anything Q (ends_some _ _ f Anything _ (λ a one.
-    ends_bind _ _ f Anything Q (ends_some _ _ f Anything _ (λ b two.
-    ends_bind _ _ f Anything Q (ends_some _ _ f Anything _ (λ d three.
-    ends_bind _ _ f Anything Q (ends_some _ _ f Anything _ (λ e four.
-    ends_then _ _ f Anything Q (ends_put_object o _ f Anything _ (
-    ends_then _ _ _ Anything Q (ends_put_open d _ _ Anything _ (
-    ends_then _ _ _ Anything Q (ends_put_open e _ _ Anything _ (
-    ends_then _ _ _ Anything Q (ends_change_caller pid _ _ Anything _ (
-    ends_pass _ _ Anything Q (piped o p a b d e free lives one two three four))))))))))
+    let Q = MadePipe pid f in
+    ends_bind _ _ f _ Q (ends_frame f _ _ (
+    ends_bind _ _ f _ Q (ends_some _ _ f _ _ (λ o free.
+    ends_bind _ _ f _ Q (ends_caller _ f _ _ (λ p lives.
+    ends_bind _ _ f _ Q (ends_some _ _ f _ _ (λ a one.
+    ends_bind _ _ f _ Q (ends_some _ _ f _ _ (λ b two.
+    ends_bind _ _ f _ Q (ends_some _ _ f _ _ (λ d three.
+    ends_bind _ _ f _ Q (ends_some _ _ f _ _ (λ e four.
+    ends_then _ _ f _ Q (ends_put_object o _ f _ _ (
+    ends_then _ _ _ _ Q (ends_put_open d _ _ _ _ (
+    ends_then _ _ _ _ Q (ends_put_open e _ _ _ _ (
+    ends_then _ _ _ _ Q (ends_change_caller _ _ _ _ _ (
+    ends_pass _ _ _ Q (piped o p a b d e free lives one two three four))))))))))
     tt)) tt)) tt)) tt)) tt)) tt)))
   where
     open_end : ℕ → ℕ → Open
@@ -239,10 +236,10 @@ pipes pid f =
           second = record { 0 = b };
           told = refl;
           entry = record { id = d; entry = open_end o 0 };
-          is_behind = seen_behind _ pid a d (more p) (open_end o 0)
-              (lives_as _ (more p) (at_changed f.processes pid more ∙ ap (option_map more) (is_living _ p lives)) (not_ended _ p lives))
-              (first_of_two p.fds a b d e (lowest_free_is p.fds a one).0 (free_apart p.fds a b 0 one two))
-              (first_of_two f.opens d e (open_end o 0) (open_end o 1) (lowest_free_is f.opens d three).0 (free_apart f.opens d e (open_end o 0) three four));
+          is_behind = seen_behind _ _ a d _ _
+              (lives_as _ _ (at_changed f.processes _ _ ∙ ap (option_map more) (is_living _ p lives)) (not_ended _ p lives))
+              (first_of_two _ a b d e (lowest_free_is _ a one).0 (free_apart _ a b 0 one two))
+              (first_of_two _ d e _ _ (lowest_free_is _ d three).0 (free_apart _ d e _ three four));
           free = (free_pipe_is f o free).free;
           new = record { objects = λ n x is. one_put f f o _ (stood_itself f) n x is };
         }
@@ -250,11 +247,11 @@ pipes pid f =
 -- ---- the step
 -- a refusal makes nothing
 refused_stands : (w v : World) (pid : ℕ) (c : Op) (r : Refusal) → Refused w pid c r v → Stood w.frame v.frame
-refused_stands w v pid c r left = go (keeps_label r) refl
+refused_stands w v pid c r left = go _ refl
   where
     go : (b : Bool) → keeps_label r ≡ b → Stood w.frame v.frame
-    go true is = subst (λ (g : Frame). Stood w.frame g) (sym (left.label is)) (record { objects = λ o x here. ap is_some here })
-    go false is = subst (λ (g : Frame). Stood w.frame g) (sym (left.kept is)) (stood_itself w.frame)
+    go true is = subst (λ g. Stood w.frame g) (sym (left.label is)) (record { objects = λ o x here. ap is_some here })
+    go false is = subst (λ g. Stood w.frame g) (sym (left.kept is)) (stood_itself _)
 
 refusal_of : (r : Reply) → is_answer r ≡ false → (why : Refusal) × (r ≡ reply.No why)
 refusal_of (reply.No why) none = (why, refl)
@@ -264,14 +261,14 @@ module _ (w : World) (place pid : ℕ) where
   -- a call that tells what it makes where it passes, and else makes nothing
   by_answer : (c : Op) (K : Reply → Frame → Type 0) → (step w place pid c).reply ≡ (verdict (told w pid c) place pid c w.frame).reply → Ends (row (told w pid c) place pid c w.frame) Anything K
       → ((is_answer (step w place pid c).reply ≡ false) × Stood w.frame (step w place pid c).world.frame) ⊎ K (step w place pid c).reply (step w place pid c).world.frame
-  by_answer c K same ends = go (is_answer (step w place pid c).reply) refl
+  by_answer c K same ends = go _ refl
     where
       go : (b : Bool) → is_answer (step w place pid c).reply ≡ b
           → ((is_answer (step w place pid c).reply ≡ false) × Stood w.frame (step w place pid c).world.frame) ⊎ K (step w place pid c).reply (step w place pid c).world.frame
-      go true is = inr (subst (λ (r : Reply). K r (step w place pid c).world.frame) (sym same)
-          (subst (λ (g : Frame). K (verdict (told w pid c) place pid c w.frame).reply g) (sym (step_frame w place pid c))
-          (passed (told w pid c) place pid c w.frame K ends (ap is_answer (sym same) ∙ is))))
-      go false is = let no = refusal_of _ is in inl (is, refused_stands w (step w place pid c).world pid c no.0 (refused_step w place pid c no.0 no.1))
+      go true is = inr (subst (λ r. K r (step w place pid c).world.frame) (sym same)
+          (subst (λ g. K (verdict (told w pid c) place pid c w.frame).reply g) (sym (step_frame w _ _ c))
+          (passed _ _ _ c _ K ends (ap is_answer (sym same) ∙ is))))
+      go false is = inl (is, refused_stands w _ _ c _ (refused_step w _ _ c _ (refusal_of _ is).1))
 
   pub created : (path : PathOf) → ((is_answer (step w place pid (op.CreateAt path)).reply ≡ false) × Stood w.frame (step w place pid (op.CreateAt path)).world.frame)
       ⊎ MadeOne w.frame (step w place pid (op.CreateAt path)).reply (step w place pid (op.CreateAt path)).world.frame

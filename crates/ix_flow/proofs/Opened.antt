@@ -1,20 +1,19 @@
 -- What tracks stand for before the first entry.
-use Rattle.std.proofs.Common.{◌≡◌, ◌≢◌, ◌<◌, ◌+◌, ◌*◌, ℕ, zero, suc, get_or, replicate, Bool, true, false, List, [], ◌∷◌, length, Option, Some, None, is_some}
+use Rattle.std.proofs.Common.{◌≡◌, ◌<◌, ◌+◌, ◌*◌, ℕ, zero, suc, get_or, replicate, Bool, true, false, List, [], ◌∷◌, length, Option, Some, None, is_some}
 use Rattle.std.proofs.Common.{option_map, if◌then◌else◌, refl, sym, ap, ◌∙◌, subst, arith, inl, inr}
 use Rattle.std.{specs.{Prelude.slice_get, BTreeMap.get, Ordering.nat_cmp, Option.{option_map_or, option_and_then}}, proofs.lemmas.Bool.Decides.eqb_tells}
 use Rattle.ix_label.specs.Category.{Categories, bottom}
-use Rattle.ix_model.specs.{laws.Sound.Sound, opening.Opening.{bare_objects, bare_world, opening_world, placed, with_object, with_objects}}
-use Rattle.ix_model.specs.world.{World.{World, HoldingOf, Holding, Object, at, is_dir}, Contents.{held_at, holding_of, holds_nothing, nothing_held, side}}
+use Rattle.ix_model.specs.{laws.Sound.Sound, opening.Opening.{bare_world, opening_world, placed, with_object, with_objects}}
+use Rattle.ix_model.specs.world.{World.{World, Holding, Object, at, is_dir}, Contents.{held_at, holding_of, holds_nothing, side}}
 use Rattle.ix_model.specs.history.{AuditLog.label_at, History.{History, world_of}, Views.{has_side, size_at, view_of}}
 use Rattle.ix_model.specs.declared.{config.{Config.Config, ObjSpec.ObjSpec}, reply.Kind.Kind, views.ObjView.ObjView}
-use Rattle.ix_model.specs.declared.reply.Kind.TheVariants as kind
 use Rattle.ix_model.proofs.{sound.{Carried.there_is, Lengths.set_either}, tables.Finds.in_table, words.Runs.world_of-none}
-use Rattle.ix_flow.specs.{Origins.{InConfig, Marked, Origin, marked_from, origins_of}, Lowerings.label_of, Marks.marks_of}
-use Rattle.ix_flow.specs.Sides.{IsLike, StandsIn, numbered, origin_at, source_in}
+use Rattle.ix_flow.specs.{Origins.{InConfig, Origin, marked_from, origins_of}, Lowerings.label_of, Marks.marks_of, Sides.{IsLike, StandsIn, numbered, origin_at}}
 use Rattle.ix_flow.specs.Tracking.{AreLabelled, AreOpened, AreTracks, IsTracked, IsUnder, counts_from, falls_at, side_of}
 use Rattle.ix_flow.specs.declared.{labels.Labels.Labels, side.Side.Side, sides.Sides.Sides, source.Source.Source, tracks.Tracks.Tracks}
-use Rattle.ix_flow.specs.declared.source.Source.TheVariants as source
 use Rattle.ix_flow.proofs.{Arms.tracked_more, SideEdits.origins_marked, Staying.marks_first}
+use Rattle.ix_model.specs.declared.reply.Kind.TheVariants as kind
+use Rattle.ix_flow.specs.declared.source.Source.TheVariants as source
 
 -- ---- no second lists
 line_second : (w : World) (spec : ObjSpec) → ((n : ℕ) → (held_at w.content.holdings n).second ≡ []) → (n : ℕ) → (held_at (with_object w spec).content.holdings n).second ≡ []
@@ -23,11 +22,11 @@ line_second w spec none n = go _ _ _
   where
     go : (dir k : ℕ) (free : Option ℕ) → (held_at (option_map_or (placed w spec dir k) free w).content.holdings n).second ≡ []
     go dir k None = none n
-    go dir k (Some o) = set_either (λ (x : Holding). x.second ≡ []) nothing_held w.content.holdings o n (record { first = spec.bytes; second = [] }) (λ same. refl) (none n)
+    go dir k (Some o) = set_either (λ (x : Holding). x.second ≡ []) _ w.content.holdings o n _ (λ same. refl) (none n)
 
 lines_second : (w : World) (specs : List ObjSpec) → ((n : ℕ) → (held_at w.content.holdings n).second ≡ []) → (n : ℕ) → (held_at (with_objects w specs).content.holdings n).second ≡ []
 lines_second w [] none n = none n
-lines_second w (spec ∷ specs) none n = lines_second (with_object w spec) specs (line_second w spec none) n
+lines_second w (spec ∷ specs) none n = lines_second (with_object w spec) specs (line_second w _ none) n
 
 replicate_same : {A : Type 0} (k n : ℕ) (x : A) → get_or (replicate k x) n x ≡ x
 replicate_same zero n x = refl
@@ -36,7 +35,7 @@ replicate_same (suc k) (suc n) x = replicate_same k n x
 
 opening_second : (c : Config) (n : ℕ) → (held_at (opening_world c).content.holdings n).second ≡ []
 unfolding opening_world
-opening_second c n = lines_second (bare_world c) c.objects (λ m. ap (λ (x : Holding). x.second) (replicate_same (length (bare_objects c)) m holds_nothing)) n
+opening_second c n = lines_second (bare_world c) c.objects (λ m. ap (λ x. x.second) (replicate_same _ m holds_nothing)) n
 
 -- ---- what is held at first
 module _ (h : History) (none : h.events ≡ []) where
@@ -44,42 +43,42 @@ module _ (h : History) (none : h.events ≡ []) where
   plain = record { config = h.config; events = [] }
 
   is_plain : h ≡ plain
-  is_plain = ap (λ events. let k : History = record { config = h.config; events = events } in k) none
+  is_plain = ap (λ events. record { config = h.config; events = events }) none
 
   world_is : world_of h ≡ opening_world h.config
-  world_is = ap world_of is_plain ∙ world_of-none h.config
+  world_is = ap world_of is_plain ∙ world_of-none _
 
   held_first : (o : ℕ) → origins_of (held_at (marks_of h) o).first ≡ numbered (InConfig o) 0 (length (holding_of (world_of h).content o).first)
   held_first o =
       ap (λ k. origins_of (held_at (marks_of k) o).first) is_plain
-      ∙ ap (λ (x : HoldingOf Marked). origins_of x.first) (marks_first h.config o)
-      ∙ origins_marked (InConfig o) 0 (held_at (opening_world h.config).content.holdings o).first
-      ∙ ap (λ (w : World). numbered (InConfig o) 0 (length (holding_of w.content o).first)) (sym world_is)
+      ∙ ap (λ x. origins_of x.first) (marks_first h.config o)
+      ∙ origins_marked _ 0 _
+      ∙ ap (λ w. numbered (InConfig o) 0 (length (holding_of w.content o).first)) (sym world_is)
 
   held_second : (o : ℕ) → origins_of (held_at (marks_of h) o).second ≡ []
   unfolding marked_from
   held_second o =
       ap (λ k. origins_of (held_at (marks_of k) o).second) is_plain
-      ∙ ap (λ (x : HoldingOf Marked). origins_of x.second) (marks_first h.config o)
-      ∙ ap (λ xs. origins_of (marked_from (InConfig o) 0 xs)) (opening_second h.config o)
+      ∙ ap (λ x. origins_of x.second) (marks_first h.config o)
+      ∙ ap (λ xs. origins_of (marked_from (InConfig o) 0 xs)) (opening_second _ o)
 
   -- at both ends
   held_ends : (P : ℕ → List Origin → Type 0) (o : ℕ) → P 0 (origins_of (held_at (marks_of h) o).first) → P 1 [] → (end : ℕ) → end < 2 → P end (origins_of (side end (held_at (marks_of h) o)))
   held_ends P o first second end low = elim (eqb_tells end 0) [
     | inl here ↦ subst (λ n. P n (origins_of (side n (held_at (marks_of h) o)))) (sym here.1) first
     | inr some ↦
-        let one : end ≡ 1 = let other : end ≢ 0 = some.1 in omega (arith, low, other) in
+        let one : end ≡ 1 = omega (arith, low, some.1) in
         subst (λ n. P n (origins_of (side n (held_at (marks_of h) o)))) (sym one) (subst (P 1) (sym (held_second o)) second)
   ]
 
   -- the label of what came from an object
   label_first : (o n : ℕ) (x : Object) → at (world_of h).frame.objects o ≡ Some x → label_of h (InConfig o n) ≡ x.label
   unfolding label_of label_at
-  label_first o n x there = ap (λ y. option_map_or (λ z. z.label) y bottom) (ap (λ (w : World). at w.frame.objects o) (sym world_is) ∙ there)
+  label_first o n x there = ap (λ y. option_map_or (λ z. z.label) y bottom) (ap (λ w. at w.frame.objects o) (sym world_is) ∙ there)
 
   -- ---- one object more
   directory : (x : Object) → has_side x 0 ≡ false → is_dir x ≡ true
-  directory x no_side = go x.kind no_side
+  directory x no_side = go _ no_side
     where
       go : (k : Kind) → has_side (record x { kind = k }) 0 ≡ false → is_dir (record x { kind = k }) ≡ true
       go kind.File isnt = cc
@@ -92,7 +91,7 @@ module _ (h : History) (none : h.events ≡ []) where
     unfolding size_at numbered
     no_first x there none = held_first o ∙ ap (λ xs. numbered (InConfig o) 0 (length xs))
         (sound.holdings.directory o x there (directory x
-        (go (has_side x 0) (sym (ap (λ y. option_and_then (λ z. if has_side z 0 then Some (length (side 0 (holding_of (world_of h).content o))) else None) y) there) ∙ none))))
+        (go _ (sym (ap (λ y. option_and_then (λ z. if has_side z 0 then Some (length (side 0 (holding_of (world_of h).content o))) else None) y) there) ∙ none))))
       where
         go : (b : Bool) → (if b then Some (length (side 0 (holding_of (world_of h).content o))) else None) ≡ None → b ≡ false
         go true is = cc
@@ -160,16 +159,15 @@ module _ (h : History) (none : h.events ≡ []) where
             ends false is = cc
 
         label_is : (n : ℕ) → label_of h (InConfig o n) ≡ view.label
-        label_is n = shown (at (world_of h).frame.objects o) refl seen
+        label_is n = shown _ refl seen
           where
             shown : (x : Option Object) → at (world_of h).frame.objects o ≡ x → option_map view_of x ≡ Some view → label_of h (InConfig o n) ≡ view.label
             shown None there none = cc
-            shown (Some x) there some = let one : view_of x ≡ view = cc in label_first o n x there ∙ ap (λ (v : ObjView). v.label) one
+            shown (Some x) there some = let one : view_of x ≡ view = cc in label_first o n x there ∙ ap (λ v. v.label) one
 
         labelled : AreLabelled labels.all.items h s
         labelled = λ n low high.
-            let is = sources (source_in s.runs.entries n) (record { number = n; low = low; high = high; is = refl }) in
-            subst (λ (x : Source). IsUnder labels.all.items x (label_of h (origin_at x n))) (sym is) (is_label ∙ ap Some (sym (label_is n)))
+            subst (λ x. IsUnder labels.all.items x (label_of h (origin_at x n))) (sym (sources _ (record { number = n; low = low; high = high; is = refl }))) (is_label ∙ ap Some (sym (label_is n)))
 
   -- ---- all objects
   pub opened_all : (t : Tracks) → Sound (world_of h) → AreOpened t h (length (world_of h).frame.objects) → AreTracks t h
@@ -182,10 +180,10 @@ module _ (h : History) (none : h.events ≡ []) where
     };
     falls = record {
       noted = λ o place low. are.falls o place ∙ sym (ap (λ events. falls_at (opening_world h.config) 1 events o place) none);
-      few = let long : length h.events ≡ 0 = ap length none in omega (arith, long);
+      few = omega (arith, ap length none);
     };
     counts = (λ i. record { reads = are.counts.0 i; lines = are.counts.1 i }) ∙ sym (ap (counts_from plain (record { reads = 0; lines = 0 })) none);
   }
     where
       inside : (o : ℕ) → is_some (at (world_of h).frame.objects o) ≡ true → o < length (world_of h).frame.objects
-      inside o lives = let x = there_is (at (world_of h).frame.objects o) lives in in_table (world_of h).frame.objects o x.0 x.1
+      inside o lives = in_table _ o _ (there_is _ lives).1

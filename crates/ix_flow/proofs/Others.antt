@@ -1,15 +1,12 @@
 -- What tracks stand for after any other entry.
-use Rattle.std.proofs.Common.{◌≡◌, ◌≤◌, ◌+◌, ◌++◌, ℕ, Bool, true, false, true≢false, List, [], length, refl, sym, ap, ◌∙◌, append-nil}
-use Rattle.std.specs.{Borrow.Bor, List.list_all}
+use Rattle.std.{proofs.Common.{◌≡◌, ◌≤◌, ◌++◌, ℕ, Bool, true, false, true≢false, List, [], length, refl, sym, ap, ◌∙◌, append-nil}, specs.{Borrow.Bor, List.list_all}}
 use Rattle.ix_label.specs.Category.{Categories}
-use Rattle.ix_model.specs.history.{Calls.op_of, Events.{Op, Event}, History.{History, world_of, with_entry}}
-use Rattle.ix_model.specs.declared.{call.Call.Call, ids.Fd.Fd, path.Path.Path, reply.Reply.Reply}
+use Rattle.ix_model.specs.{history.{Calls.op_of, Events.{Op, Event}, History.{History, with_entry}}, declared.{call.Call.Call, ids.Fd.Fd, path.Path.Path, reply.Reply.Reply}}
+use Rattle.ix_model.proofs.words.Rowwise.{changes_of}
+use Rattle.ix_flow.specs.{Following.{Follows, FollowsInto}, Lines.lines_of_entry, Marks.marks_of, Moves.edited, Tracking.AreTracks, declared.tracks.Tracks.Tracks}
+use Rattle.ix_flow.proofs.{Arms.{led, few_then, unmoved}, NewObjects.{makes_none, stood_step}, Relabelling.sets_label, Staying.marks_next, Through.kept_marks}
 use Rattle.ix_model.specs.history.Events as op
 use Rattle.ix_model.specs.declared.call.Call.TheVariants as call
-use Rattle.ix_model.proofs.words.Rowwise.{changes_of}
-use Rattle.ix_flow.specs.{Following.{Follows, FollowsInto}, Lines.lines_of_entry, Marks.marks_of, Moves.edited, Tracking.AreTracks}
-use Rattle.ix_flow.specs.declared.tracks.Tracks.{Tracks}
-use Rattle.ix_flow.proofs.{Arms.{led, few_then, unmoved}, NewObjects.{makes_none, stood_step}, Relabelling.sets_label, Staying.marks_next, Through.kept_marks}
 
 -- whether a call moves nothing, makes no object and sets no object's label
 abbrev pub is_quiet : Op → Bool
@@ -48,12 +45,12 @@ reads_not c fd count is same = true≢false (sym (ap is_quiet (sym same) ∙ is)
 pub quiet_entry : (h : History) (seat line pid : ℕ) (c : Op) → is_quiet c ≡ true
     → let e : Event = record { seat = seat; line = line; pid = pid; op = c } in length (with_entry h e).events ≤ 6800000 → (t : Tracks) → AreTracks t h
     → AreTracks t (with_entry h e) × (lines_of_entry h e ≡ [])
-quiet_entry h seat line pid c is few t are = unmoved h _ few (quiet_label c is) (λ d count k reads gives. absurd (reads_not c d count is reads)) t are
-    (stood_step (world_of h) (length h.events + 1) pid c (quiet_changes c is)) (marks_quiet h seat line pid c is)
+quiet_entry h seat line pid c is few t are = unmoved h _ few (quiet_label c is) (λ d count k reads gives. absurd (reads_not c d _ is reads)) t are
+    (stood_step _ _ _ c (quiet_changes c is)) (marks_quiet h _ _ _ c is)
 
 pub quiet_follows : (t : Tracks) (now : History) (r : Reply) (seat line pid : ℕ) (c : Op) → is_quiet c ≡ true → length now.events ≤ 6800000
     → Follows t t now r (record { seat = seat; line = line; pid = pid; op = c })
-quiet_follows t now r seat line pid c is few = λ h step are. led t h now _ _ step.history (quiet_entry h seat line pid c is (few_then h now _ step.history few) t are)
+quiet_follows t now r seat line pid c is few = λ h step are. led t h _ _ _ step.history (quiet_entry h _ _ _ c is (few_then h _ _ step.history few) t are)
 
 -- what has no lines has them behind any text
 pub follows_into : (old new : Tracks) (now : History) (r : Reply) (e : Event) (text : List ℕ) → Follows old new now r e → FollowsInto old new now r e text text

@@ -3,14 +3,14 @@ use Rattle.std.proofs.Common.{◌≡◌, ℕ, suc, Bool, true, false, List, [], 
 use Rattle.std.{specs.{Prelude.All, Option.option_map_or}, proofs.lemmas.List.Elements.{All-cons, All-head, All-map, All-nil, All-tail}}
 use Rattle.ix_label.specs.Category.{bottom}
 use Rattle.ix_model.specs.{rows.Walks.{OpenFile, behind}, history.{AuditLog.of_process, Events.{Op, Event}, History.{History, world_of, next}}}
+use Rattle.ix_flow.{specs.{Origins.{Origin, Marked, origins_of}, Marks.{marks_of, marks_read, read_by, read_through}}, proofs.Staying.readers_above}
+use Rattle.ix_flow.specs.{Laws.{IsAccountedFor, LinesAreAccountedFor}, Lines.{Piece, in_front, object_read, pieces_from}}
 use Rattle.ix_model.specs.history.Events as op
-use Rattle.ix_flow.{specs.Origins.{Origin, Marked, origins_of}, specs.Marks.{marks_of, marks_read, read_by, read_through}, proofs.Staying.readers_above}
-use Rattle.ix_flow.{specs.Laws.{IsAccountedFor, LinesAreAccountedFor}, specs.Lines.{Piece, follows, in_front, object_read, pieces_from}}
 
 module _ (P : Origin → Type 0) where
   one_more : (n : ℕ) (x : Origin) (pieces : List Piece) → P x → All (λ (p : Piece). P p.origin) pieces → All (λ (p : Piece). P p.origin) (in_front n x pieces)
-  one_more n x [] here all = All-cons (λ (p : Piece). P p.origin) (record { first = n; count = 1; origin = x }) [] here (All-nil (λ (p : Piece). P p.origin))
-  one_more n x (p ∷ pieces) here all = go (follows x p.origin)
+  one_more n x [] here all = All-cons (λ p. P p.origin) (record { first = n; count = 1; origin = x }) [] here (All-nil (λ p. P p.origin))
+  one_more n x (p ∷ pieces) here all = go _
     where
       joined : Piece
       joined = record { first = n; count = suc p.count; origin = x }
@@ -19,19 +19,19 @@ module _ (P : Origin → Type 0) where
       alone = record { first = n; count = 1; origin = x }
 
       go : (b : Bool) → All (λ (q : Piece). P q.origin) (if b then joined ∷ pieces else alone ∷ p ∷ pieces)
-      go true = All-cons (λ (q : Piece). P q.origin) joined pieces here (All-tail (λ (q : Piece). P q.origin) p pieces all)
-      go false = All-cons (λ (q : Piece). P q.origin) alone (p ∷ pieces) here all
+      go true = All-cons (λ q. P q.origin) joined pieces here (All-tail (λ q. P q.origin) p pieces all)
+      go false = All-cons (λ q. P q.origin) alone (p ∷ pieces) here all
 
   pub pieces_have : (n : ℕ) (origins : List Origin) → All P origins → All (λ (p : Piece). P p.origin) (pieces_from n origins)
   unfolding pieces_from
-  pieces_have n [] all = All-nil (λ (p : Piece). P p.origin)
-  pieces_have n (x ∷ origins) all = one_more n x (pieces_from (suc n) origins) (All-head P x origins all) (pieces_have (suc n) origins (All-tail P x origins all))
+  pieces_have n [] all = All-nil (λ p. P p.origin)
+  pieces_have n (x ∷ origins) all = one_more n x _ (All-head P x origins all) (pieces_have (suc n) origins (All-tail P x origins all))
 
 -- what is read has no origin, or it is a read through an open entry
 marks_accounted : (h : History) (e : Event) (o : Op) → e.op ≡ o
     → All (λ (m : Marked). IsAccountedFor h (object_read h e.pid o) (of_process (λ q. q.label) bottom (next h e).world.frame e.pid) m.origin) (read_by (world_of h) (marks_of h) e.pid o (next h e))
 unfolding read_by
-marks_accounted h e (op.ReadFd fd count) is = go (behind (world_of h).frame e.pid fd) refl
+marks_accounted h e (op.ReadFd fd count) is = go _ refl
   where
     P : Option OpenFile → Marked → Type 0
     P b m = IsAccountedFor h (option_map_or (λ c. c.entry.object) b 0) (of_process (λ q. q.label) bottom (next h e).world.frame e.pid) m.origin

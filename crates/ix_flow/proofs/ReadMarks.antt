@@ -1,18 +1,15 @@
 -- The origins that a read gives, and what it leaves of those that stand.
 use Rattle.std.proofs.Common.{◌≡◌, ◌≤◌, ◌<◌, ◌+◌, ◌==◌, ◌&&◌, ℕ, suc, Bool, true, false, List, [], ◌∷◌, length, take, drop, Option, Some, is_some, refl, sym}
-use Rattle.std.proofs.Common.{if◌then◌else◌, ap, ◌∙◌, arith, inl, inr}
-use Rattle.std.{specs.{List.flat_map, Option.option_map_or}, proofs.lemmas.Bool.{eq-eqb, eqb-true, ne_eqb}, proofs.lemmas.Bool.Decides.eqb_tells}
+use Rattle.std.{proofs.{Common.{if◌then◌else◌, ap, ◌∙◌, arith, inl, inr}, lemmas.Bool.{eq-eqb, eqb-true, ne_eqb, Decides.eqb_tells}}, specs.{List.flat_map, Option.option_map_or}}
 use Rattle.std.proofs.lemmas.List.{get_or-set_other, get_or-set_same, drop-map, length-drop, length-map, length-take, take-map}
 use Rattle.ix_model.specs.{laws.Sound.Sound, world.World.{World, Frame, HoldingOf, at, is_pipe}, rows.Walks.{OpenFile, behind}, declared.reply.Reply.Reply}
-use Rattle.ix_model.specs.world.Contents.{held_at, kept, nothing_held, offset_of, on_side, readable_in, side, with_side}
+use Rattle.ix_model.{specs.world.Contents.{held_at, kept, nothing_held, offset_of, on_side, readable_in, side, with_side}, proofs.clean.Carrying.{get_or-keep, length-keep}}
 use Rattle.ix_model.specs.history.{Events.{Op, Event}, History.{History, world_of, next, with_entry}}
+use Rattle.ix_flow.specs.{Origins.{each, Marked, Origin, Written, gap_mark, marked_from, origins_of}, Moves.{bytes_written, edited, taken}}
+use Rattle.ix_flow.specs.{Lines.{Piece, in_front, lines_of_entry, object_read, piece_line, pieces_from, pieces_read}, Marks.{marks_of, marks_read, read_by, read_through}}
+use Rattle.ix_flow.proofs.{Marking.marked_run, ReadWorlds.{Reading, reading}, Staying.{marks_next, marks_read_is}}
 use Rattle.ix_model.specs.history.Events as op
 use Rattle.ix_model.specs.declared.reply.Reply.TheVariants as reply
-use Rattle.ix_model.proofs.clean.Carrying.{get_or-keep, length-keep}
-use Rattle.ix_flow.specs.{Origins.{each, Marked, Origin, Written, gap_mark, marked_from, origins_of}, Moves.{bytes_written, edited, taken}}
-use Rattle.ix_flow.specs.Lines.{Piece, follows, in_front, lines_of_entry, object_read, piece_line, pieces_from, pieces_read}
-use Rattle.ix_flow.specs.Marks.{marks_of, marks_read, read_by, read_through}
-use Rattle.ix_flow.proofs.{Marking.marked_run, ReadWorlds.{Reading, reading}, Staying.{marks_next, marks_read_is}}
 
 -- the origins that an end of an object can read
 abbrev pub origins_at : History → ℕ → ℕ → List Origin
@@ -33,7 +30,7 @@ side_changed {A} end other now h low near = elim (eqb_tells other 0) [
   | inr some ↦ ap (λ b. side end (if b then first else second)) some.0 ∙ elim (eqb_tells end 0) [
     | inl zero ↦ ap (λ b. if b then h.first else now) zero.0 ∙ sym (ap (λ b. if b then now else side end h) (ne_eqb end other (λ x. some.1 (sym x ∙ zero.1)))
         ∙ ap (λ b. if b then h.first else h.second) zero.0)
-    | inr one ↦ ap (λ b. if b then h.first else now) one.0 ∙ sym (ap (λ b. if b then now else side end h) (eq-eqb end other (only_one end other low near one.1 some.1)))
+    | inr one ↦ ap (λ b. if b then h.first else now) one.0 ∙ sym (ap (λ b. if b then now else side end h) (eq-eqb end other (only_one _ _ low near one.1 some.1)))
   ]
 ]
   where
@@ -52,13 +49,13 @@ pub side_on : {A : Type 0} (h : List A → List A) (n other o end : ℕ) (hs : L
 side_on {A} h n other o end hs inside near low = elim (eqb_tells o n) [
   | inl here ↦
       ap (λ m. side end (held_at (on_side n other h hs) m)) here.1
-      ∙ ap (side end) (get_or-set_same hs n (with_side other (h (side other (held_at hs n))) (held_at hs n)) nothing_held inside)
-      ∙ side_changed end other (h (side other (held_at hs n))) (held_at hs n) low near
-      ∙ there (end == other) refl
+      ∙ ap (side end) (get_or-set_same hs n _ nothing_held inside)
+      ∙ side_changed _ _ _ (held_at hs n) low near
+      ∙ there _ refl
       ∙ ap (λ m. if end == other then h (side end (held_at hs m)) else side end (held_at hs m)) (sym here.1)
       ∙ sym (ap (λ b. if b && end == other then h (side end (held_at hs o)) else side end (held_at hs o)) here.0)
   | inr far ↦
-      ap (side end) (get_or-set_other hs n o (with_side other (h (side other (held_at hs n))) (held_at hs n)) nothing_held far.1)
+      ap (side end) (get_or-set_other hs n o _ nothing_held far.1)
       ∙ sym (ap (λ b. if b && end == other then h (side end (held_at hs o)) else side end (held_at hs o)) far.0)
 ]
   where
@@ -70,22 +67,22 @@ pub taken_side : (b : Bool) (k n other o end : ℕ) (hs : List (HoldingOf Marked
     → origins_of (side end (held_at (if b then on_side n other (drop k) hs else hs) o)) ≡ (if b && (o == n && end == other) then drop k (origins_of (side end (held_at hs o))) else origins_of
     (side end (held_at hs o)))
 taken_side false k n other o end hs inside near low = refl
-taken_side true k n other o end hs inside near low = ap origins_of (side_on (drop k) n other o end hs inside near low) ∙ go (o == n && end == other)
+taken_side true k n other o end hs inside near low = ap origins_of (side_on (drop k) n _ o _ hs inside near low) ∙ go _
   where
     go : (b : Bool) → origins_of (if b then drop k (side end (held_at hs o)) else side end (held_at hs o)) ≡
         (if b then drop k (origins_of (side end (held_at hs o))) else origins_of (side end (held_at hs o)))
-    go true = sym (drop-map origin_of k (side end (held_at hs o)))
+    go true = sym (drop-map origin_of k _)
     go false = refl
 
 -- what isn't nothing has a piece
 some_pieces : (n : ℕ) (xs : List Origin) → 0 < length xs → 0 < length (pieces_from n xs)
 unfolding pieces_from
 some_pieces n [] some = absurd (omega (arith, some))
-some_pieces n (x ∷ xs) some = go (pieces_from (suc n) xs)
+some_pieces n (x ∷ xs) some = go _
   where
     go : (pieces : List Piece) → 0 < length (in_front n x pieces)
     go [] = omega arith
-    go (p ∷ pieces) = either (follows x p.origin)
+    go (p ∷ pieces) = either _
       where
         either : (b : Bool) → 0 < length (if b then record { first = n; count = suc p.count; origin = x } ∷ pieces else record { first = n; count = 1; origin = x } ∷ p ∷ pieces)
         either true = omega arith
@@ -96,16 +93,15 @@ marks_taken : (h : History) (e : Event) (fd count : ℕ) → e.op ≡ op.ReadFd 
     → marks_of (with_entry h e) ≡ taken (world_of h).frame (behind (world_of h).frame e.pid fd) (next h e).reply (kept (world_of h).frame (next h e).world.frame (marks_of h))
 unfolding edited
 marks_taken h e fd count is =
-    let ms = kept (world_of h).frame (next h e).world.frame (marks_of h) in
+    let ms = kept (world_of h).frame (next h e).world.frame _ in
     marks_next h e ∙ ap (λ o. edited gap_mark (marked_from (Written (length h.events + 1)) 0 (bytes_written e.op)) (world_of h) e.pid o (next h e) ms) is
 
 pub kept_is : (h : History) (e : Event) (o : ℕ) → (is_some (at (world_of h).frame.objects o) && is_some (at (next h e).world.frame.objects o)) ≡ true
     → held_at (kept (world_of h).frame (next h e).world.frame (marks_of h)) o ≡ held_at (marks_of h) o
 kept_is h e o both =
-    let f : Frame = (world_of h).frame in
-    let g : Frame = (next h e).world.frame in
-    get_or-keep nothing_held (λ n. is_some (at f.objects n) && is_some (at g.objects n)) 0 (marks_of h) o
-    ∙ ap (λ n. if is_some (at f.objects n) && is_some (at g.objects n) then held_at (marks_of h) o else nothing_held) (let z : 0 + o ≡ o = omega arith in z)
+    let g = (next h e).world.frame in
+    get_or-keep _ _ 0 _ o
+    ∙ ap (λ n. if is_some (at ((world_of h).frame).objects n) && is_some (at g.objects n) then held_at (marks_of h) o else nothing_held) (omega arith)
     ∙ ap (λ b. if b then held_at (marks_of h) o else nothing_held) both
 
 -- ---- what is read
@@ -115,17 +111,16 @@ module _ (h : History) (e : Event) (fd count k : ℕ) (is : e.op ≡ op.ReadFd f
 
   through : marks_read h e ≡ take k (drop from (side r.before.entry.end (held_at (marks_of h) r.before.entry.object)))
   through =
-      marks_read_is h e fd count r.before is r.is_before
+      marks_read_is h e fd _ _ is r.is_before
       ∙ ap (read_through (world_of h) (marks_of h) (Some r.before)) gives
       ∙ ap (λ b. take k (drop (if b then 0 else offset_of (world_of h).content r.before.id) (side r.before.entry.end (held_at (marks_of h) r.before.entry.object)))) r.piped
 
   pub origins_read : origins_of (marks_read h e) ≡ take k (drop from (origins_at h r.before.entry.object r.before.entry.end))
   origins_read =
-      let held = side r.before.entry.end (held_at (marks_of h) r.before.entry.object) in
-      ap origins_of through ∙ sym (take-map origin_of k (drop from held)) ∙ ap (take k) (sym (drop-map origin_of from held))
+      ap origins_of through ∙ sym (take-map origin_of k _) ∙ ap (take k) (sym (drop-map origin_of from _))
 
   pub read_long : length (origins_of (marks_read h e)) ≡ k
-  read_long = length-map (marks_read h e) origin_of ∙ sym (length-map (marks_read h e) (λ m. m.byte)) ∙ ap length ((marked_run h).read e) ∙ r.long
+  read_long = length-map _ origin_of ∙ sym (length-map _ (λ m. m.byte)) ∙ ap length ((marked_run h).read e) ∙ r.long
 
   -- ---- what stands after it
   abbrev pub is_read : ℕ → ℕ → Bool
@@ -133,20 +128,22 @@ module _ (h : History) (e : Event) (fd count k : ℕ) (is : e.op ≡ op.ReadFd f
 
   taken_is : marks_of (with_entry h e) ≡ taken (world_of h).frame (Some r.before) (reply.Bytes k) (kept (world_of h).frame (next h e).world.frame (marks_of h))
   taken_is =
-      let ms = kept (world_of h).frame (next h e).world.frame (marks_of h) in
-      marks_taken h e fd count is ∙ ap (λ b. taken (world_of h).frame b (next h e).reply ms) r.is_before ∙ ap (λ a. taken (world_of h).frame (Some r.before) a ms) gives
+      let ms = kept (world_of h).frame (next h e).world.frame _ in
+      marks_taken h e fd _ is ∙ ap (λ b. taken (world_of h).frame b (next h e).reply ms) r.is_before ∙ ap (λ a. taken (world_of h).frame (Some r.before) a ms) gives
 
   pub origins_after : (o end : ℕ) → end < 2 → (is_some (at (world_of h).frame.objects o) && is_some (at (next h e).world.frame.objects o)) ≡ true
       → origins_at (with_entry h e) o end ≡ (if is_read o end then drop k (origins_at h o end) else origins_at h o end)
   unfolding taken
   origins_after o end low both =
       let ms = kept (world_of h).frame (next h e).world.frame (marks_of h) in
-      let many : length ms ≡ length (world_of h).content.holdings =
-      length-keep nothing_held (λ n. is_some (at (world_of h).frame.objects n) && is_some (at (next h e).world.frame.objects n)) 0 (marks_of h)
-      ∙ sym (length-map (marks_of h) (each (λ (m : Marked). m.byte)))
-      ∙ ap length ((marked_run h).held) in
       ap (λ hs. origins_of (side end (held_at hs o))) (taken_is ∙ ap (λ b. if b then on_side r.before.entry.object r.before.entry.end (drop k) ms else ms) r.piped)
-      ∙ taken_side (is_pipe r.object) k r.before.entry.object r.before.entry.end o end ms (omega (arith, r.inside, many)) r.near low
+      ∙ taken_side (is_pipe r.object) k r.before.entry.object r.before.entry.end o end ms (omega (
+        arith,
+        r.inside,
+        length-keep nothing_held (λ n. is_some (at (world_of h).frame.objects n) && is_some (at (next h e).world.frame.objects n)) 0 (marks_of h)
+            ∙ sym (length-map (marks_of h) (each (λ (m : Marked). m.byte)))
+            ∙ ap length ((marked_run h).held),
+      )) r.near low
       ∙ ap (λ (x : HoldingOf Marked). if is_read o end then drop k (origins_of (side end x)) else origins_of (side end x)) (kept_is h e o both)
 
   -- ---- lines
@@ -158,19 +155,18 @@ module _ (h : History) (e : Event) (fd count k : ℕ) (is : e.op ≡ op.ReadFd f
 
   pub read_lines : lines_of_entry h e ≡ flat_map (piece_line h (length h.events + 1) r.before.entry.object) (pieces_from 0 (take k (drop from (origins_at h r.before.entry.object r.before.entry.end))))
   unfolding lines_of_entry
-  read_lines = ap (λ o. flat_map (piece_line h (length h.events + 1) o) (pieces_read h e)) object_is ∙ ap (flat_map (piece_line h (length h.events + 1) r.before.entry.object)) read_pieces
+  read_lines = ap (λ o. flat_map (piece_line h (length h.events + 1) o) (pieces_read h e)) object_is ∙ ap (flat_map _) read_pieces
 
   -- what is read is there
   pub read_there : 0 < k → from + k ≤ length (origins_at h r.before.entry.object r.before.entry.end)
   read_there some =
       let origins = origins_at h r.before.entry.object r.before.entry.end in
-      let a : length (take k (drop from origins)) ≡ k = ap length (sym origins_read) ∙ read_long in
       let b = length-take k (drop from origins) in
       let c = length-drop from origins in
-      omega (arith, a, b, c, some)
+      omega (arith, ap length (sym origins_read) ∙ read_long, b, c, some)
 
   pub pieces_some : 0 < k → 0 < length (pieces_read h e)
-  pieces_some some = some_pieces 0 (origins_of (marks_read h e)) (omega (arith, read_long, some))
+  pieces_some some = some_pieces 0 _ (omega (arith, read_long, some))
 
 -- ---- reads that give nothing
 through_nothing : (w : World) (ms : List (HoldingOf Marked)) (b : Option OpenFile) (r : Reply) → ((k : ℕ) → r ≡ reply.Bytes k → k ≡ 0) → read_through w ms b r ≡ []
@@ -179,17 +175,17 @@ through_nothing w ms b r none = refl
 
 by_nothing : (h : History) (e : Event) (o : Op) → ((fd count k : ℕ) → o ≡ op.ReadFd fd count → (next h e).reply ≡ reply.Bytes k → k ≡ 0) → read_by (world_of h) (marks_of h) e.pid o (next h e) ≡ []
 unfolding read_by
-by_nothing h e (op.ReadFd fd count) none = through_nothing (world_of h) (marks_of h) (behind (world_of h).frame e.pid fd) (next h e).reply (λ k is. none fd count k refl is)
+by_nothing h e (op.ReadFd fd count) none = through_nothing (world_of h) (marks_of h) _ _ (λ k is. none fd _ k refl is)
 by_nothing h e o none = refl
 
 -- an entry that is no read, or one that gives no bytes, reads nothing, and has no lines
 pub reads_nothing : (h : History) (e : Event) → ((fd count k : ℕ) → e.op ≡ op.ReadFd fd count → (next h e).reply ≡ reply.Bytes k → k ≡ 0) → pieces_read h e ≡ []
 unfolding pieces_from
-reads_nothing h e none = ap (λ ms. pieces_from 0 (origins_of ms)) (by_nothing h e e.op none)
+reads_nothing h e none = ap (λ ms. pieces_from 0 (origins_of ms)) (by_nothing h e _ none)
 
 pub tells_nothing : (h : History) (e : Event) → ((fd count k : ℕ) → e.op ≡ op.ReadFd fd count → (next h e).reply ≡ reply.Bytes k → k ≡ 0) → lines_of_entry h e ≡ []
 unfolding lines_of_entry
-tells_nothing h e none = ap (flat_map (piece_line h (length h.events + 1) (object_read h e.pid e.op))) (reads_nothing h e none)
+tells_nothing h e none = ap (flat_map _) (reads_nothing h e none)
 
 taken_none : (f : Frame) (b : Option OpenFile) (r : Reply) (hs : List (HoldingOf Marked)) → ((k : ℕ) → r ≡ reply.Bytes k → ⊥) → taken f b r hs ≡ hs
 unfolding taken
@@ -199,7 +195,7 @@ taken_none f b r hs none = refl
 -- and it leaves what can be read
 pub origins_idle : (h : History) (e : Event) (fd count : ℕ) → e.op ≡ op.ReadFd fd count → Sound (world_of h) → ((k : ℕ) → (next h e).reply ≡ reply.Bytes k → k ≡ 0) → (o end : ℕ) → end < 2
     → (is_some (at (world_of h).frame.objects o) && is_some (at (next h e).world.frame.objects o)) ≡ true → origins_at (with_entry h e) o end ≡ origins_at h o end
-origins_idle h e fd count is sound none o end low both = go (next h e).reply refl
+origins_idle h e fd count is sound none o end low both = go _ refl
   where
     same : (b : Bool) (k : ℕ) (xs : List Origin) → k ≡ 0 → (if b then drop k xs else xs) ≡ xs
     same true k xs zero = ap (λ n. drop n xs) zero
@@ -207,22 +203,21 @@ origins_idle h e fd count is sound none o end low both = go (next h e).reply ref
 
     still : ((k : ℕ) → (next h e).reply ≡ reply.Bytes k → ⊥) → origins_at (with_entry h e) o end ≡ origins_at h o end
     still other =
-        ap (λ ms. origins_of (side end (held_at ms o))) (marks_taken h e fd count is ∙ taken_none (world_of h).frame (behind (world_of h).frame e.pid fd) (next h e).reply
-        (kept (world_of h).frame (next h e).world.frame (marks_of h)) other)
-        ∙ ap (λ (x : HoldingOf Marked). origins_of (side end x)) (kept_is h e o both)
+        ap (λ ms. origins_of (side end (held_at ms o))) (marks_taken h e fd _ is ∙ taken_none _ _ _
+        _ other)
+        ∙ ap (λ x. origins_of (side end x)) (kept_is h e o both)
 
     go : (r : Reply) → (next h e).reply ≡ r → origins_at (with_entry h e) o end ≡ origins_at h o end
     go (reply.Bytes k) gives =
-        let r = reading h e fd count k sound is gives in
-        origins_after h e fd count k is gives r o end low both ∙ same (is_read h e fd count k is gives r o end) k (origins_at h o end) (none k gives)
-    go reply.Done gives = still (λ k bytes. let no : reply.Done ≡ reply.Bytes k = sym gives ∙ bytes in cc)
-    go (reply.Number n) gives = still (λ k bytes. let no : reply.Number n ≡ reply.Bytes k = sym gives ∙ bytes in cc)
-    go (reply.Two x y) gives = still (λ k bytes. let no : reply.Two x y ≡ reply.Bytes k = sym gives ∙ bytes in cc)
-    go (reply.Stat o kind size links frozen cap lic) gives = still (λ k bytes. let no : reply.Stat o kind size links frozen cap lic ≡ reply.Bytes k = sym gives ∙ bytes in cc)
-    go (reply.Lab l) gives = still (λ k bytes. let no : reply.Lab l ≡ reply.Bytes k = sym gives ∙ bytes in cc)
-    go (reply.Named n o) gives = still (λ k bytes. let no : reply.Named n o ≡ reply.Bytes k = sym gives ∙ bytes in cc)
-    go reply.Half gives = still (λ k bytes. let no : reply.Half ≡ reply.Bytes k = sym gives ∙ bytes in cc)
-    go (reply.Whole p l s) gives = still (λ k bytes. let no : reply.Whole p l s ≡ reply.Bytes k = sym gives ∙ bytes in cc)
-    go (reply.LogLine l) gives = still (λ k bytes. let no : reply.LogLine l ≡ reply.Bytes k = sym gives ∙ bytes in cc)
-    go (reply.Child p s) gives = still (λ k bytes. let no : reply.Child p s ≡ reply.Bytes k = sym gives ∙ bytes in cc)
-    go (reply.No why) gives = still (λ k bytes. let no : reply.No why ≡ reply.Bytes k = sym gives ∙ bytes in cc)
+        origins_after h e fd count k is gives (reading h e fd _ k sound is gives) o end low both ∙ same _ k _ (none k gives)
+    go reply.Done gives = still (λ k bytes. cc)
+    go (reply.Number n) gives = still (λ k bytes. cc)
+    go (reply.Two x y) gives = still (λ k bytes. cc)
+    go (reply.Stat o kind size links frozen cap lic) gives = still (λ k bytes. cc)
+    go (reply.Lab l) gives = still (λ k bytes. cc)
+    go (reply.Named n o) gives = still (λ k bytes. cc)
+    go reply.Half gives = still (λ k bytes. cc)
+    go (reply.Whole p l s) gives = still (λ k bytes. cc)
+    go (reply.LogLine l) gives = still (λ k bytes. cc)
+    go (reply.Child p s) gives = still (λ k bytes. cc)
+    go (reply.No why) gives = still (λ k bytes. cc)

@@ -1,26 +1,23 @@
 -- What tracks stand for after a read: the bytes that it gave are told, and a pipe's are gone.
 use Rattle.std.proofs.Common.{◌≡◌, ◌≤◌, ◌<◌, ◌+◌, ◌-◌, ◌==◌, ◌&&◌, ◌^◌, ℕ, Bool, true, false, List, [], ◌∷◌, length, take, drop, Some, None, is_some, refl, sym}
-use Rattle.std.proofs.Common.{option_map, if◌then◌else◌, ap, ◌∙◌, subst, arith}
-use Rattle.std.{specs.{Prelude.All, List.flat_map, Option.option_map_or}, proofs.lemmas.List.{length-map, Elements.All-drop}}
+use Rattle.std.{proofs.{Common.{option_map, if◌then◌else◌, ap, ◌∙◌, subst, arith}, lemmas.List.{length-map, Elements.All-drop}}, specs.{Prelude.All, List.flat_map, Option.option_map_or}}
 use Rattle.ix_label.specs.Category.{Categories}
 use Rattle.ix_model.specs.{laws.Sound.Sound, world.{World.{HoldingOf, at, is_pipe}, Contents.{held_at, offset_of, on_side, side}}}
 use Rattle.ix_model.specs.{rows.Walks.{OpenFile, behind}, history.{Step.step, Events.Event, History.{History, world_of, next, with_entry}}}
-use Rattle.ix_model.specs.history.Events as op
-use Rattle.ix_model.specs.declared.reply.Reply.TheVariants as reply
 use Rattle.ix_open.specs.declared.view.OpenView.{OpenView}
 use Rattle.ix_model.proofs.{sound.Soundly.sound_step, words.Runs.world_of-push}
-use Rattle.ix_flow.specs.{Origins.{each, Marked, Origin, origins_of}, Marks.marks_of, Reads.between, Sides.IsLike}
-use Rattle.ix_flow.specs.Lines.{Counts, Piece, lines_of_entry, piece_line, pieces_from, pieces_read, with_pieces}
+use Rattle.ix_flow.specs.{Origins.{each, Marked, Origin, origins_of}, Marks.marks_of, Reads.between, Sides.IsLike, declared.{side.Side.Side, sides.Sides.Sides, tracks.Tracks.Tracks}}
+use Rattle.ix_flow.{specs.Lines.{Counts, Piece, lines_of_entry, piece_line, pieces_from, pieces_read, with_pieces}, proofs.ReadMarks.tells_nothing}
 use Rattle.ix_flow.specs.Tracking.{AreLabelled, AreSides, AreTracks, HasEnd, IsTracked, counts_of, side_of}
-use Rattle.ix_flow.specs.declared.{side.Side.Side, sides.Sides.Sides, tracks.Tracks.Tracks}
 use Rattle.ix_flow.proofs.{Counting.counts_more, Marking.marked_run, NewObjects.{Stood, stood_step}, ReadWorlds.Reading, Staying.{IsPast, origins_past}}
 use Rattle.ix_flow.proofs.{Quiet.falls_quiet, Relabelling.sets_label, Tracked.{sides_next, tracks_idle}}
 use Rattle.ix_flow.proofs.ReadMarks.{from, origins_after, origins_at, origins_idle, pieces_some, read_lines, read_pieces, read_there, reads_nothing, taken_side}
-use Rattle.ix_flow.proofs.ReadMarks.{tells_nothing}
+use Rattle.ix_model.specs.history.Events as op
+use Rattle.ix_model.specs.declared.reply.Reply.TheVariants as reply
 
 -- a read makes nothing
 none_made : (h : History) (e : Event) (fd limit : ℕ) → e.op ≡ op.ReadFd fd limit → Stood (world_of h).frame (next h e).world.frame
-none_made h e fd limit is = subst (λ (c : op.Op). Stood (world_of h).frame (step (world_of h) (length h.events + 1) e.pid c).world.frame) (sym is)
+none_made h e fd limit is = subst (λ c. Stood (world_of h).frame (step (world_of h) (length h.events + 1) e.pid c).world.frame) (sym is)
     (stood_step (world_of h) (length h.events + 1) e.pid (op.ReadFd fd limit) refl)
 
 module _ (h : History) (e : Event) (fd limit k : ℕ) (is : e.op ≡ op.ReadFd fd limit) (gives : (next h e).reply ≡ reply.Bytes k) (sound : Sound (world_of h)) (r : Reading h e fd k) where
@@ -31,21 +28,25 @@ module _ (h : History) (e : Event) (fd limit k : ℕ) (is : e.op ≡ op.ReadFd f
   end = r.before.entry.end
 
   stood : Stood (world_of h).frame (next h e).world.frame
-  stood = none_made h e fd limit is
+  stood = none_made h e fd _ is
 
   -- what is held once a pipe's bytes are taken
   abbrev pub drained : List (HoldingOf Marked)
   drained = if is_pipe r.object then on_side o end (drop k) (marks_of h) else marks_of h
 
   marks_inside : o < length (marks_of h)
-  marks_inside = let same : length (marks_of h) ≡ length (world_of h).content.holdings = sym (length-map (marks_of h) (each (λ (m : Marked). m.byte)))
-      ∙ ap length ((marked_run h).held) in omega (arith, same, r.inside)
+  marks_inside = omega (
+    arith,
+    sym (length-map _ (each _))
+        ∙ ap length ((marked_run h).held),
+    r.inside,
+  )
 
   pub has_end : HasEnd h (marks_of h) o end (is_pipe r.object)
   has_end = record { object = r.object; there = r.is_object; kind = refl; within = r.near; inside = marks_inside }
 
   drained_at : (n other : ℕ) → other < 2 → origins_of (side other (held_at drained n)) ≡ (if is_pipe r.object && (n == o && other == end) then drop k (origins_at h n other) else origins_at h n other)
-  drained_at n other low = taken_side (is_pipe r.object) k o end n other (marks_of h) marks_inside r.near low
+  drained_at n other low = taken_side _ k o _ n _ _ marks_inside r.near low
 
   past_either : (b : Bool) (xs : List Origin) → All (IsPast (length h.events)) xs → All (IsPast (length h.events)) (if b then drop k xs else xs)
   past_either true xs past = All-drop (IsPast (length h.events)) k xs past
@@ -66,18 +67,19 @@ module _ (h : History) (e : Event) (fd limit k : ℕ) (is : e.op ≡ op.ReadFd f
       → option_map v (behind (world_of (with_entry h e)).frame e.pid fd) ≡ Some view
       → (view.obj.0 ≡ o) × (view.end ≡ end) × (is_pipe r.object ≡ false → view.at - k ≡ offset_of (world_of h).content r.before.id)
   read_view v view object at_end offset told =
-      let there : Some (v r.after) ≡ Some view = sym (ap (option_map v) r.is_after) ∙ told in
       let one : v r.after ≡ view = cc in (
-        ap (λ (x : OpenView). x.obj.0) (sym one) ∙ object r.after ∙ r.on,
-        ap (λ (x : OpenView). x.end) (sym one) ∙ at_end r.after ∙ r.end,
+        ap (λ x. x.obj.0) (sym one) ∙ object r.after ∙ r.on,
+        ap (λ x. x.end) (sym one) ∙ at_end _ ∙ r.end,
         λ file.
-            let stands : view.at ≡ offset_of (world_of h).content r.before.id + k = ap (λ (x : OpenView). x.at) (sym one) ∙ offset r.after ∙ ap (offset_of (world_of (with_entry h e)).content) r.id
-            ∙ r.moved file in
-            omega (arith, stands),
+            omega (
+              arith,
+              ap (λ x. x.at) (sym one) ∙ offset _ ∙ ap (offset_of (world_of (with_entry h e)).content) r.id
+                  ∙ r.moved file,
+            ),
       )
 
   pub read_opened : (v : OpenFile → OpenView) → option_map v (behind (world_of (with_entry h e)).frame e.pid fd) ≡ None → ⊥
-  read_opened v none = let there : Some (v r.after) ≡ None = sym (ap (option_map v) r.is_after) ∙ none in absurd (cc)
+  read_opened v none = absurd (cc)
 
   -- whether it is on a pipe afterwards
   pub read_piped : option_map_or is_pipe (at (world_of (with_entry h e)).frame.objects o) false ≡ is_pipe r.object
@@ -95,8 +97,8 @@ module _ (h : History) (e : Event) (fd limit k : ℕ) (is : e.op ≡ op.ReadFd f
 
   pub side_read : (t : Tracks) (s : Side) → AreTracks t h → 0 < k → side_of t.sides o end ≡ Some s → SideRead t s
   side_read t s are some there =
-      let known : IsTracked t.labels.all.items h (Some s) (origins_at h o end) = subst (λ x. IsTracked t.labels.all.items h x (origins_at h o end)) there (tracked t are) in
-      let enough = read_there h e fd limit k is gives r some in
+      let known = subst (λ x. IsTracked t.labels.all.items h x (origins_at h o end)) there (tracked t are) in
+      let enough = read_there h e fd _ k is gives r some in
       record {
         like = known.0;
         labelled = known.1;
@@ -106,28 +108,26 @@ module _ (h : History) (e : Event) (fd limit k : ℕ) (is : e.op ≡ op.ReadFd f
 
   pub side_there : (t : Tracks) → AreTracks t h → 0 < k → side_of t.sides o end ≡ None → ⊥
   side_there t are some none =
-      let known : origins_at h o end ≡ [] = subst (λ x. IsTracked t.labels.all.items h x (origins_at h o end)) none (tracked t are) in
-      let long : length (origins_at h o end) ≡ 0 = ap length known in
-      let enough = read_there h e fd limit k is gives r some in
-      omega (arith, enough, long, some)
+      let long = ap length (subst (λ x. IsTracked t.labels.all.items h x (origins_at h o end)) none (tracked t are)) in
+      omega (arith, read_there h e fd _ k is gives r some, long, some)
 
   -- ---- its lines
   pub read_between : (front : ℕ) → between front (front + from h e fd limit k is gives r) (front + from h e fd limit k is gives r + k) (origins_at h o end) ≡ take k
       (drop (from h e fd limit k is gives r) (origins_at h o end))
   read_between front =
-      let at : ℕ = from h e fd limit k is gives r in
-      ap (λ n. take n (drop (front + at - front) (origins_at h o end))) (let z : front + at + k - (front + at) ≡ k = omega arith in z)
-      ∙ ap (λ n. take k (drop n (origins_at h o end))) (let z : front + at - front ≡ at = omega arith in z)
+      let at = from h e fd _ k is gives r in
+      ap (λ n. take n (drop (front + at - front) (origins_at h o end))) (omega arith)
+      ∙ ap (λ n. take k (drop n (origins_at h o end))) (omega arith)
 
   pub pieces_are : (front first last : ℕ) → first ≡ front + from h e fd limit k is gives r → last ≡ first + k → pieces_from 0 (between front first last (origins_at h o end)) ≡ pieces_read h e
   pieces_are front first last starts ends =
       ap (λ n. pieces_from 0 (between front first n (origins_at h o end))) ends
       ∙ ap (λ n. pieces_from 0 (between front n (n + k) (origins_at h o end))) starts
-      ∙ ap (pieces_from 0) (read_between front)
-      ∙ sym (read_pieces h e fd limit k is gives r)
+      ∙ ap (pieces_from 0) (read_between _)
+      ∙ sym (read_pieces h e fd _ k is gives r)
 
   pub lines_are : flat_map (piece_line h (length h.events + 1) o) (pieces_read h e) ≡ lines_of_entry h e
-  lines_are = sym (read_lines h e fd limit k is gives r ∙ ap (flat_map (piece_line h (length h.events + 1) o)) (sym (read_pieces h e fd limit k is gives r)))
+  lines_are = sym (read_lines h e fd _ k is gives r ∙ ap (flat_map _) (sym (read_pieces h e fd _ k is gives r)))
 
   -- ---- the counts
   counted : (pieces : List Piece) (n : Counts) → 0 < length pieces → with_pieces pieces n ≡ record { reads = n.reads + 1; lines = n.lines + length pieces }
@@ -136,8 +136,8 @@ module _ (h : History) (e : Event) (fd limit k : ℕ) (is : e.op ≡ op.ReadFd f
 
   pub counts_read : (t : Tracks) → AreTracks t h → 0 < k → record { reads = t.reads + 1; lines = t.lines + length (pieces_read h e) } ≡ counts_of (with_entry h e)
   counts_read t are some =
-      ap (λ (n : Counts). record { reads = n.reads + 1; lines = n.lines + length (pieces_read h e) }) are.counts
-      ∙ sym (counts_more h e ∙ counted (pieces_read h e) (counts_of h) (pieces_some h e fd limit k is gives r some))
+      ap (λ n. record { reads = n.reads + 1; lines = n.lines + length (pieces_read h e) }) are.counts
+      ∙ sym (counts_more h e ∙ counted _ _ (pieces_some h e fd _ k is gives r some))
 
   -- ---- the whole
   pub read_tracks : (t v : Tracks) (s : Sides) (n : ℕ) → AreTracks t h → 0 < k → length h.events + 2 < 2 ^ 32 → v ≡ record t { reads = t.reads + 1; lines = t.lines + n } → n ≡ length (pieces_read h e)

@@ -2,17 +2,16 @@
 use Rattle.std.proofs.Common.{◌≡◌, ◌≤◌, ◌<◌, ◌+◌, ◌==◌, ◌&&◌, ◌||◌, nat_le, ℕ, Bool, true, false, true≢false, length, set, take, drop, Option, Some, is_some}
 use Rattle.std.proofs.Common.{if◌then◌else◌, refl, sym, ap, ◌∙◌, arith, inl, inr}
 use Rattle.std.{specs.Option.option_map_or, proofs.{Math.Bool.and-false, lemmas.{Bool.{leb-true, Decides.eqb_tells}, List.{get_or-set_same, length-take}}}}
-use Rattle.ix_model.specs.{laws.{Clean.IsClean, Sound.Sound}, world.World.{World, Frame, Content, Object, at, is_pipe}, rows.Outcomes.{Outcome, Refuse, Pass}}
-use Rattle.ix_model.specs.{world.Contents.{after_read, carried, change_side, readable, offset_of, on_pipe}, rows.Walks.{OpenFile, behind}, rows.Telling.told}
-use Rattle.ix_model.specs.{rows.Table.{row, verdict}, rows.OnDescriptors.{LengthChecks, read_fd}, history.Events.Event, history.Freshness.closes}
-use Rattle.ix_model.specs.{history.Step.{Given, answer, step, step_of, plainly, read_answer}, history.History.{History, world_of, next, with_entry}}
-use Rattle.ix_model.specs.declared.reply.{Kind.Kind, Reply.Reply}
-use Rattle.ix_model.specs.history.Events as op
-use Rattle.ix_model.specs.declared.reply.Reply.TheVariants as reply
-use Rattle.ix_model.proofs.{clean.Carrying.carried_decided, sound.Carried.there_is, tables.Finds.in_table, words.Answered.passed, words.Runs.world_of-push}
-use Rattle.ix_model.proofs.{words.Ends.{Ends, Anything, ends_bind, ends_need, ends_object, ends_opened, ends_then}, words.Standing.{behind_is, stands}}
+use Rattle.ix_model.specs.{laws.{Clean.IsClean, Sound.Sound}, world.World.{World, Frame, Content, Object, at, is_pipe}, rows.Outcomes.{Outcome, Refuse, Pass}, declared.reply.Reply.Reply}
+use Rattle.ix_model.specs.{world.Contents.{after_read, carried, change_side, readable, offset_of, on_pipe}, rows.{Walks.{OpenFile, behind}, Telling.told}}
+use Rattle.ix_model.specs.{rows.{Table.{row, verdict}, OnDescriptors.{LengthChecks, read_fd}}, history.{Events.Event, Freshness.closes}}
+use Rattle.ix_model.specs.history.{Step.{Given, answer, step, step_of, plainly, read_answer}, History.{History, world_of, next, with_entry}}
+use Rattle.ix_model.proofs.{clean.Carrying.carried_decided, sound.Carried.there_is, tables.Finds.in_table, words.{Answered.passed, Runs.world_of-push}}
+use Rattle.ix_model.proofs.words.{Ends.{Ends, Anything, ends_bind, ends_need, ends_object, ends_opened, ends_then}, Standing.{behind_is, stands}}
 use Rattle.ix_fresh.proofs.Remaining.{descriptors_remain}
 use Rattle.ix_flow.proofs.Rows.{read_answers}
+use Rattle.ix_model.specs.history.Events as op
+use Rattle.ix_model.specs.declared.reply.Reply.TheVariants as reply
 
 -- ---- what stands behind the descriptor
 -- what holds anyway holds where a row passes
@@ -23,26 +22,25 @@ ends_anyway (Pass a g) Q holds = holds
 
 reads_behind : (t : LengthChecks) (pid fd count : ℕ) (f : Frame) → Ends (read_fd t pid fd count f) Anything (λ r g. is_some (behind f pid fd) ≡ true)
 unfolding read_fd
-reads_behind t pid fd count f = ends_bind _ _ f Anything _ (ends_opened pid fd f Anything _ (λ e is. ends_anyway _ (is_some (behind f pid fd) ≡ true) (ap is_some is)) tt)
+reads_behind t pid fd count f = ends_bind _ _ f _ _ (ends_opened _ fd f _ _ (λ e is. ends_anyway _ _ (ap is_some is)) tt)
 
 reads_few : (t : LengthChecks) (pid fd count : ℕ) (f : Frame) → Ends (read_fd t pid fd count f) Anything (λ r g. nat_le count 4096 ≡ true)
 unfolding read_fd
 reads_few t pid fd count f =
     let Q : Reply → Frame → Type 0 = λ r g. nat_le count 4096 ≡ true in
-    ends_bind _ _ f Anything Q (ends_opened pid fd f Anything _ (λ e is.
-    ends_then _ _ f Anything Q (ends_need _ _ f Anything _ (λ may.
-    ends_bind _ _ f Anything Q (ends_object e.entry.object f Anything _ (λ x here.
-    ends_then _ _ f Anything Q (ends_need _ _ f Anything _ (λ free.
-    ends_then _ _ f Anything Q (ends_need _ _ f Anything _ (λ few. ends_anyway _ (nat_le count 4096 ≡ true) few) tt)) tt)) tt)) tt)) tt)
+    ends_bind _ _ f _ Q (ends_opened _ fd f _ _ (λ e is.
+    ends_then _ _ f _ Q (ends_need _ _ f _ _ (λ may.
+    ends_bind _ _ f _ Q (ends_object _ f _ _ (λ x here.
+    ends_then _ _ f _ Q (ends_need _ _ f _ _ (λ free.
+    ends_then _ _ f _ Q (ends_need _ _ f _ _ (λ few. ends_anyway _ _ few) tt)) tt)) tt)) tt)) tt)
 
 -- a read that gives bytes has something behind its descriptor
 pub read_behind : (w : World) (place pid fd count k : ℕ) → (step w place pid (op.ReadFd fd count)).reply ≡ reply.Bytes k → (b : OpenFile) × (behind w.frame pid fd ≡ Some b)
 unfolding step answer row
 read_behind w place pid fd count k is =
     let t = told w pid (op.ReadFd fd count) in
-    let d = verdict t place pid (op.ReadFd fd count) w.frame in
-    there_is (behind w.frame pid fd) (passed t place pid (op.ReadFd fd count) w.frame (λ r g. is_some (behind w.frame pid fd) ≡ true) (reads_behind t pid fd count w.frame)
-    (read_answers w count (behind w.frame pid fd) d.reply d.frame k is))
+    there_is _ (passed t _ _ _ _ (λ r g. is_some _ ≡ true) (reads_behind t _ fd _ _)
+    (read_answers w _ _ _ _ k is))
 
 -- ---- the offset
 -- what a read gives that says how much it gives, and what it leaves
@@ -55,13 +53,13 @@ gave : (w : World) (count : ℕ) (b : Option OpenFile) (e : OpenFile) (r : Reply
     → Gave w count e g k (read_answer w count b r g)
 unfolding read_answer plainly
 gave w count (Some c) e (reply.Bytes n) g k is gives =
-    let bytes = take count (readable w.frame w.content c) in
+    let bytes = take _ _ in
     let one : c ≡ e = cc in
     let many : length bytes ≡ k = cc in
     record {
       content = ap (λ x. after_read w.frame x (length bytes) (carried w.frame g w.content)) one ∙ ap (λ m. after_read w.frame e m (carried w.frame g w.content)) many;
       long = many;
-      few = let few = length-take count (readable w.frame w.content c) in omega (arith, many, few);
+      few = omega (arith, many, length-take count (readable w.frame w.content c));
     }
 gave w count b e r g k is gives = absurd (cc)
 
@@ -69,34 +67,35 @@ step_gave : (w : World) (place pid fd count k : ℕ) (e : OpenFile) → (step w 
     → Gave w count e (verdict (told w pid (op.ReadFd fd count)) place pid (op.ReadFd fd count) w.frame).frame k (step w place pid (op.ReadFd fd count))
 unfolding step answer
 step_gave w place pid fd count k e gives is =
-    let d = verdict (told w pid (op.ReadFd fd count)) place pid (op.ReadFd fd count) w.frame in
-    gave w count (behind w.frame pid fd) e d.reply d.frame k is gives
+    gave w _ _ e _ _ k is gives
 
 -- a read gives 4096 bytes at most
 pub read_few : (w : World) (place pid fd count k : ℕ) (e : OpenFile) → (step w place pid (op.ReadFd fd count)).reply ≡ reply.Bytes k → behind w.frame pid fd ≡ Some e → k ≤ 4096
 unfolding step answer row
 read_few w place pid fd count k e is there =
     let t = told w pid (op.ReadFd fd count) in
-    let d = verdict t place pid (op.ReadFd fd count) w.frame in
-    let asked = leb-true count 4096 (passed t place pid (op.ReadFd fd count) w.frame (λ r g. nat_le count 4096 ≡ true) (reads_few t pid fd count w.frame)
-    (read_answers w count (behind w.frame pid fd) d.reply d.frame k is)) in
-    omega (arith, asked, (step_gave w place pid fd count k e is there).few)
+    omega (
+      arith,
+      leb-true count 4096 (passed t _ _ _ _ (λ r g. nat_le count 4096 ≡ true) (reads_few t _ fd _ _)
+          (read_answers w _ _ _ _ k is)),
+      (step_gave w place pid fd count k e is there).few,
+    )
 
 -- the content after a read that gives bytes
 step_content : (w : World) (place pid fd count k : ℕ) (e : OpenFile) → IsClean w → (step w place pid (op.ReadFd fd count)).reply ≡ reply.Bytes k → behind w.frame pid fd ≡ Some e
     → (step w place pid (op.ReadFd fd count)).world.content ≡ after_read w.frame e k w.content
-step_content w place pid fd count k e clean gives is = (step_gave w place pid fd count k e gives is).content
-    ∙ ap (after_read w.frame e k) (carried_decided w (told w pid (op.ReadFd fd count)) place pid (op.ReadFd fd count) refl clean)
+step_content w place pid fd count k e clean gives is = (step_gave w _ _ fd _ k e gives is).content
+    ∙ ap (after_read w.frame e k) (carried_decided w _ _ _ _ refl clean)
 
 -- a file's offset is past what was read
 read_offset : (f : Frame) (e : OpenFile) (k : ℕ) (c : Content) → on_pipe f e ≡ false → e.id < length c.offsets → offset_of (after_read f e k c) e.id ≡ offset_of c e.id + k
 unfolding after_read
-read_offset f e k c file inside = go (on_pipe f e) file
+read_offset f e k c file inside = go _ file
   where
     go : (b : Bool) → b ≡ false → offset_of (if b then change_side e.entry.object e.entry.end
         (drop k) c else record c { offsets = set c.offsets e.id (offset_of c e.id + k) }) e.id ≡ offset_of c e.id + k
     go true is = cc
-    go false is = get_or-set_same c.offsets e.id (offset_of c e.id + k) 0 inside
+    go false is = get_or-set_same c.offsets e.id _ 0 inside
 
 -- ---- both together
 pub end_near : (n : ℕ) (b : Bool) → (n == 0 || n == 1 && b) ≡ true → n < 2
@@ -109,10 +108,10 @@ end_near n b is = elim (eqb_tells n 0) [
 ]
 
 pub pipe_by_kind : (x y : Object) → y.kind ≡ x.kind → is_pipe y ≡ is_pipe x
-pipe_by_kind x y same = ap (λ (k : Kind). is_pipe (record x { kind = k })) same
+pipe_by_kind x y same = ap (λ k. is_pipe (record x { kind = k })) same
 
 pub pipe_of : (x y : Object) → Some x ≡ Some y → is_pipe x ≡ is_pipe y
-pipe_of x y same = let one : x ≡ y = cc in ap (λ (z : Object). is_pipe z) one
+pipe_of x y same = let one : x ≡ y = cc in ap (λ z. is_pipe z) one
 
 -- the open entry behind the descriptor of a read that gave bytes, before and after, with its object
 pub record Reading (h : History) (e : Event) (fd k : ℕ) : Type 0 where
@@ -158,7 +157,7 @@ reading h e fd count k sound is gives =
       near = end_near b.entry.end _ (sound.opens.end b.id b.entry entry);
       object = stays.was;
       is_object = stays.is_was;
-      inside = let there = in_table f.objects b.entry.object stays.was stays.is_was in omega (arith, there, sound.lengths.holdings);
+      inside = omega (arith, in_table f.objects b.entry.object stays.was stays.is_was, sound.lengths.holdings);
       now = stays.object;
       is_now = ap (λ (v : World). at v.frame.objects b.entry.object) same ∙ stays.is_object;
       kind = pipe_by_kind stays.was stays.object stays.kind;
@@ -170,5 +169,5 @@ reading h e fd count k sound is gives =
           ∙ ap (λ o. offset_of (step w last e.pid o).world.content b.id) is
           ∙ ap (λ (c : Content). offset_of c b.id) (step_content w last e.pid fd count k b sound.holdings.clean gives_there found.1)
           ∙ read_offset f b k w.content (ap (λ o. option_map_or is_pipe o false) stays.is_was ∙ file)
-          (let inside = in_table f.opens b.id b.entry entry in omega (arith, inside, sound.lengths.offsets));
+          (omega (arith, in_table f.opens b.id b.entry entry, sound.lengths.offsets));
     }

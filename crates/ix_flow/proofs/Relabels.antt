@@ -1,22 +1,20 @@
 -- What tracks stand for after a call that sets an object's label.
 use Rattle.std.proofs.Common.{◌≡◌, ◌≢◌, ◌≤◌, ◌<◌, ◌+◌, ◌^◌, ◌==◌, ◌&&◌, ◌||◌, not, ℕ, Bool, true, false, true≢false, [], ◌∷◌, ◌++◌, length, Option, Some, None}
-use Rattle.std.proofs.Common.{is_some, refl, sym, ap, ◌∙◌, arith, inl, inr}
-use Rattle.std.specs.{Prelude.slice_get, Option.option_map_or}
+use Rattle.std.{proofs.Common.{is_some, refl, sym, ap, ◌∙◌, arith, inl, inr}, specs.{Prelude.slice_get, Option.option_map_or}}
 use Rattle.std.proofs.lemmas.{Bool.{eq-eqb, ne_eqb, Decides.eqb_tells}, List.{length-append, append_cancel_left}}
 use Rattle.ix_label.specs.Category.{Categories, leq}
-use Rattle.ix_model.specs.{world.{Naming.PathOf, World.{World, Frame, Object, at}}, opening.Opening.opening_world, rows.Auditing.audit_line}
+use Rattle.ix_model.specs.{world.{Naming.PathOf, World.{Frame, Object, at}}, opening.Opening.opening_world, rows.Auditing.audit_line}
 use Rattle.ix_model.specs.{history.{AuditLog.audit_log, Events.Event, History.{History, world_of, next, with_entry}}, declared.audit.AuditLine.AuditLine}
+use Rattle.ix_model.proofs.{told.Logs.logged_run, words.Runs.world_of-push}
+use Rattle.ix_iso.proofs.Lowerings.{lowerings_logged}
+use Rattle.ix_flow.specs.{Lines.lines_of_entry, Lowerings.falls, Marks.marks_of, Moves.edited, Tracking.{AreFalls, AreTracks, is_noted, let_down}}
+use Rattle.ix_flow.{specs.declared.{falls.Falls.Falls, tracks.Tracks.Tracks}, proofs.{Staying.marks_next, Through.kept_marks}}
+use Rattle.ix_flow.proofs.{Arms.{kept_sides, tracks_now}, FirstFall.{falls_last, falls_push, none_late}, NewObjects.{Stood, stood_step}, Pushing.stands_last}
+use Rattle.ix_flow.proofs.{ReadMarks.{reads_nothing, tells_nothing}, Relabelling.{LetDown, Nothing, Says, log_within, opening_log, says_step, within_at}}
 use Rattle.ix_model.specs.history.Lowering as low
 use Rattle.ix_model.specs.history.Events as op
 use Rattle.ix_model.specs.declared.audit.Act.TheVariants as act
 use Rattle.ix_model.specs.declared.reply.Reply.TheVariants as reply
-use Rattle.ix_model.proofs.{told.Logs.logged_run, words.Runs.world_of-push}
-use Rattle.ix_iso.proofs.Lowerings.{lowerings_logged}
-use Rattle.ix_flow.specs.{Lines.lines_of_entry, Lowerings.falls, Marks.marks_of, Moves.edited, Tracking.{AreFalls, AreTracks, is_noted, let_down}}
-use Rattle.ix_flow.specs.declared.{falls.Falls.Falls, tracks.Tracks.Tracks}
-use Rattle.ix_flow.proofs.{Arms.{kept_sides, tracks_now}, FirstFall.{falls_last, falls_push, none_late}, NewObjects.{Stood, stood_step}, Pushing.stands_last}
-use Rattle.ix_flow.proofs.{ReadMarks.{reads_nothing, tells_nothing}, Relabelling.{LetDown, Nothing, Says, log_within, opening_log, says_step, within_at}}
-use Rattle.ix_flow.proofs.{Staying.marks_next, Through.kept_marks}
 
 -- ---- what is noted
 module _ (h : History) (e : Event) where
@@ -36,37 +34,36 @@ module _ (h : History) (e : Event) where
   falls_next was now are few same new = record {
     noted = λ o place low. elim (eqb_tells place (length h.events + 1)) [
       | inl here ↦ ap (is_noted now o) here.1 ∙ new o ∙ sym (ap (let_down (with_entry h e) o) here.1 ∙ falls_last (opening_world h.config) 1 h.events e o last refl)
-      | inr apart ↦ same o place low apart.1 ∙ are.noted o place low ∙ sym (falls_push (opening_world h.config) 1 h.events e o place apart.1)
+      | inr apart ↦ same o _ low apart.1 ∙ are.noted o place low ∙ sym (falls_push (opening_world h.config) 1 h.events e o place apart.1)
     ];
-    few = let many = length-append h.events (e ∷ []) in omega (arith, many, few);
+    few = omega (arith, length-append h.events (e ∷ []), few);
   }
 
   -- an object that is let down is logged
   logs_fall : (o : ℕ) → falls f g o ≡ true → (was now : Categories) × (g.log ≡ f.log ++ audit_line last e.pid act.DownFile o was now ∷ [])
   unfolding falls
-  logs_fall o down = go (at f.objects o) (at g.objects o) refl refl down
+  logs_fall o down = go _ _ refl refl down
     where
       go : (a b : Option Object) → at f.objects o ≡ a → at g.objects o ≡ b → option_map_or (λ x. option_map_or (λ y. not (leq x.label y.label)) b false) a false ≡ true
           → (was now : Categories) × (g.log ≡ f.log ++ audit_line last e.pid act.DownFile o was now ∷ [])
       go None b is here down = absurd (true≢false (sym down))
       go (Some x) None is here down = absurd (true≢false (sym down))
-      go (Some x) (Some y) is here down = rises (leq x.label y.label) refl down
+      go (Some x) (Some y) is here down = rises _ refl down
         where
           rises : (c : Bool) → leq x.label y.label ≡ c → not c ≡ true → (was now : Categories) × (g.log ≡ f.log ++ audit_line last e.pid act.DownFile o was now ∷ [])
           rises true up isnt = absurd (true≢false (sym isnt))
-          rises false below isnt = (x.label, y.label, (lowerings_logged (world_of h) last e (low.OfObject o x y is here below)).log)
+          rises false below isnt = (x.label, y.label, (lowerings_logged _ _ e (low.OfObject o x y is here below)).log)
 
   -- where the log has no line more, none is
   none_down : g.log ≡ f.log → (o : ℕ) → falls f g o ≡ false
-  none_down same o = go (falls f g o) refl
+  none_down same o = go _ refl
     where
       go : (b : Bool) → falls f g o ≡ b → b ≡ false
       go false is = refl
       go true is =
           let logged = logs_fall o is in
-          let long : length f.log ≡ length (f.log ++ audit_line last e.pid act.DownFile o logged.0 logged.1 ∷ []) = ap length (sym same ∙ logged.2) in
           let more = length-append f.log (audit_line last e.pid act.DownFile o logged.0 logged.1 ∷ []) in
-          absurd (omega (arith, long, more))
+          absurd (omega (arith, ap length (sym same ∙ logged.2), more))
 
   -- where it has that of one, that one is, and no other
   one_down : (o : ℕ) (x y : Object) → at f.objects o ≡ Some x → at g.objects o ≡ Some y → leq x.label y.label ≡ false → g.log ≡ f.log ++ audit_line last e.pid act.DownFile o x.label y.label ∷ []
@@ -79,52 +76,50 @@ module _ (h : History) (e : Event) where
         ∙ ap (λ b. option_map_or (λ v. not (leq x.label v.label)) b false) here
         ∙ ap not down
         ∙ sym (eq-eqb n o same.1)
-    | inr apart ↦ go (falls f g n) refl apart.1 ∙ sym (ne_eqb n o apart.1)
+    | inr apart ↦ go _ refl apart.1 ∙ sym (ne_eqb n o apart.1)
   ]
     where
       go : (b : Bool) → falls f g n ≡ b → (n ≡ o → ⊥) → b ≡ false
       go false other apart = refl
       go true other apart =
           let logged = logs_fall n other in
-          let lines : audit_line last e.pid act.DownFile o x.label y.label ∷ [] ≡ audit_line last e.pid act.DownFile n logged.0 logged.1 ∷ [] = append_cancel_left f.log _ _ (sym line ∙ logged.2) in
-          let one : audit_line last e.pid act.DownFile o x.label y.label ≡ audit_line last e.pid act.DownFile n logged.0 logged.1 = cc (lines) in
-          absurd (apart (sym (ap (λ (l : AuditLine). l.target) one)))
+          let one : audit_line last e.pid act.DownFile o x.label y.label ≡ audit_line last e.pid act.DownFile n logged.0 logged.1 = cc (append_cancel_left f.log _ _ (sym line ∙ logged.2)) in
+          absurd (apart (sym (ap (λ l. l.target) one)))
 
 -- ---- the log
 -- each line of a log has the place of an entry
 places_past : (h : History) (n : ℕ) (l : AuditLine) → slice_get (world_of h).frame.log n ≡ Some l → l.place < length h.events + 1
 unfolding world_of
 places_past h n l is =
-    let all : (world_of h).frame.log ≡ audit_log (opening_world h.config) 1 h.events = logged_run (opening_world h.config) 1 h.events
-    ∙ ap (λ log. log ++ audit_log (opening_world h.config) 1 h.events) (opening_log h.config) in
-    within_at 1 (length h.events + 1) (audit_log (opening_world h.config) 1 h.events) n l (log_within (opening_world h.config) 1 h.events (length h.events + 1) (omega arith))
-    (ap (λ log. slice_get log n) (sym all) ∙ is)
+    within_at 1 _ _ n l (log_within _ 1 _ _ (omega arith))
+    (ap (λ log. slice_get log n) (sym (logged_run _ 1 _
+    ∙ ap (λ log. log ++ audit_log (opening_world h.config) 1 h.events) (opening_log _))) ∙ is)
 
 module _ (h : History) (seat line pid : ℕ) (path : PathOf) (label : Categories) where
   abbrev e : Event
   e = record { seat = seat; line = line; pid = pid; op = op.SetLabel path label }
 
   says : Says (length h.events + 1) pid (world_of h).frame (next h e).world.frame
-  says = says_step (world_of h) (length h.events + 1) pid path label
+  says = says_step _ _ _ _ _
 
   log_now : (world_of (with_entry h e)).frame.log ≡ (next h e).world.frame.log
-  log_now = ap (λ (w : World). w.frame.log) (world_of-push h e)
+  log_now = ap (λ w. w.frame.log) (world_of-push h e)
 
   marks_label : marks_of (with_entry h e) ≡ kept_marks h e
   unfolding edited
   marks_label = marks_next h e
 
   stood : Stood (world_of h).frame (next h e).world.frame
-  stood = stood_step (world_of h) (length h.events + 1) pid (op.SetLabel path label) refl
+  stood = stood_step _ _ _ _ refl
 
   silent : (d count k : ℕ) → e.op ≡ op.ReadFd d count → (next h e).reply ≡ reply.Bytes k → k ≡ 0
-  silent d count k is gives = let no : op.SetLabel path label ≡ op.ReadFd d count = is in cc
+  silent d count k is gives = cc
 
   module _ (few : length (with_entry h e).events ≤ 6800000) (t : Tracks) (are : AreTracks t h) where
     tracks : (now : Falls) → AreFalls now (with_entry h e) → AreTracks (record t { falls = now }) (with_entry h e) × (lines_of_entry h e ≡ [])
     tracks now falls = (
-      tracks_now h e are.sound t (record t { falls = now }) are refl (reads_nothing h e silent) falls (kept_marks h e) marks_label
-          (kept_sides h e are.sound stood t.sides t.labels.all.items are.sides),
+      tracks_now h e are.sound t _ are refl (reads_nothing h e silent) falls _ marks_label
+          (kept_sides h e are.sound stood _ _ are.sides),
       tells_nothing h e silent,
     )
 
@@ -133,7 +128,7 @@ module _ (h : History) (seat line pid : ℕ) (path : PathOf) (label : Categories
 
     -- none was noted before for this place
     not_yet : (o : ℕ) → is_noted t.falls o (length h.events + 1) ≡ false
-    not_yet o = are.falls.noted o (length h.events + 1) (omega (arith, are.falls.few)) ∙ none_late (opening_world h.config) 1 h.events o (length h.events + 1) (omega arith)
+    not_yet o = are.falls.noted o _ (omega (arith, are.falls.few)) ∙ none_late _ 1 _ o _ (omega arith)
 
     -- the last line of the log tells none
     pub none_told : ((l : AuditLine) → (n : ℕ) → n + 1 ≡ length (world_of (with_entry h e)).frame.log → slice_get (world_of (with_entry h e)).frame.log n ≡ Some l → l.place ≡ length h.events + 1
@@ -157,7 +152,7 @@ module _ (h : History) (seat line pid : ℕ) (path : PathOf) (label : Categories
     pub no_line : (n : ℕ) → n + 1 ≡ length (world_of (with_entry h e)).frame.log → slice_get (world_of (with_entry h e)).frame.log n ≡ None → AreTracks t (with_entry h e) × (lines_of_entry h e ≡ [])
     no_line n at_end none = none_told (λ l m last is here lowers.
         let same : m ≡ n = omega (arith, at_end, last) in
-        let gone : Some l ≡ None = sym is ∙ ap (slice_get (world_of (with_entry h e)).frame.log) same ∙ none in
+        let gone = sym is ∙ ap (slice_get _) same ∙ none in
         true≢false (ap is_some gone))
 
     pub other_line : (k : AuditLine) (n : ℕ) → n + 1 ≡ length (world_of (with_entry h e)).frame.log → slice_get (world_of (with_entry h e)).frame.log n ≡ Some k
@@ -165,9 +160,9 @@ module _ (h : History) (seat line pid : ℕ) (path : PathOf) (label : Categories
         → AreTracks t (with_entry h e) × (lines_of_entry h e ≡ [])
     other_line k n at_end is other = none_told (λ l m last there here lowers.
         let same : m ≡ n = omega (arith, at_end, last) in
-        let both : Some l ≡ Some k = sym there ∙ ap (slice_get (world_of (with_entry h e)).frame.log) same ∙ is in
+        let both = sym there ∙ ap (slice_get _) same ∙ is in
         let one : l ≡ k = cc (both) in
-        other (ap (λ (x : AuditLine). x.place) (sym one) ∙ here) (ap (λ (x : AuditLine). x.act) (sym one) ∙ lowers))
+        other (ap (λ x. x.place) (sym one) ∙ here) (ap (λ x. x.act) (sym one) ∙ lowers))
 
     -- the last line of the log tells one
     pub one_told : (l : AuditLine) (n : ℕ) → n + 1 ≡ length (world_of (with_entry h e)).frame.log → slice_get (world_of (with_entry h e)).frame.log n ≡ Some l → l.place ≡ length h.events + 1

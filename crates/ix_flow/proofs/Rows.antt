@@ -1,11 +1,10 @@
 -- What is known of labels where a read gave bytes, or a write told how many it wrote.
 use Rattle.std.proofs.Common.{◌≡◌, ℕ, true, List, Option, Some, refl, sym, ap, subst}
-use Rattle.ix_model.specs.{world.World.{World, Frame}, rows.{Walks.{OpenFile, behind}, Table.{row, verdict}, Telling.told}, declared.reply.Reply.Reply}
+use Rattle.ix_model.{specs.{world.World.{World, Frame}, rows.{Walks.{OpenFile, behind}, Table.row, Telling.told}, declared.reply.Reply.Reply}, proofs.words.Answered.{passed, step_frame}}
 use Rattle.ix_model.specs.history.{AuditLog.is_answer, Step.{answer, step, plainly, read_answer, write_answer}}
+use Rattle.ix_iso.proofs.Facts.{ReadFacts, read_known, WriteFacts, write_known}
 use Rattle.ix_model.specs.history.Events as op
 use Rattle.ix_model.specs.declared.reply.Reply.TheVariants as reply
-use Rattle.ix_model.proofs.words.Answered.{passed, step_frame}
-use Rattle.ix_iso.proofs.Facts.{ReadFacts, ReadKnown, read_known, WriteFacts, WriteKnown, write_known}
 
 pub read_answers : (w : World) (count : ℕ) (b : Option OpenFile) (r : Reply) (g : Frame) (k : ℕ) → (read_answer w count b r g).reply ≡ reply.Bytes k → is_answer r ≡ true
 unfolding read_answer plainly
@@ -22,15 +21,13 @@ pub read_step : (w : World) (place pid fd count k : ℕ) (e : OpenFile) → (ste
 unfolding step answer row
 read_step w place pid fd count k e is there =
     let t = told w pid (op.ReadFd fd count) in
-    let passes = read_answers w count (behind w.frame pid fd) (verdict t place pid (op.ReadFd fd count) w.frame).reply (verdict t place pid (op.ReadFd fd count) w.frame).frame k is in
-    subst (λ (g : Frame). ReadFacts pid w.frame e g) (sym (step_frame w place pid (op.ReadFd fd count)))
-    (passed t place pid (op.ReadFd fd count) w.frame (ReadKnown pid fd w.frame) (read_known t pid fd count w.frame) passes e there)
+    subst (λ g. ReadFacts pid w.frame e g) (sym (step_frame w _ _ _))
+    (passed t _ _ _ _ _ (read_known t _ fd _ _) (read_answers w _ _ _ _ k is) e there)
 
 pub write_step : (w : World) (place pid fd : ℕ) (bytes : List ℕ) (k : ℕ) (e : OpenFile) → (step w place pid (op.WriteFd fd bytes)).reply ≡ reply.Number k → behind w.frame pid fd ≡ Some e
     → WriteFacts pid w.frame e (step w place pid (op.WriteFd fd bytes)).world.frame
 unfolding step answer row
 write_step w place pid fd bytes k e is there =
     let t = told w pid (op.WriteFd fd bytes) in
-    let passes = write_answers w bytes (behind w.frame pid fd) (verdict t place pid (op.WriteFd fd bytes) w.frame).reply (verdict t place pid (op.WriteFd fd bytes) w.frame).frame k is in
-    subst (λ (g : Frame). WriteFacts pid w.frame e g) (sym (step_frame w place pid (op.WriteFd fd bytes)))
-    (passed t place pid (op.WriteFd fd bytes) w.frame (WriteKnown pid fd w.frame) (write_known t pid fd w.frame) passes e there)
+    subst (λ g. WriteFacts pid w.frame e g) (sym (step_frame w _ _ _))
+    (passed t _ _ _ _ _ (write_known t _ fd _) (write_answers w _ _ _ _ k is) e there)

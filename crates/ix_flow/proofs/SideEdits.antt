@@ -1,13 +1,10 @@
 -- The sides of all objects after one of them was changed.
-use Rattle.std.proofs.Common.{◌≡◌, ◌≢◌, ◌<◌, ◌+◌, ◌*◌, ◌==◌, ℕ, suc, Bool, true, false, true≢false, List, [], ◌∷◌, length, Option, Some, None, is_some, refl}
-use Rattle.std.proofs.Common.{slice_get, if◌then◌else◌, sym, ap, ◌∙◌, subst, arith, inl, inr}
-use Rattle.std.proofs.lemmas.{Bool.{eqb-true, Decides.eqb_tells}, List.{get_or-set_same, get_or-set_other}}
+use Rattle.std.proofs.Common.{◌≡◌, ◌≢◌, ◌<◌, ◌+◌, ◌*◌, ◌==◌, ℕ, Bool, true, false, true≢false, List, [], ◌∷◌, length, Option, Some, None, is_some, refl}
+use Rattle.std.proofs.{Common.{slice_get, if◌then◌else◌, sym, ap, ◌∙◌, subst, arith, inl, inr}, lemmas.{Bool.{eqb-true, Decides.eqb_tells}, List.{get_or-set_same, get_or-set_other}}}
 use Rattle.ix_label.specs.Category.{Categories}
-use Rattle.ix_model.specs.world.{World.{HoldingOf, at, is_pipe}, Contents.{held_at, nothing_held, on_side, side, with_side}}
-use Rattle.ix_model.specs.history.History.{History, world_of}
-use Rattle.ix_flow.specs.{Origins.{Marked, Origin, Written, marked_from, origins_of}, Lowerings.label_of}
+use Rattle.ix_model.specs.{world.{World.{HoldingOf, at, is_pipe}, Contents.{held_at, nothing_held, on_side, side, with_side}}, history.History.{History, world_of}}
+use Rattle.ix_flow.specs.{Origins.{Marked, Origin, Written, marked_from, origins_of}, Lowerings.label_of, Tracking.{AreLabelled, AreSides, HasEnd, IsFound, IsTracked, IsUnder, side_of}}
 use Rattle.ix_flow.specs.{Sides.{ComesOf, IsLike, StandsIn, numbered, origin_at, source_in}, declared.{side.Side.Side, sides.Sides.Sides, source.Source.Source}}
-use Rattle.ix_flow.specs.Tracking.{AreLabelled, AreSides, HasEnd, IsFound, IsTracked, IsUnder, side_of}
 use Rattle.ix_flow.specs.Sides as come
 use Rattle.ix_flow.specs.declared.source.Source.TheVariants as source
 
@@ -22,17 +19,17 @@ label_same h source.Gap m n = refl
 -- the labels stay right where each source comes of what stood there, or of one under the right label
 pub labelled_from : (labels : List Categories) (h : History) (s t : Side) (x : Source) → AreLabelled labels h s → ((y : Source) → StandsIn t y → ComesOf s x y)
     → IsUnder labels x (label_of h (origin_at x 0)) → AreLabelled labels h t
-labelled_from labels h s t x was comes new = λ n low high. go n (source_in t.runs.entries n) (comes (source_in t.runs.entries n) (record { number = n; low = low; high = high; is = refl }))
+labelled_from labels h s t x was comes new = λ n low high. go n _ (comes _ (record { number = n; low = low; high = high; is = refl }))
   where
     go : (n : ℕ) (y : Source) → ComesOf s x y → IsUnder labels y (label_of h (origin_at y n))
-    go n y (come.New is) = subst (λ (z : Source). IsUnder labels z (label_of h (origin_at z n))) (sym is) (subst (IsUnder labels x) (label_same h x 0 n) new)
-    go n y (come.OfGap is) = subst (λ (z : Source). IsUnder labels z (label_of h (origin_at z n))) (sym is) tt
+    go n y (come.New is) = subst (λ z. IsUnder labels z (label_of h (origin_at z n))) (sym is) (subst (IsUnder labels x) (label_same h x 0 n) new)
+    go n y (come.OfGap is) = subst (λ z. IsUnder labels z (label_of h (origin_at z n))) (sym is) tt
     go n y (come.Stood r) =
-        subst (λ (z : Source). IsUnder labels z (label_of h (origin_at z n))) r.is
-        (subst (IsUnder labels (source_in s.runs.entries r.number)) (label_same h (source_in s.runs.entries r.number) r.number n) (was r.number r.low r.high))
+        subst (λ z. IsUnder labels z (label_of h (origin_at z n))) r.is
+        (subst (IsUnder labels (source_in s.runs.entries r.number)) (label_same h _ _ n) (was _ r.low r.high))
 
 pub labelled_less : (labels : List Categories) (h : History) (s t : Side) → AreLabelled labels h s → ((y : Source) → StandsIn t y → StandsIn s y) → AreLabelled labels h t
-labelled_less labels h s t was stands = labelled_from labels h s t source.Gap was (λ y there. come.Stood (stands y there)) tt
+labelled_less labels h s t was stands = labelled_from _ h s t source.Gap was (λ y there. come.Stood (stands y there)) tt
 
 pub labelled_write : (labels : List Categories) (h : History) (place start label : ℕ) → slice_get labels label ≡ Some (label_of h (Written place 0))
     → IsUnder labels (source.Write place start label) (label_of h (origin_at (source.Write place start label) 0))
@@ -41,7 +38,7 @@ labelled_write labels h place start label is = is
 
 -- ---- what is held
 side_same : (end : ℕ) (now : List Marked) (h : HoldingOf Marked) → side end (with_side end now h) ≡ now
-side_same end now h = go (end == 0)
+side_same end now h = go _
   where
     one : HoldingOf Marked
     one = record h { first = now }
@@ -56,11 +53,11 @@ side_same end now h = go (end == 0)
 is_one : (n : ℕ) → n < 2 → (n == 0) ≡ false → n ≡ 1
 is_one n small isnt = elim (eqb_tells n 0) [
   | inl here ↦ absurd (true≢false (sym here.0 ∙ isnt))
-  | inr more ↦ let other : n ≢ 0 = more.1 in omega (arith, small, other)
+  | inr more ↦ omega (arith, small, more.1)
 ]
 
 side_other : (end other : ℕ) (now : List Marked) (h : HoldingOf Marked) → end < 2 → other < 2 → other ≢ end → side other (with_side end now h) ≡ side other h
-side_other end other now h low less apart = go (end == 0) (other == 0) refl refl
+side_other end other now h low less apart = go _ _ refl refl
   where
     one : HoldingOf Marked
     one = record h { first = now }
@@ -69,16 +66,16 @@ side_other end other now h low less apart = go (end == 0) (other == 0) refl refl
     two = record h { second = now }
 
     go : (b c : Bool) → (end == 0) ≡ b → (other == 0) ≡ c → (if c then (if b then one else two).first else (if b then one else two).second) ≡ (if c then h.first else h.second)
-    go true true p q = let e : end ≡ 0 = eqb-true end 0 p in let o : other ≡ 0 = eqb-true other 0 q in absurd (apart (o ∙ sym e))
+    go true true p q = let e = eqb-true end 0 p in absurd (apart ((eqb-true other 0 q) ∙ sym e))
     go true false p q = refl
     go false true p q = refl
-    go false false p q = absurd (apart (is_one other less q ∙ sym (is_one end low p)))
+    go false false p q = absurd (apart (is_one _ less q ∙ sym (is_one _ low p)))
 
 -- bytes that are marked from a number on have the origins from there on
 pub origins_marked : (origin : ℕ → Origin) (k : ℕ) (bytes : List ℕ) → origins_of (marked_from origin k bytes) ≡ numbered origin k (length bytes)
 unfolding marked_from numbered
 origins_marked origin k [] = refl
-origins_marked origin k (b ∷ bytes) = ap (λ xs. origin k ∷ xs) (origins_marked origin (suc k) bytes)
+origins_marked origin k (b ∷ bytes) = ap (λ xs. origin k ∷ xs) (origins_marked _ _ bytes)
 
 -- ---- one end
 module _ (old : Sides) (labels : List Categories) (h : History) (hs : List (HoldingOf Marked)) (o end : ℕ) (piped : Bool) (was : AreSides old labels h hs) (has : HasEnd h hs o end piped) where
@@ -87,18 +84,18 @@ module _ (old : Sides) (labels : List Categories) (h : History) (hs : List (Hold
 
   -- what is taken out of there
   pub found_tracked : (taken : Side) → IsFound (side_of old o end) taken → IsLike taken (origins_of there) × AreLabelled labels h taken
-  found_tracked taken found = go (side_of old o end) found (was.tracked o end has.within (ap is_some has.there))
+  found_tracked taken found = go _ found (was.tracked o end has.within (ap is_some has.there))
     where
       go : (s : Option Side) → IsFound s taken → IsTracked labels h s (origins_of there) → IsLike taken (origins_of there) × AreLabelled labels h taken
       go None found none = (subst (IsLike taken) (sym none) found.1, λ n low high. absurd (omega (arith, low, high, found.1.long)))
-      go (Some s) found tracked = (subst (λ (x : Side). IsLike x (origins_of there)) (sym found) tracked.0, subst (AreLabelled labels h) (sym found) tracked.1)
+      go (Some s) found tracked = (subst (λ x. IsLike x (origins_of there)) (sym found) tracked.0, subst (AreLabelled labels h) (sym found) tracked.1)
 
   pub found_first : (taken : Side) → IsFound (side_of old o end) taken → piped ≡ false → taken.front ≡ 0
-  found_first taken found plain = go (side_of old o end) refl found
+  found_first taken found plain = go _ refl found
     where
       go : (s : Option Side) → side_of old o end ≡ s → IsFound s taken → taken.front ≡ 0
       go None is found = found.0
-      go (Some s) is found = ap (λ (x : Side). x.front) found ∙ was.first o end has.object s has.within has.there (has.kind ∙ plain) is
+      go (Some s) is found = ap (λ x. x.front) found ∙ was.first o end has.object s has.within has.there (has.kind ∙ plain) is
 
   -- another side at that end, for what is held there then
   pub edited_sides : (new : Sides) (f : List Marked → List Marked) (s : Side) → side_of new o end ≡ Some s
@@ -127,10 +124,10 @@ module _ (old : Sides) (labels : List Categories) (h : History) (hs : List (Hold
 
       tracked_here : (p other : ℕ) → p ≡ o → other ≡ end → IsTracked labels h (side_of new p other) (origins_of (side other (held_at (on_side o end f hs) p)))
       tracked_here p other number which =
-          subst (λ (n : ℕ). IsTracked labels h (side_of new p n) (origins_of (side n (held_at (on_side o end f hs) p)))) (sym which)
-          (subst (λ (n : ℕ). IsTracked labels h (side_of new n end) (origins_of (side end (held_at (on_side o end f hs) n)))) (sym number)
-          (subst (λ (x : Option Side). IsTracked labels h x (origins_of (side end (held_at (on_side o end f hs) o)))) (sym put)
-          (subst (λ (ms : List Marked). IsLike s (origins_of ms)) (sym here) like, labelled)))
+          subst (λ n. IsTracked labels h (side_of new p n) (origins_of (side n (held_at (on_side o end f hs) p)))) (sym which)
+          (subst (λ n. IsTracked labels h (side_of new n end) (origins_of (side end (held_at (on_side o end f hs) n)))) (sym number)
+          (subst (λ x. IsTracked labels h x (origins_of (side end (held_at (on_side o end f hs) o)))) (sym put)
+          (subst (λ ms. IsLike s (origins_of ms)) (sym here) like, labelled)))
 
       stays : (p other : ℕ) → other < 2 → (p * 2 + other ≡ o * 2 + end → ⊥) → side other (held_at (on_side o end f hs) p) ≡ side other (held_at hs p)
       stays p other low apart = elim (eqb_tells p o) [

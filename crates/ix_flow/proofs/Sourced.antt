@@ -9,9 +9,9 @@ pub appended_sources : (s t : Side) (end : ℕ) (new : Source) → t.front ≡ s
     → ((n : ℕ) → n < s.end → source_in t.runs.entries n ≡ source_in s.runs.entries n)
     → ((n : ℕ) → s.end ≤ n → n < end → source_in t.runs.entries n ≡ new)
     → t.end ≡ max s.end end → (x : Source) → StandsIn t x → ComesOf s new x
-appended_sources s t end new same before there reach x r = elim (side_of s.end r.number) [
-  | inl past ↦ come.New (sym r.is ∙ there r.number past (omega (arith, past, r.high, reach)))
-  | inr inside ↦ come.Stood (record { number = r.number; low = omega (arith, r.low, same); high = inside; is = sym (before r.number inside) ∙ r.is })
+appended_sources s t end new same before there reach x r = elim (side_of _ _) [
+  | inl past ↦ come.New (sym r.is ∙ there _ past (omega (arith, past, r.high, reach)))
+  | inr inside ↦ come.Stood (record { number = r.number; low = omega (arith, r.low, same); high = inside; is = sym (before _ inside) ∙ r.is })
 ]
 
 -- what is written over what was there, or a gap's width behind it
@@ -23,7 +23,7 @@ pub written_sources : (s m t : Side) (from to : ℕ) (new : Source) → m.front 
     → ((n : ℕ) → to ≤ n → n < m.end → source_in t.runs.entries n ≡ source_in m.runs.entries n)
     → t.end ≡ max m.end to → (x : Source) → StandsIn t x → ComesOf s new x
 written_sources s m t from to new same further kept hole reach before there behind end x r = elim (side_of from r.number) [
-  | inl far ↦ elim (side_of to r.number) [
+  | inl far ↦ elim (side_of to _) [
     | inl past ↦ old (omega (arith, past, r.high, end, reach, far)) (behind r.number past (omega (arith, past, r.high, end)))
     | inr inside ↦ come.New (sym r.is ∙ there r.number far inside)
   ]

@@ -1,11 +1,9 @@
 -- What stands behind a descriptor before and after an entry that doesn't close it.
-use Rattle.std.proofs.Common.{◌≡◌, ◌<◌, ◌+◌, ◌==◌, ◌&&◌, ℕ, Bool, true, false, List, length, Some, None, is_some, option_map, sym, ap, ◌∙◌, arith}
+use Rattle.std.proofs.Common.{◌≡◌, ◌<◌, ◌==◌, ◌&&◌, ℕ, Bool, true, false, List, length, Some, None, is_some, option_map, sym, ap, ◌∙◌, arith}
 use Rattle.std.{specs.Option.option_map_or, proofs.{Math.Bool.and-false, lemmas.List.length-map}}
-use Rattle.ix_model.specs.{laws.Sound.Sound, rows.Walks.{OpenFile, behind}}
-use Rattle.ix_model.specs.world.{World.{World, Frame, HoldingOf, Object, Process, at, is_pipe}, Contents.{kept, nothing_held, offset_of, on_pipe}}
+use Rattle.ix_model.specs.{laws.Sound.Sound, rows.Walks.{OpenFile, behind}, world.{World.{HoldingOf, Object, Process, at, is_pipe}, Contents.{kept, offset_of, on_pipe}}}
 use Rattle.ix_model.specs.history.{Freshness.closes, Events.Event, History.{History, world_of, next, with_entry}}
-use Rattle.ix_model.proofs.{clean.Carrying.length-keep, frames.Claimants.is_behind, tables.Finds.in_table}
-use Rattle.ix_model.proofs.words.{Living.is_living, Runs.world_of-push, Standing.{behind_is, stands}}
+use Rattle.ix_model.proofs.{clean.Carrying.length-keep, frames.Claimants.is_behind, tables.Finds.in_table, words.{Living.is_living, Runs.world_of-push, Standing.{behind_is, stands}}}
 use Rattle.ix_fresh.proofs.Remaining.{descriptors_remain}
 use Rattle.ix_open.specs.declared.view.OpenView.{OpenView}
 use Rattle.ix_flow.{specs.{Origins.{each, Marked}, Marks.marks_of, Tracking.HasEnd}, proofs.{Marking.marked_run, ReadWorlds.{end_near, pipe_by_kind, pipe_of}}}
@@ -16,8 +14,8 @@ kept_marks h e = kept (world_of h).frame (next h e).world.frame (marks_of h)
 
 pub kept_long : (h : History) (e : Event) → Sound (world_of h) → length (kept_marks h e) ≡ length (world_of h).frame.objects
 kept_long h e sound =
-    length-keep nothing_held (λ n. is_some (at (world_of h).frame.objects n) && is_some (at (next h e).world.frame.objects n)) 0 (marks_of h)
-    ∙ sym (length-map (marks_of h) (each (λ (m : Marked). m.byte)))
+    length-keep _ _ 0 _
+    ∙ sym (length-map _ (each _))
     ∙ ap length ((marked_run h).held)
     ∙ sound.lengths.holdings
 
@@ -41,15 +39,14 @@ pub record Through (h : History) (e : Event) (fd : ℕ) (b : OpenFile) : Type 0 
 
 pub through : (h : History) (e : Event) (fd : ℕ) (b : OpenFile) → Sound (world_of h) → behind (world_of h).frame e.pid fd ≡ Some b → closes fd e.op (next h e).reply ≡ false → Through h e fd b
 through h e fd b sound found kept =
-    let w : World = world_of h in
-    let f : Frame = w.frame in
-    let last : ℕ = length h.events + 1 in
-    let stays = descriptors_remain w last e e.pid fd b sound found (ap (λ c. e.pid == e.pid && c) kept ∙ and-false (e.pid == e.pid)) in
-    let entry = behind_is f e.pid fd b found in
+    let w = world_of h in
+    let f = w.frame in
+    let stays = descriptors_remain w _ e _ fd b sound found (ap (λ c. e.pid == e.pid && c) kept ∙ and-false _) in
+    let entry = behind_is f _ fd b found in
     let standing = stands f b.id b.entry sound.opens entry in
-    let same : world_of (with_entry h e) ≡ (next h e).world = world_of-push h e in
-    let kind : is_pipe stays.object ≡ is_pipe stays.was = pipe_by_kind stays.was stays.object stays.kind in
-    let after : behind (world_of (with_entry h e)).frame e.pid fd ≡ Some stays.entry = ap (λ (v : World). behind v.frame e.pid fd) same ∙ stays.is_behind in
+    let same = world_of-push h e in
+    let kind = pipe_by_kind stays.was stays.object stays.kind in
+    let after = ap (λ v. behind v.frame e.pid fd) same ∙ stays.is_behind in
     let process = is_behind (world_of (with_entry h e)).frame e.pid fd stays.entry after in
     record {
       after = stays.entry;
@@ -57,16 +54,16 @@ through h e fd b sound found kept =
       id = stays.id;
       on = stays.on;
       end = stays.end;
-      near = end_near b.entry.end _ (sound.opens.end b.id b.entry entry);
+      near = end_near _ _ (sound.opens.end b.id b.entry entry);
       stood = ap is_some stays.is_was;
-      inside = let there = in_table f.objects b.entry.object stays.was stays.is_was in omega (arith, there, kept_long h e sound);
+      inside = omega (arith, in_table f.objects b.entry.object _ stays.is_was, kept_long h e sound);
       object = stays.object;
-      is_object = ap (λ (v : World). at v.frame.objects b.entry.object) same ∙ stays.is_object;
+      is_object = ap (λ v. at v.frame.objects b.entry.object) same ∙ stays.is_object;
       piped = ap (λ o. option_map_or is_pipe o false) stays.is_was ∙ sym kind;
-      first = λ file. standing.at_end (pipe_of standing.object stays.was (sym standing.is_object ∙ stays.is_was) ∙ sym kind ∙ file);
+      first = λ file. standing.at_end (pipe_of _ _ (sym standing.is_object ∙ stays.is_was) ∙ sym kind ∙ file);
       caller = process.process;
-      is_caller = is_living _ process.process process.lives;
-      opened = in_table f.opens b.id b.entry entry;
+      is_caller = is_living _ _ process.lives;
+      opened = in_table _ _ _ entry;
     }
 
 module _ (h : History) (e : Event) (fd : ℕ) (b : OpenFile) (r : Through h e fd b) where
@@ -80,15 +77,14 @@ module _ (h : History) (e : Event) (fd : ℕ) (b : OpenFile) (r : Through h e fd
       → option_map v (behind (world_of (with_entry h e)).frame e.pid fd) ≡ Some view
       → (view.obj.0 ≡ b.entry.object) × (view.end ≡ b.entry.end) × (view.at ≡ offset_of (world_of (with_entry h e)).content b.id)
   viewed v view object at_end offset told =
-      let there : Some (v r.after) ≡ Some view = sym (ap (option_map v) r.is_after) ∙ told in
       let one : v r.after ≡ view = cc in (
-        ap (λ (x : OpenView). x.obj.0) (sym one) ∙ object r.after ∙ r.on,
-        ap (λ (x : OpenView). x.end) (sym one) ∙ at_end r.after ∙ r.end,
-        ap (λ (x : OpenView). x.at) (sym one) ∙ offset r.after ∙ ap (offset_of (world_of (with_entry h e)).content) r.id,
+        ap (λ x. x.obj.0) (sym one) ∙ object r.after ∙ r.on,
+        ap (λ x. x.end) (sym one) ∙ at_end _ ∙ r.end,
+        ap (λ x. x.at) (sym one) ∙ offset _ ∙ ap (offset_of (world_of (with_entry h e)).content) r.id,
       )
 
   pub not_opened : (v : OpenFile → OpenView) → option_map v (behind (world_of (with_entry h e)).frame e.pid fd) ≡ None → ⊥
-  not_opened v none = let there : Some (v r.after) ≡ None = sym (ap (option_map v) r.is_after) ∙ none in absurd (cc)
+  not_opened v none = absurd (cc)
 
   -- whether it is on a pipe afterwards
   pub on_pipe_after : option_map_or is_pipe (at (world_of (with_entry h e)).frame.objects b.entry.object) false ≡ is_pipe r.object

@@ -1,64 +1,59 @@
 -- What tracks stand for after a write.
-use Rattle.std.proofs.Common.{◌≡◌, ◌≤◌, ◌<◌, ◌+◌, ◌-◌, ◌&&◌, ◌++◌, ℕ, Bool, true, false, List, [], length, Option, Some, None, is_some, option_map, refl, sym}
-use Rattle.std.proofs.Common.{if◌then◌else◌, ap, ◌∙◌, subst, arith, set}
-use Rattle.std.{specs.{Prelude.slice_get, Option.option_map_or}, proofs.lemmas.List.get_or-set_same}
+use Rattle.std.proofs.Common.{◌≡◌, ◌≤◌, ◌<◌, ◌+◌, ◌-◌, ◌++◌, ℕ, Bool, true, false, List, [], length, Option, Some, None, is_some, option_map, refl, sym}
+use Rattle.std.{proofs.{Common.{if◌then◌else◌, ap, ◌∙◌, subst, arith, set}, lemmas.List.get_or-set_same}, specs.{Prelude.slice_get, Option.option_map_or}}
 use Rattle.ix_label.specs.Category.{Categories, bottom}
-use Rattle.ix_model.specs.{world.World.{World, Frame, Content, HoldingOf, Process, at, is_pipe}, history.AuditLog.of_process, history.Events.{Op, Event}}
+use Rattle.ix_model.specs.{world.World.{World, Frame, Content, HoldingOf, at, is_pipe}, history.{AuditLog.of_process, Events.Event}, declared.{reply.Reply.Reply, views.ProcView.ProcView}}
 use Rattle.ix_model.specs.{world.Contents.{after_write, carried, change_side, offset_of, on_pipe, on_side, spliced, written_over}, history.Views.shown_of}
-use Rattle.ix_model.specs.rows.{Walks.{OpenFile, behind}, OnDescriptors.{LengthChecks, write_fd}, Table.{row, verdict}, Telling.told}
-use Rattle.ix_model.specs.{history.Step.{answer, write_answer, plainly, step}, history.History.{History, world_of, next, with_entry}}
-use Rattle.ix_model.specs.declared.{reply.Reply.Reply, views.ProcView.ProcView}
-use Rattle.ix_model.specs.history.Events as op
-use Rattle.ix_model.specs.declared.reply.Reply.TheVariants as reply
-use Rattle.ix_model.proofs.{clean.Carrying.length-keep, sound.Carried.there_is}
+use Rattle.ix_model.{specs.rows.{Walks.{OpenFile, behind}, OnDescriptors.{LengthChecks, write_fd}, Table.row, Telling.told}, proofs.{clean.Carrying.length-keep, sound.Carried.there_is}}
+use Rattle.ix_model.specs.history.{Step.{answer, write_answer, plainly, step}, History.{History, world_of, next, with_entry}}
 use Rattle.ix_model.proofs.words.{Answered.{passed, step_frame}, Ends.{Ends, Anything, ends_bind, ends_opened}, Runs.world_of-push}
 use Rattle.ix_open.specs.declared.view.OpenView.{OpenView}
 use Rattle.ix_flow.specs.{Origins.{Marked, Written, gap_mark, marked_from}, Lines.lines_of_entry, Lowerings.label_of, Marks.marks_of, Moves.{edited, put_there}}
 use Rattle.ix_flow.specs.{Tracking.{AreSides, AreTracks, HasEnd, IsWrite}, declared.{labels.Labels.Labels, sides.Sides.Sides, tracks.Tracks.Tracks}}
-use Rattle.ix_flow.specs.declared.sides.Written as written_type
 use Rattle.ix_flow.proofs.{Arms.{followed, kept_sides, sides_more, unmoved}, NewObjects.{Stood, stood_step}, ReadWorlds.ends_anyway, Rows.write_answers}
 use Rattle.ix_flow.proofs.{Staying.{label_new, marks_next}, Through.{Through, has_end, kept_marks, not_opened, on_pipe_after, through, viewed}}
+use Rattle.ix_model.specs.history.Events as op
+use Rattle.ix_model.specs.declared.reply.Reply.TheVariants as reply
+use Rattle.ix_flow.specs.declared.sides.Written as written_type
 
 -- ---- what stands behind the descriptor
 writes_behind : (t : LengthChecks) (pid fd : ℕ) (f : Frame) → Ends (write_fd t pid fd f) Anything (λ r g. is_some (behind f pid fd) ≡ true)
 unfolding write_fd
-writes_behind t pid fd f = ends_bind _ _ f Anything _ (ends_opened pid fd f Anything _ (λ e is. ends_anyway _ (is_some (behind f pid fd) ≡ true) (ap is_some is)) tt)
+writes_behind t pid fd f = ends_bind _ _ f _ _ (ends_opened _ fd f _ _ (λ e is. ends_anyway _ _ (ap is_some is)) tt)
 
 pub write_behind : (w : World) (place pid fd : ℕ) (bytes : List ℕ) (k : ℕ) → (step w place pid (op.WriteFd fd bytes)).reply ≡ reply.Number k → (b : OpenFile) × (behind w.frame pid fd ≡ Some b)
 unfolding step answer row
 write_behind w place pid fd bytes k is =
     let t = told w pid (op.WriteFd fd bytes) in
-    let d = verdict t place pid (op.WriteFd fd bytes) w.frame in
-    there_is (behind w.frame pid fd) (passed t place pid (op.WriteFd fd bytes) w.frame (λ r g. is_some (behind w.frame pid fd) ≡ true) (writes_behind t pid fd w.frame)
-    (write_answers w bytes (behind w.frame pid fd) d.reply d.frame k is))
+    there_is _ (passed t _ _ _ _ (λ r g. is_some _ ≡ true) (writes_behind t _ fd _)
+    (write_answers w _ _ _ _ k is))
 
 -- ---- the offset
 wrote : (w : World) (new : List ℕ) (b : Option OpenFile) (e : OpenFile) (r : Reply) (g : Frame) (k : ℕ) → b ≡ Some e → (write_answer w new b r g).reply ≡ reply.Number k
     → (write_answer w new b r g).world.content ≡ after_write w.frame e new (carried w.frame g w.content)
 unfolding write_answer plainly
-wrote w new (Some c) e (reply.Number n) g k is gives = let one : c ≡ e = cc in ap (λ x. after_write w.frame x new (carried w.frame g w.content)) one
+wrote w new (Some c) e (reply.Number n) g k is gives = ap (λ x. after_write w.frame x new (carried w.frame g w.content)) cc
 wrote w new b e r g k is gives = absurd (cc)
 
 step_wrote : (w : World) (place pid fd : ℕ) (bytes : List ℕ) (k : ℕ) (e : OpenFile) → (step w place pid (op.WriteFd fd bytes)).reply ≡ reply.Number k → behind w.frame pid fd ≡ Some e
     → (step w place pid (op.WriteFd fd bytes)).world.content ≡ after_write w.frame e bytes (carried w.frame (step w place pid (op.WriteFd fd bytes)).world.frame w.content)
 unfolding step answer
 step_wrote w place pid fd bytes k e gives is =
-    let d = verdict (told w pid (op.WriteFd fd bytes)) place pid (op.WriteFd fd bytes) w.frame in
-    wrote w bytes (behind w.frame pid fd) e d.reply d.frame k is gives ∙ ap (λ g. after_write w.frame e bytes (carried w.frame g w.content)) (sym (step_frame w place pid (op.WriteFd fd bytes)))
+    wrote w _ _ e _ _ k is gives ∙ ap (λ g. after_write w.frame e bytes (carried w.frame g w.content)) (sym (step_frame w _ _ _))
 
 -- a file's offset is past what was written
 write_offset : (f : Frame) (e : OpenFile) (new : List ℕ) (c : Content) → on_pipe f e ≡ false → e.id < length c.offsets → offset_of (after_write f e new c) e.id ≡ offset_of c e.id + length new
 unfolding after_write
-write_offset f e new c file inside = go (on_pipe f e) file
+write_offset f e new c file inside = go _ file
   where
     go : (b : Bool) → b ≡ false → offset_of (if b then change_side e.entry.object (1 - e.entry.end) (λ old. old ++ new) c
         else record (change_side e.entry.object e.entry.end (spliced (offset_of c e.id) new) c) { offsets = set c.offsets e.id (offset_of c e.id + length new) }) e.id ≡ offset_of c e.id + length new
     go true is = cc
-    go false is = get_or-set_same c.offsets e.id (offset_of c e.id + length new) 0 inside
+    go false is = get_or-set_same c.offsets e.id _ 0 inside
 
 carried_offsets : (f g : Frame) (c : Content) → length (carried f g c).offsets ≡ length c.offsets
 unfolding carried
-carried_offsets f g c = length-keep 0 (λ e. is_some (at f.opens e) && is_some (at g.opens e)) 0 c.offsets
+carried_offsets f g c = length-keep 0 _ 0 _
 
 -- ---- what is held
 put_none : (f : Frame) (c : Content) (new : List Marked) (b : Option OpenFile) (r : Reply) (hs : List (HoldingOf Marked)) → ((k : ℕ) → r ≡ reply.Number k → ⊥) → put_there gap_mark f c new b r hs ≡ hs
@@ -85,19 +80,19 @@ module _ (h : History) (seat line pid fd : ℕ) (bytes : List ℕ) where
   marks_write = marks_next h e
 
   stood : Stood (world_of h).frame (next h e).world.frame
-  stood = stood_step (world_of h) last pid (op.WriteFd fd bytes) refl
+  stood = stood_step _ _ _ _ refl
 
   silent : (d count k : ℕ) → e.op ≡ op.ReadFd d count → (next h e).reply ≡ reply.Bytes k → k ≡ 0
-  silent d count k is gives = let no : op.WriteFd fd bytes ≡ op.ReadFd d count = is in cc
+  silent d count k is gives = cc
 
   pub write_refused : length (with_entry h e).events ≤ 6800000 → (t : Tracks) → AreTracks t h → ((k : ℕ) → (next h e).reply ≡ reply.Number k → ⊥)
       → AreTracks t (with_entry h e) × (lines_of_entry h e ≡ [])
   write_refused few t are other = unmoved h e few refl silent t are stood
-      (marks_write ∙ put_none (world_of h).frame before new (behind (world_of h).frame pid fd) (next h e).reply (kept_marks h e) other)
+      (marks_write ∙ put_none _ _ _ _ _ _ other)
 
   module _ (t : Tracks) (are : AreTracks t h) (k : ℕ) (done : (next h e).reply ≡ reply.Number k) where
     abbrev found : (b : OpenFile) × (behind (world_of h).frame pid fd ≡ Some b)
-    found = write_behind (world_of h) last pid fd bytes k done
+    found = write_behind _ _ _ fd _ k done
 
     abbrev b : OpenFile
     b = found.0
@@ -109,18 +104,18 @@ module _ (h : History) (seat line pid fd : ℕ) (bytes : List ℕ) where
     write_opened v none = not_opened h e fd b r v none
 
     pub write_living : option_map shown_of (at (world_of (with_entry h e)).frame.processes pid) ≡ None → ⊥
-    write_living none = let there : Some (shown_of r.caller) ≡ None = sym (ap (option_map shown_of) r.is_caller) ∙ none in absurd (cc)
+    write_living none = let there = sym (ap (option_map shown_of) r.is_caller) ∙ none in absurd (cc)
 
     -- the label of the writer
     writer_label : (writer : ProcView) → option_map shown_of (at (world_of (with_entry h e)).frame.processes pid) ≡ Some writer → label_of (with_entry h e) (Written last 0) ≡ writer.label
     unfolding of_process
     writer_label writer told =
-        let there : Some (shown_of r.caller) ≡ Some writer = sym (ap (option_map shown_of) r.is_caller) ∙ told in
+        let there = sym (ap (option_map shown_of) r.is_caller) ∙ told in
         let one : shown_of r.caller ≡ writer = cc in
         label_new h e 0
-        ∙ ap (λ (w : World). of_process (λ p. p.label) bottom w.frame pid) (sym (world_of-push h e))
-        ∙ ap (λ (p : Option Process). option_map_or (λ q. q.label) p bottom) r.is_caller
-        ∙ ap (λ (p : ProcView). p.label) one
+        ∙ ap (λ w. of_process (λ p. p.label) bottom w.frame pid) (sym (world_of-push h e))
+        ∙ ap (λ p. option_map_or (λ q. q.label) p bottom) r.is_caller
+        ∙ ap (λ p. p.label) one
 
     -- what is held after it
     put_is : marks_of (with_entry h e) ≡ put_there gap_mark (world_of h).frame before new (Some b) (reply.Number k) (kept_marks h e)
@@ -156,12 +151,12 @@ module _ (h : History) (seat line pid fd : ℕ) (bytes : List ℕ) where
       written = record { place = place; label = label; count = count }
 
       abbrev seen : (view.obj.0 ≡ b.entry.object) × (view.end ≡ b.entry.end) × (view.at ≡ offset_of (world_of (with_entry h e)).content b.id)
-      seen = viewed h e fd b r v view object at_end offset seen_as
+      seen = viewed h e fd b r v _ object at_end offset seen_as
 
       is_write : IsWrite labels.all.items (with_entry h e) written bytes
       is_write = record {
         count = is_count;
-        label = is_label ∙ ap Some (sym (ap (λ n. label_of (with_entry h e) (Written n 0)) at_last ∙ writer_label writer seen_by));
+        label = is_label ∙ ap Some (sym (ap (λ n. label_of (with_entry h e) (Written n 0)) at_last ∙ writer_label _ seen_by));
       }
 
       -- whether what the code asks is a pipe is one
@@ -172,11 +167,11 @@ module _ (h : History) (seat line pid fd : ℕ) (bytes : List ℕ) where
       write_piped piped is = sym (is ∙ ap (λ n. option_map_or is_pipe (at (world_of (with_entry h e)).frame.objects n) false) seen.0 ∙ on_pipe_after h e fd b r)
 
       kept_all : AreSides t.sides labels.all.items (with_entry h e) (kept_marks h e)
-      kept_all = sides_more t.labels.all.items labels.all.items stays t.sides (with_entry h e) (kept_marks h e) (kept_sides h e are.sound stood t.sides t.labels.all.items are.sides)
+      kept_all = sides_more _ _ stays _ _ _ (kept_sides h e are.sound stood _ _ are.sides)
 
       tracks : (ms : List (HoldingOf Marked)) → marks_of (with_entry h e) ≡ ms → AreSides sides labels.all.items (with_entry h e) ms
           → AreTracks (record t { sides = sides; labels = labels }) (with_entry h e) × (lines_of_entry h e ≡ [])
-      tracks ms is all = followed h e few refl silent t (record t { sides = sides; labels = labels }) are refl refl ms is all
+      tracks ms is all = followed h e few refl silent t _ are refl refl ms is all
 
       pub write_to_pipe : (piped : Bool) → Asked piped → piped ≡ true → (end : ℕ) → end ≡ 1 - view.end
           → ((ls : List Categories) (g : History) (hs : List (HoldingOf Marked)) (bs : List ℕ) → AreSides t.sides ls g hs → HasEnd g hs view.obj.0 end true → IsWrite ls g written bs

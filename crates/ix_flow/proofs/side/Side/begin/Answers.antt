@@ -1,19 +1,18 @@
 use Rattle.std.proofs.Common.{◌∙◌, sym, ap, arith}
 use Rattle.ix_flow.{specs.Sides.source_in, proofs.LastSource.{ascends, insert_before, insert_behind, insert_there, none_same}}
-use Rattle.ix_flow.specs.declared.source.Source.TheVariants as source
 use Rattle.ix_flow.proofs.side.Side.begin.Goals as goal
 
 pub returns-in-Gap-Gap-clause-there : goal.returns-in-Gap-Gap-clause-there
 returns-in-Gap-Gap-clause-there c = λ to n none low high.
-    none_same c.args.number c.args.number to n source.Gap c.args.self.now.runs.entries (omega arith) none low high ∙ sym c.in-Gap-Gap.ensures ∙ sym c.in-Gap-Gap.is-0
+    none_same _ _ to n _ _ (omega arith) none low high ∙ sym c.in-Gap-Gap.ensures ∙ sym c.in-Gap-Gap.is-0
 
 pub returns-in-Ok-clause-before : goal.returns-in-Ok-clause-before
-returns-in-Ok-clause-before c = λ n low. ap (λ es. source_in es n) c.in-Ok.ensures.entries ∙ insert_before c.args.number n c.args.source source.Gap c.args.self.now.runs.entries low
+returns-in-Ok-clause-before c = λ n low. ap (λ es. source_in es n) c.in-Ok.ensures.entries ∙ insert_before _ n _ _ _ low
 
 pub returns-in-Ok-clause-there : goal.returns-in-Ok-clause-there
 returns-in-Ok-clause-there c = λ to n none low high. ap (λ es. source_in es n) c.in-Ok.ensures.entries
-    ∙ insert_there c.args.number to n c.args.source c.args.self.now.runs.entries (ascends c.args.self.now.runs.entries c.insert.ensures.was_ordered) none low high
+    ∙ insert_there _ to n _ _ (ascends _ c.insert.ensures.was_ordered) none low high
 
 pub returns-in-Ok-clause-behind : goal.returns-in-Ok-clause-behind
 returns-in-Ok-clause-behind c = λ to n begins low high. ap (λ es. source_in es n) c.in-Ok.ensures.entries
-    ∙ insert_behind c.args.number to n c.args.source c.args.self.now.runs.entries (ascends c.args.self.now.runs.entries c.insert.ensures.was_ordered) begins low high
+    ∙ insert_behind _ to n _ _ (ascends _ c.insert.ensures.was_ordered) begins low high

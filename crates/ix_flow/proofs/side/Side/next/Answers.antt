@@ -1,10 +1,9 @@
-use Rattle.std.proofs.Common.{◌+◌, arith}
-use Rattle.ix_flow.specs.declared.source.Source.TheVariants as source
+use Rattle.std.proofs.Common.{arith}
 use Rattle.ix_flow.proofs.LastSource.{none_same}
 use Rattle.ix_flow.proofs.side.Side.next.Goals as goal
 
 pub returns-in-Some-clause-same : goal.returns-in-Some-clause-same
-returns-in-Some-clause-same c = λ n low high. none_same c.args.number (c.args.number + 1) c.in-Some.next n source.Gap c.args.self.now.runs.entries (omega arith) c.in-Some.ensures.none low high
+returns-in-Some-clause-same c = λ n low high. none_same _ _ _ n _ _ (omega arith) c.in-Some.ensures.none low high
 
 pub returns-in-None-clause-same : goal.returns-in-None-clause-same
-returns-in-None-clause-same c = λ n low high. none_same c.args.number (c.args.number + 1) c.args.to n source.Gap c.args.self.now.runs.entries (omega arith) c.in-None.ensures.none low high
+returns-in-None-clause-same c = λ n low high. none_same _ _ _ n _ _ (omega arith) c.in-None.ensures.none low high

@@ -4,21 +4,21 @@ use Rattle.ix_flow.specs.declared.source.Source.TheVariants as source
 use Rattle.ix_flow.proofs.side.Side.write.Goals as goal
 
 pub returns-then-count-eq0-clause-like : goal.returns-then-count-eq0-clause-like
-returns-then-count-eq0-clause-like c = λ origins first like. none_written c.args.self.now c.args.offset c.args.count c.args.place origins c.if-count-eq0.true like
+returns-then-count-eq0-clause-like c = λ origins first like. none_written _ _ _ _ _ c.if-count-eq0.true like
 
 pub returns-clause-like : goal.returns-clause-like
 returns-clause-like c = λ origins first like.
     let sum = c.in-Some.ensures.1 in
     let old = c.grow.new.self in
     let new = c.lay.new.self in
-    written_like c.args.self.now old new c.args.offset c.args.count c.args.place c.args.label origins first (c.lay.ensures.front ∙ c.grow.ensures.front ∙ first)
-    (some c.args.count c.if-count-eq0.false)
+    written_like _ old _ _ _ _ c.args.label _ first (c.lay.ensures.front ∙ c.grow.ensures.front ∙ first)
+    (some _ c.if-count-eq0.false)
     c.in_ok-grow.ensures.before c.in_ok-grow.ensures.gap c.in_ok-grow.ensures.end c.in_ok-lay.ensures.before
-    (subst (λ (m : ℕ). (n : ℕ) → c.args.offset ≤ n → n < m → source_in new.runs.entries n ≡ source.Write c.args.place c.args.offset c.args.label) sum c.in_ok-lay.ensures.there)
-    (subst (λ (m : ℕ). (n : ℕ) → m ≤ n → n < old.end → source_in new.runs.entries n ≡ source_in old.runs.entries n) sum c.in_ok-lay.ensures.behind)
+    (subst (λ m. (n : ℕ) → c.args.offset ≤ n → n < m → source_in new.runs.entries n ≡ source.Write c.args.place c.args.offset c.args.label) sum c.in_ok-lay.ensures.there)
+    (subst (λ m. (n : ℕ) → m ≤ n → n < old.end → source_in new.runs.entries n ≡ source_in old.runs.entries n) sum c.in_ok-lay.ensures.behind)
     (c.in_ok-lay.ensures.end ∙ ap (max old.end) sum) like
 
 pub returns-clause-sources : goal.returns-clause-sources
-returns-clause-sources c = written_sources c.args.self.now c.grow.new.self c.lay.new.self c.args.offset c.in-Some.end
-    (source.Write c.args.place c.args.offset c.args.label) c.grow.ensures.front c.lay.ensures.front
+returns-clause-sources c = written_sources _ c.grow.new.self _ _ _
+    _ c.grow.ensures.front c.lay.ensures.front
     c.in_ok-grow.ensures.before c.in_ok-grow.ensures.gap c.in_ok-grow.ensures.end c.in_ok-lay.ensures.before c.in_ok-lay.ensures.there c.in_ok-lay.ensures.behind c.in_ok-lay.ensures.end

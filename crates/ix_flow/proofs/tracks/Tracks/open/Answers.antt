@@ -3,11 +3,11 @@ use Rattle.ix_flow.proofs.Opened.{opened_file, opened_none}
 use Rattle.ix_flow.proofs.tracks.Tracks.open.Goals as goal
 
 pub returns-in_default : goal.returns-in_default
-returns-in_default c = λ are. opened_none c.args.core.now c.requires.first c.requires.sound c.args.self.now c.args.object.0 are (λ x there. sym c.size.ensures ∙ c.in_default.is)
+returns-in_default c = λ are. opened_none _ c.requires.first c.requires.sound _ _ are (λ x there. sym c.size.ensures ∙ c.in_default.is)
 
 pub returns : goal.returns
 returns c = λ are.
-    opened_file c.args.core.now c.requires.first c.requires.sound c.args.self.now c.args.object.0 are c.in-Some-object.view (sym c.object.ensures ∙ c.in-Some-object.is) c.in-Ok.size
+    opened_file _ c.requires.first c.requires.sound _ _ are _ (sym c.object.ensures ∙ c.in-Some-object.is) _
     (sym c.size.ensures ∙ c.in-Some.is ∙ ap Some (sym c.in-Ok.ensures.1))
-    c.add.new.self c.in_ok-label.label c.in_ok-label.ensures.label c.in_ok-label.ensures.stays c.fill.new.self c.in_ok-fill.ensures.like c.in_ok-fill.ensures.sources c.fill.ensures.first
-    c.put.new.self c.in_ok-put.ensures.put c.in_ok-put.ensures.others
+    _ _ c.in_ok-label.ensures.label c.in_ok-label.ensures.stays _ c.in_ok-fill.ensures.like c.in_ok-fill.ensures.sources c.fill.ensures.first
+    _ c.in_ok-put.ensures.put c.in_ok-put.ensures.others

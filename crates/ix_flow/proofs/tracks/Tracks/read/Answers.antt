@@ -20,28 +20,28 @@ begins_there piped at front first rest is known = is ∙ known.1 ∙ ap (λ b. i
 
 pub returns-in_default-clause-follows : goal.returns-in_default-clause-follows
 returns-in_default-clause-follows c = λ seat line limit before step are.
-    idle c.args.core.now before (entry seat line c.args.pid _) c.args.fd.0 limit c.args.reply.now step refl c.args.self.now are
-    (subst (λ (n : ℕ). n ≤ 6800000) c.requires.place c.requires.few) c.args.out.now.items
+    idle _ _ _ _ _ _ step refl _ are
+    (subst (λ n. n ≤ 6800000) c.requires.place c.requires.few) _
     (λ k bytes. absurd (c.in_default.not-Bytes k bytes))
 
 pub returns-then-count-eq0-clause-follows : goal.returns-then-count-eq0-clause-follows
 returns-then-count-eq0-clause-follows c = λ seat line limit before step are.
-    idle c.args.core.now before (entry seat line c.args.pid _) c.args.fd.0 limit c.args.reply.now step refl c.args.self.now are
-    (subst (λ (n : ℕ). n ≤ 6800000) c.requires.place c.requires.few) c.args.out.now.items
-    (λ k bytes. none_given c.in-Bytes.count k c.if-count-eq0.true (sym c.in-Bytes.is ∙ bytes))
+    idle _ _ _ _ _ _ step refl _ are
+    (subst (λ n. n ≤ 6800000) c.requires.place c.requires.few) _
+    (λ k bytes. none_given _ k c.if-count-eq0.true (sym c.in-Bytes.is ∙ bytes))
 
 pub returns-in_default-opened-clause-follows : goal.returns-in_default-opened-clause-follows
 returns-in_default-opened-clause-follows c = λ seat line limit before step are.
-    absurd (is_opened c.args.core.now before (entry seat line c.args.pid _) c.args.fd.0 limit c.args.reply.now step refl c.args.self.now are
-    (subst (λ (n : ℕ). n ≤ 6800000) c.requires.place c.requires.few)
-    c.in-Bytes.count c.in-Bytes.is c.if-count-eq0.false _ (sym c.opened.ensures ∙ none_of c.opened.result c.in_default-opened.not-Some))
+    absurd (is_opened _ _ _ _ _ _ step refl _ are
+    (subst (λ n. n ≤ 6800000) c.requires.place c.requires.few)
+    _ c.in-Bytes.is c.if-count-eq0.false _ (sym c.opened.ensures ∙ none_of _ c.in_default-opened.not-Some))
 
 pub returns-in_default-get-clause-follows : goal.returns-in_default-get-clause-follows
 returns-in_default-get-clause-follows c = λ seat line limit before step are.
-    absurd (has_side c.args.core.now before (entry seat line c.args.pid _) c.args.fd.0 limit c.args.reply.now step refl c.args.self.now are
-    (subst (λ (n : ℕ). n ≤ 6800000) c.requires.place c.requires.few)
-    c.in-Bytes.count c.in-Bytes.is c.if-count-eq0.false _ c.in-Some.view (λ b. refl) (λ b. refl) (λ b. refl) (sym c.opened.ensures ∙ c.in-Some.is)
-    (sym c.get.ensures ∙ ap (option_map (λ (s : Bor Side). s.now)) (none_of c.get.result c.in_default-get.not-Some)))
+    absurd (has_side _ _ _ _ _ _ step refl _ are
+    (subst (λ n. n ≤ 6800000) c.requires.place c.requires.few)
+    _ c.in-Bytes.is c.if-count-eq0.false _ _ (λ b. refl) (λ b. refl) (λ b. refl) (sym c.opened.ensures ∙ c.in-Some.is)
+    (sym c.get.ensures ∙ ap (option_map (λ s. s.now)) (none_of _ c.in_default-get.not-Some)))
 
 pub returns-in_ok-drain-clause-follows : goal.returns-in_ok-drain-clause-follows
 returns-in_ok-drain-clause-follows c = λ seat line limit before step are.

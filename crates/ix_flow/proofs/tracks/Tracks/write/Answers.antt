@@ -7,22 +7,20 @@ use Rattle.ix_flow.proofs.tracks.Tracks.write.Goals as goal
 
 pub returns-in_default : goal.returns-in_default
 returns-in_default c = λ seat line h step are.
-    let e = entry seat line c.args.pid (op.WriteFd c.args.fd.0 c.args.bytes.now) in
-    led c.args.self.now h c.args.core.now e _ step.history
-    (write_refused h seat line c.args.pid.0 c.args.fd.0 c.args.bytes.now (few_then h c.args.core.now e step.history (omega (arith, c.requires.place, c.requires.few))) c.args.self.now are
+    let e = entry seat line c.args.pid (op.WriteFd _ _) in
+    led _ h _ e _ step.history
+    (write_refused h _ _ _ _ _ (few_then h _ e step.history (omega (arith, c.requires.place, c.requires.few))) _ are
     (λ k gives. c.in_default.not-Number k (step.reply ∙ gives)))
 
 pub returns-in_default-opened : goal.returns-in_default-opened
 returns-in_default-opened c = λ seat line h step are.
-    let e = entry seat line c.args.pid (op.WriteFd c.args.fd.0 c.args.bytes.now) in
-    absurd (write_opened h seat line c.args.pid.0 c.args.fd.0 c.args.bytes.now c.args.self.now are c.in-Number.field-0 (sym step.reply ∙ c.in-Number.is) (view_through (world_of (with_entry h e)))
-    (told_then h c.args.core.now e c.args.pid.0 c.args.fd.0 _ _ step.history c.opened.ensures c.in_default-opened.is))
+    absurd (write_opened h _ _ _ _ _ _ are _ (sym step.reply ∙ c.in-Number.is) _
+    (told_then h _ _ _ _ _ _ step.history c.opened.ensures c.in_default-opened.is))
 
 pub returns-in_default-process : goal.returns-in_default-process
 returns-in_default-process c = λ seat line h step are.
-    let e = entry seat line c.args.pid (op.WriteFd c.args.fd.0 c.args.bytes.now) in
-    absurd (write_living h seat line c.args.pid.0 c.args.fd.0 c.args.bytes.now c.args.self.now are c.in-Number.field-0 (sym step.reply ∙ c.in-Number.is)
-    (shown_then h c.args.core.now e c.args.pid.0 _ _ step.history c.process.ensures c.in_default-process.is))
+    absurd (write_living h _ _ _ _ _ _ are _ (sym step.reply ∙ c.in-Number.is)
+    (shown_then h _ _ _ _ _ step.history c.process.ensures c.in_default-process.is))
 
 pub returns-then-is_pipe : goal.returns-then-is_pipe
 returns-then-is_pipe c = λ seat line h step are.
