@@ -4,6 +4,7 @@ pub mod Ordered
 pub mod Deciding
 pub mod Sound
 pub mod Readings
+pub mod NearNames
 pub mod FirstWords
 pub mod FormTable
 pub mod FormWords

@@ -106,7 +106,13 @@ impl<'a> Body<'a> {
             }
             Line::Open { named, .. } => self.fds.add_any(self.lane, named),
             Line::Dup { named, .. } => self.fds.add_any(self.lane, named),
-            Line::Pipe { named, .. } => self.fds.add_two(self.lane, named),
+            Line::Pipe { named, .. } => match named {
+                Some((first, second)) => {
+                    self.fds.add(self.lane, first)?;
+                    self.fds.add(self.lane, second)
+                }
+                None => Ok(()),
+            },
             Line::Fork { named, .. } => self.procs.add_any(self.lane, named),
             Line::Login { named, .. } => self.procs.add_any(self.lane, named),
             _ => Ok(()),

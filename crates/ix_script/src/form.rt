@@ -1,5 +1,5 @@
-ghost use Rattle.std.specs.Prelude.{◌≡◌, ◌<◌, List, ◌≤◌, ◌+◌, ℕ, length, map};
-ghost use Rattle.ix_script.specs.{lines.Forms.{is_header, is_command_form, has_right_count, form_of, arity, kinds, tail_of}, reader.Placing.{is_entry, payload_place, kind_in}};
+ghost use Rattle.std.specs.Prelude.{◌≡◌, List, ◌≤◌, ◌+◌, ℕ, length, map};
+ghost use Rattle.ix_script.specs.{lines.Forms.{is_header, is_command_form, has_right_count, form_of, arity, kinds, tail_of}, reader.Placing.{is_entry, kind_in}};
 ghost use Rattle.ix_label.specs.declared.form.Form as spelled;
 
 use crate::words::Words;
@@ -107,18 +107,6 @@ impl Form {
         }
     }
 
-    /// The place of its payload; 0 where it has none.
-    pub fn payload_place(self) -> usize
-        ensures place { result ≡ payload_place self }
-        ensures few { result < 8 }
-    {
-        match self {
-            Form::Write => 3,
-            Form::File => 6,
-            _ => 0,
-        }
-    }
-
     /// Whether the line has the words of the form, and no others but `as` with its names.
     pub fn has_right_count(self, words: &Words<'_>) -> bool
         ensures { result ≡ has_right_count self words.now }
@@ -130,61 +118,64 @@ impl Form {
     }
 }
 
-/// The words that begin lines, with their forms. Those that most lines have come first.
+/// The words that begin lines, with their forms: short ones first, and of one length those that most lines have.
 const FORMS: &[(&[u8], Form)] = &[
+    (b"fs", Form::Fs),
+    (b"cut", Form::Counted(Counted::Cut)),
+    (b"pex", Form::OnFd(OnFd::Pex)),
+    (b"dup", Form::Dup),
+    (b"dir", Form::Dir),
     (b"read", Form::Counted(Counted::Read)),
-    (b"write", Form::Write),
     (b"seek", Form::Counted(Counted::Seek)),
     (b"self", Form::Plain(Plain::Self_)),
-    (b"cut", Form::Counted(Counted::Cut)),
     (b"lane", Form::Lane),
     (b"open", Form::Open),
-    (b"close", Form::OnFd(OnFd::Close)),
-    (b"phase", Form::Phase),
-    (b"create", Form::OnPath(OnPath::Create)),
     (b"stat", Form::OnPath(OnPath::Stat)),
     (b"wait", Form::Plain(Plain::Wait)),
-    (b"freezeself", Form::Plain(Plain::Freezeself)),
-    (b"thawself", Form::Plain(Plain::Thawself)),
-    (b"pex", Form::OnFd(OnFd::Pex)),
-    (b"unpex", Form::OnFd(OnFd::Unpex)),
     (b"priv", Form::OnFd(OnFd::Priv)),
-    (b"mkdir", Form::OnPath(OnPath::Mkdir)),
-    (b"unlink", Form::OnPath(OnPath::Unlink)),
-    (b"rmdir", Form::OnPath(OnPath::Rmdir)),
-    (b"chdir", Form::OnPath(OnPath::Chdir)),
     (b"exec", Form::OnPath(OnPath::Exec)),
-    (b"labelof", Form::OnPath(OnPath::Labelof)),
-    (b"freeze", Form::OnPath(OnPath::Freeze)),
     (b"thaw", Form::OnPath(OnPath::Thaw)),
-    (b"dup", Form::Dup),
     (b"pipe", Form::Pipe),
     (b"link", Form::Link),
     (b"list", Form::List),
     (b"copy", Form::Copy),
-    (b"setlabel", Form::Setlabel),
-    (b"setpriv", Form::Setpriv),
     (b"fork", Form::Fork),
     (b"exit", Form::Exit),
-    (b"setself", Form::Setself),
-    (b"droplic", Form::Droplic),
+    (b"proc", Form::Proc),
+    (b"file", Form::File),
+    (b"write", Form::Write),
+    (b"close", Form::OnFd(OnFd::Close)),
+    (b"phase", Form::Phase),
+    (b"unpex", Form::OnFd(OnFd::Unpex)),
+    (b"mkdir", Form::OnPath(OnPath::Mkdir)),
+    (b"rmdir", Form::OnPath(OnPath::Rmdir)),
+    (b"chdir", Form::OnPath(OnPath::Chdir)),
     (b"grant", Form::Grant),
-    (b"ceiling", Form::Ceiling),
-    (b"readlog", Form::Readlog),
     (b"login", Form::Login),
     (b"limit", Form::Limit),
-    (b"fs", Form::Fs),
-    (b"proc", Form::Proc),
-    (b"dir", Form::Dir),
-    (b"file", Form::File),
+    (b"create", Form::OnPath(OnPath::Create)),
+    (b"unlink", Form::OnPath(OnPath::Unlink)),
+    (b"freeze", Form::OnPath(OnPath::Freeze)),
+    (b"labelof", Form::OnPath(OnPath::Labelof)),
+    (b"setpriv", Form::Setpriv),
+    (b"setself", Form::Setself),
+    (b"droplic", Form::Droplic),
+    (b"ceiling", Form::Ceiling),
+    (b"readlog", Form::Readlog),
+    (b"thawself", Form::Plain(Plain::Thawself)),
+    (b"setlabel", Form::Setlabel),
+    (b"freezeself", Form::Plain(Plain::Freezeself)),
 ];
+
+/// Where in that table the words of a length begin; behind these, its end.
+const BEGIN: [usize; 12] = [0, 0, 0, 1, 5, 23, 33, 36, 42, 44, 44, 45];
 
 /// The form of a line by its first word.
 pub(crate) fn form_of(word: &[u8]) -> Option<Form>
     ensures { result ≡ form_of word.now }
 {
     let table = FORMS;
-    'entries: for i in 0..table.len() {
+    'entries: for i in BEGIN[word.len().min(11)]..table.len() {
         let (text, form) = table[i];
         if is(word, text) {
             return Some(form);

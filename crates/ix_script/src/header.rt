@@ -211,7 +211,7 @@ impl<'a> Header<'a> {
                 self.told += 1;
                 Ok(())
             }
-            Line::Proc { name, .. } => self.procs.push(name.as_bytes()),
+            Line::Proc { name, .. } => self.procs.push(name),
             Line::Dir { path, .. } => self.made.push(&path.path(), true),
             Line::File { path, .. } => self.made.push(&path.path(), false),
             Line::Policy { .. } => {

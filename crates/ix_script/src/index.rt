@@ -1,7 +1,7 @@
-ghost use Rattle.std.{specs.List.{list_any}, specs.Prelude.{◌≡◌, Some, nat_eq, refl, ◌++◌, ◌∷◌, [], List, ℕ, OnOk, ◌+◌, ◌<◌, ◌^◌}, proofs.Common.{option_map}};
+ghost use Rattle.std.{specs.List.{list_any}, specs.Prelude.{◌≡◌, true, IsTrue, Some, nat_eq, refl, ◌++◌, ◌∷◌, [], List, ℕ, OnOk, ◌+◌, ◌<◌, ◌^◌}, proofs.Common.{option_map}};
 ghost use Rattle.std.{specs.Cmp.Lexicographic.{nat_list_cmp_total, nat_list_eq_equiv, pointwise, slice_cmp, texts_po, texts_ties}, specs.Ordering.{nat_cmp}};
 ghost use Rattle.ix_script.specs.{lines.Before.{in_lane, is_given, listed, listed_two, is_known}, reader.Indexed.{AreIndexed, AreNames, AreSites, is_named, dir_there, file_there, is_there}};
-ghost use Rattle.{std.specs.Cmp.{on_equiv, on_per, on_po, on_total, partial_equiv_from_equiv}, ix_model.specs.{declared.config.ObjSpec.{ObjSpec}, world.Paths.{path_of}, world.Texts.{names_in}}};
+ghost use Rattle.{ix_text.specs.Names.{is_script_name}, std.specs.Cmp.{on_equiv, on_per, on_po, on_total, partial_equiv_from_equiv}, ix_model.specs.{declared.config.ObjSpec.{ObjSpec}, world.Paths.{path_of}, world.Texts.{names_in}}};
 
 use crate::values::NameWord;
 use ix_model::{NoMemory, Path};
@@ -11,45 +11,9 @@ use std::cmp::Ordering;
 use std::collections::BTreeSet;
 
 /// A name of a script, or the text of the names of a path, in the order of its bytes.
-#[derive(Clone, Copy, PartialEq, Eq)]
+#[derive(Clone, Copy, PartialEq, Eq, PartialOrd, Ord)]
 pub(crate) struct ByBytes<'a> {
     pub name: &'a [u8],
-}
-
-pub(crate) fn order<'x>(a: &'x [u8], b: &'x [u8]) -> Ordering
-    ensures { result ≡ slice_cmp nat_cmp a.now b.now }
-{
-    // Names are short: byte by byte takes less than the comparison of whole slices does.
-    'bytes: for i in 0..a.len().min(b.len()) {
-        if a[i] != b[i] {
-            return a[i].cmp(&b[i]);
-        }
-    }
-    a.len().cmp(&b.len())
-}
-
-impl<'a> PartialOrd for ByBytes<'a> {
-    ghost partial_cmp = { λ a b. Some (slice_cmp nat_cmp a.name.now b.name.now) };
-
-    ghost laws = { on_po (λ s. s.name.now) texts_po };
-
-    fn partial_cmp(&self, other: &ByBytes<'a>) -> Option<Ordering> {
-        Some(self.cmp(other))
-    }
-}
-
-impl<'a> Ord for ByBytes<'a> {
-    ghost cmp = { λ a b. slice_cmp nat_cmp a.name.now b.name.now };
-
-    ghost total = { on_total (λ s. s.name.now) nat_list_cmp_total };
-
-    ghost matches_partial_cmp = { λ a b. refl };
-
-    ghost matches_eq = { λ a b. texts_ties a.name.now b.name.now };
-
-    fn cmp(&self, other: &ByBytes<'a>) -> Ordering {
-        order(self.name, other.name)
-    }
 }
 
 /// A name in its lane. Names come first in the order, since most are of one lane.
@@ -103,18 +67,30 @@ impl<'a> Given<'a> {
         is_near(lane, word, self.near.as_slice()) || self.index.contains(&place_of(lane, word))
     }
 
+    /// Whether it is one of those that are looked through.
+    pub fn has_near(&self, lane: Option<&'a [u8]>, word: &'a [u8]) -> bool
+        ensures given { (items : List (List ℕ × List ℕ)) → AreIndexed self.now items → IsTrue result → is_given (option_map (λ s. s.now) lane.entry) word.now items ≡ true }
+        ensures name { (items : List (List ℕ × List ℕ)) → AreIndexed self.now items → IsTrue result → is_script_name word.now ≡ true }
+    {
+        match lane {
+            Some(lane) => is_near(lane, word, self.near.as_slice()),
+            None => false,
+        }
+    }
+
     /// One name more, if a lane is open. After an error the names aren't used.
-    fn add(&mut self, lane: Option<&'a [u8]>, name: &'a [u8]) -> Result<(), NoMemory>
+    pub fn add(&mut self, lane: Option<&'a [u8]>, name: &NameWord<'a>) -> Result<(), NoMemory>
         ensures { OnOk result ((items : List (List ℕ × List ℕ)) → AreIndexed self.old items → AreIndexed self.new (items ++ in_lane (option_map (λ s. s.now) lane.entry) (name.now ∷ []))) }
     {
         let Some(lane) = lane else {
             return Ok(());
         };
+        let place = place_of(lane, name.word());
         if self.near.len() < 4 {
-            self.near.push(place_of(lane, name))?;
+            self.near.push(place)?;
             return Ok(());
         }
-        self.index.insert(place_of(lane, name))?;
+        self.index.insert(place)?;
         Ok(())
     }
 
@@ -127,25 +103,7 @@ impl<'a> Given<'a> {
         ensures { OnOk result ((items : List (List ℕ × List ℕ)) → AreIndexed self.old items → AreIndexed self.new (items ++ in_lane (option_map (λ s. s.now) lane.entry) (listed named.now))) }
     {
         match named {
-            Some(name) => self.add(lane, name.as_bytes()),
-            None => Ok(()),
-        }
-    }
-
-    /// The two names more, if there are some and a lane is open. After an error the names aren't used.
-    pub fn add_two(
-        &mut self,
-        lane: Option<&'a [u8]>,
-        named: &Option<(NameWord<'a>, NameWord<'a>)>,
-    ) -> Result<(), NoMemory>
-        ensures { OnOk result ((items : List (List ℕ × List ℕ)) → AreIndexed self.old items → AreIndexed self.new (items ++ in_lane (option_map (λ s. s.now) lane.entry) (listed_two named.now))) }
-    {
-        match named {
-            Some((first, second)) => {
-                self.add(lane, first.as_bytes())?;
-                self.add(lane, second.as_bytes())?;
-                Ok(())
-            }
+            Some(name) => self.add(lane, name),
             None => Ok(()),
         }
     }
@@ -175,8 +133,16 @@ impl<'a> Names<'a> {
         self.given.has(Some(&[]), word)
     }
 
+    /// Whether it is one of those that are looked through.
+    pub fn has_near(&self, word: &'a [u8]) -> bool
+        ensures known { (names : List (List ℕ)) → AreNames self.now names → IsTrue result → is_known word.now names ≡ true }
+        ensures name { (names : List (List ℕ)) → AreNames self.now names → IsTrue result → is_script_name word.now ≡ true }
+    {
+        self.given.has_near(Some(&[]), word)
+    }
+
     /// One name more. After an error the names aren't used.
-    pub fn push(&mut self, name: &'a [u8]) -> Result<(), NoMemory>
+    pub fn push(&mut self, name: &NameWord<'a>) -> Result<(), NoMemory>
         requires { self.old.count + 1 < 2 ^ 64 }
         ensures names { OnOk result ((names : List (List ℕ)) → AreNames self.old names → AreNames self.new (names ++ name.now ∷ [])) }
         ensures count { OnOk result (self.new.count ≡ self.old.count + 1) }

@@ -32,4 +32,4 @@ pub use role::Role;
 pub use schedule::Stretch;
 pub use script::{Script, need};
 pub use values::{LabelWord, NameWord, PolicyText};
-pub use writing::write;
+pub use writing::{write, write_part};

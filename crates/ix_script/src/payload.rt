@@ -1,4 +1,4 @@
-ghost use Rattle.std.specs.Prelude.{◌≡◌, ◌<◌, Some, IfSome, IsSome, is_some, ◌≤◌, ◌∷◌, [], length, take, unwrap_or, None, ℕ, ◌+◌, ◌++◌, ◌^◌, replicate, OnOk};
+ghost use Rattle.std.specs.Prelude.{◌≡◌, ◌<◌, Some, IfSome, IsSome, is_some, ◌≤◌, ◌∷◌, [], length, take, unwrap_or, None, ℕ, ◌+◌, replicate, OnOk};
 ghost use Rattle.{std.specs.{List.{list_all}, Option.{option_map_or}}, ix_script.specs.{lines.Said.{payload_within}, reader.Readers.{IsFault}, texts.PayloadBytes.{bytes_in}, texts.Spelled.{Spells}}};
 ghost use Rattle.ix_script.specs.texts.Payloads.{digit_of, pair_of, two_digits, escape_step, ends, escaped_byte, after_bytes, pairs_of, quoted_from, times_from, payload_of};
 ghost use Rattle.ix_script.specs.declared.payload.Escape.TheVariants as escape;
@@ -114,7 +114,8 @@ fn first_of_quoted(text: &[u8]) -> Option<(u8, &[u8])>
     }
 }
 
-/// Puts the bytes that pairs of digits spell, which are so many, at the front of a buffer.
+/// Puts the bytes that pairs of digits spell, which are so many, at the front of a buffer. The two digits of a byte are read at
+/// once, so that many are worked out at once.
 fn decode_pairs(text: &[u8], count: usize, buf: &mut [u8])
     requires spelled { IsSome (pairs_of text.now) }
     requires count { count ≡ length (unwrap_or (pairs_of text.now) []) }
@@ -122,12 +123,15 @@ fn decode_pairs(text: &[u8], count: usize, buf: &mut [u8])
     ensures front { take count buf.new ≡ unwrap_or (pairs_of text.now) [] }
     ensures len { length buf.new ≡ length buf.old }
 {
+    let (twos, _) = text.as_chunks::<2>();
     'bytes: for i in 0..count {
-        buf[i] = pair(text[2 * i], text[2 * i + 1]).unwrap();
+        let two = twos[i];
+        buf[i] = pair(two[0], two[1]).unwrap();
     }
 }
 
 /// Puts the bytes that stand in quotes, which are so many, at the front of a buffer.
+#[inline(never)]
 fn decode_quoted(text: &[u8], count: usize, buf: &mut [u8])
     requires spelled { IsSome (quoted_from escape.Plain text.now) }
     requires count { count ≡ length (unwrap_or (quoted_from escape.Plain text.now) []) }
@@ -137,9 +141,7 @@ fn decode_quoted(text: &[u8], count: usize, buf: &mut [u8])
 {
     let mut rest = text;
     'bytes: for i in 0..count {
-        let Some((byte, more)) = first_of_quoted(rest) else {
-            return;
-        };
+        let (byte, more) = first_of_quoted(rest).unwrap();
         buf[i] = byte;
         rest = more;
     }
@@ -178,10 +180,7 @@ fn are_digits(text: &[u8]) -> bool
 fn pairs(text: &[u8]) -> Result<(Spelling<'_>, usize), Rule>
     ensures { (most : ℕ) → Spells most result (pairs_of text.now) }
 {
-    if text.len() % 2 != 0 {
-        return Err(Rule::BAD_PAYLOAD);
-    }
-    if are_digits(text) {
+    if text.len() % 2 == 0 && are_digits(text) {
         Ok((Spelling::Pairs(text), text.len() / 2))
     } else {
         Err(Rule::BAD_PAYLOAD)
@@ -237,10 +236,8 @@ fn spelling_of(most: u32, word: &[u8]) -> Result<(Spelling<'_>, usize), Rule>
     if begins(b'x', word) {
         return pairs(&word[1..]);
     }
-    match place_of(b'*', word) {
-        Some(star) => times(most, &word[..star], &word[star + 1..]),
-        None => Err(Rule::BAD_PAYLOAD),
-    }
+    let star = place_of(b'*', word).ok_or(Rule::BAD_PAYLOAD)?;
+    times(most, &word[..star], &word[star + 1..])
 }
 
 /// The bytes of a payload, at most so many: the first rule that it breaks.
@@ -255,27 +252,16 @@ pub(crate) fn payload_fault(most: u32, word: &[u8]) -> Option<Rule>
     }
 }
 
-/// So many of a byte at the end, of which there is a block: one after another they take several times as long.
-fn push_blocks(buffer: &mut Vec<u8>, n: usize, byte: u8, block: &[u8]) -> Result<(), NoMemory>
-    requires some { 0 < length block.now }
-    requires block { block.now ≡ replicate (length block.now) byte }
-    ensures { OnOk result (buffer.new.items ≡ buffer.old.items ++ replicate n byte) }
-{
-    let mut left = n;
-    'parts: while left > 0 {
-        let part = left.min(block.len());
-        buffer.extend_from_slice(&block[..part])?;
-        left -= part;
-    }
-    Ok(())
-}
-
 impl<'a, const MOST: u32> Payload<'a, MOST> {
     pub(crate) fn of(word: &'a [u8]) -> Payload<'a, MOST>
         requires { IsSome (payload_within MOST word.now) }
         ensures { payload_within MOST word.now ≡ Some result }
     {
-        let (spelling, len) = spelling_of(MOST, word).unwrap();
+        let (spelling, len) = if begins(b'x', word) {
+            (Spelling::Pairs(&word[1..]), word.len() / 2)
+        } else {
+            spelling_of(MOST, word).unwrap()
+        };
         Payload {
             spelling,
             len: len as u32,
@@ -317,11 +303,6 @@ impl<'a, const MOST: u32> Payload<'a, MOST> {
     pub(crate) fn decode_into(&self, buffer: &mut Vec<u8>) -> Result<(), NoMemory>
         ensures { OnOk result (buffer.new.items ≡ self.now) }
     {
-        if let Some((n, byte)) = self.times() {
-            buffer.clear();
-            buffer.reserve(n)?;
-            return push_blocks(buffer, n, byte, &[byte; 4096]);
-        }
         buffer.resize(self.len(), 0)?;
         self.decode(buffer.as_mut_slice());
         Ok(())

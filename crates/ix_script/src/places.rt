@@ -1,5 +1,5 @@
-ghost use Rattle.std.specs.Prelude.{◌≡◌, ◌≤◌, ◌<◌, ◌+◌, [], ◌∷◌, Some, None, IsSome, length, map, if◌then◌else◌};
-ghost use Rattle.ix_script.specs.{lines.Forms.{places, places_from}, lines.Said.{said, plain_line, path_line, fd_line, counted_line}};
+ghost use Rattle.std.specs.Prelude.{◌≡◌, ◌≤◌, ◌<◌, ◌+◌, [], ◌∷◌, Some, None, IsSome, length, map, take, if◌then◌else◌};
+ghost use Rattle.ix_script.specs.{lines.Forms.{arity, kinds, places, places_from}, lines.Kinds.{places_fault}, lines.Said.{said, plain_line, path_line, fd_line, counted_line}};
 ghost use Rattle.ix_script.specs.{reader.Placing.{kind_in, least, Stand}, reader.Readers.{IsFault}, texts.Cutting.{word_at}};
 
 use crate::fail::Rule;
@@ -75,12 +75,21 @@ fn fault_from(labels: LabelForm, kinds: &[Kind], words: &Words<'_>, from: usize)
 }
 
 /// The first of rules 11 to 19 that a line of that form breaks, whose labels are spelled so: those that a word can break by itself.
+/// At the first so many places they are known to break none.
 #[inline(always)]
-pub(crate) fn places_fault(labels: LabelForm, form: Form, words: &Words<'_>) -> Option<Rule>
+pub(crate) fn places_fault(
+    labels: LabelForm,
+    form: Form,
+    words: &Words<'_>,
+    known: usize,
+) -> Option<Rule>
+    requires few { known ≤ arity form words.now }
+    requires right { places_fault (places_from 1 (take known (kinds labels form words.now)) words.now) ≡ None }
     ensures { IsFault result (places labels form words.now) }
 {
     let kinds = form.kinds();
-    let own = fault_from(labels, kinds, words, 1);
+    let (_, left) = kinds.split_at(known);
+    let own = fault_from(labels, left, words, 1 + known);
     if words.len() <= 1 + kinds.len() {
         return own;
     }
@@ -92,25 +101,6 @@ macro_rules! say_by {
     ($command:ident: $of:ident, $fields:tt, $($name:ident)+) => {
         match $command { $($of::$name => return Some(Line::$name $fields),)+ }
     };
-}
-
-fn plain_line<'a>(command: Plain, proc: NameWord<'a>) -> Option<Line<'a>>
-    ensures { result ≡ Some (plain_line command proc.entry) }
-{
-    say_by!(command: Plain, { proc }, Wait Self_ Freezeself Thawself)
-}
-
-fn path_line<'a>(command: OnPath, proc: NameWord<'a>, path: PathWord<'a>) -> Option<Line<'a>>
-    ensures { result ≡ Some (path_line command proc.entry path.entry) }
-{
-    say_by!(command: OnPath, { proc, path },
-        Create Mkdir Unlink Rmdir Chdir Stat Exec Labelof Freeze Thaw)
-}
-
-fn fd_line<'a>(command: OnFd, proc: NameWord<'a>, fd: FdWord<'a>) -> Option<Line<'a>>
-    ensures { result ≡ Some (fd_line command proc.entry fd.entry) }
-{
-    say_by!(command: OnFd, { proc, fd }, Close Pex Unpex Priv)
 }
 
 fn counted_line<'a>(
@@ -181,9 +171,13 @@ pub(crate) fn line_said<'a>(labels: LabelForm, form: Form, words: &Words<'a>) ->
             lic: privs words.get(5), bytes: payload words.get(6)
         }),
         Form::Lane => say!(Lane { name: name one }),
-        Form::Plain(command) => return plain_line(command, NameWord::of(one)),
-        Form::OnPath(command) => return path_line(command, NameWord::of(one), PathWord::of(two)),
-        Form::OnFd(command) => return fd_line(command, NameWord::of(one), fd(two)),
+        Form::Plain(command) => say_by!(command: Plain,
+            { proc: NameWord::of(one) }, Wait Self_ Freezeself Thawself),
+        Form::OnPath(command) => say_by!(command: OnPath,
+            { proc: NameWord::of(one), path: PathWord::of(two) },
+            Create Mkdir Unlink Rmdir Chdir Stat Exec Labelof Freeze Thaw),
+        Form::OnFd(command) => say_by!(command: OnFd,
+            { proc: NameWord::of(one), fd: fd(two) }, Close Pex Unpex Priv),
         Form::Counted(command) => return counted_line(
             command,
             NameWord::of(one),

@@ -1,8 +1,8 @@
-ghost use Rattle.std.specs.{Prelude.{◌≡◌, Some, None, [], true, IsTrue, ◌<◌, ◌&&◌, ◌||◌, length}, List.{list_all, list_any}};
+ghost use Rattle.std.specs.{Prelude.{◌≡◌, Some, None, [], true, false, IsTrue, ◌<◌, ◌≤◌, ◌&&◌, ◌||◌, length, take}, List.{list_all, list_any}};
 ghost use Rattle.ix_script.specs.{lines.Before.{form_told, is_known, what_text, proc_names, fss_of, objects_of}, texts.Cutting.{is_skipped, is_policy_line}};
 ghost use Rattle.ix_script.specs.lines.Faults.{text_fault, stand_fault, names_fault, said_fault, form_fault, command_fault, first_line_fault, body_fault};
 ghost use Rattle.ix_script.specs.lines.Rules.{is_outside, is_given_twice, is_unknown, names_unknown, object_above, object_is_misplaced, object_exceeds_limits, is_one_too_many, lacks_policy};
-ghost use Rattle.ix_script.specs.{lines.Said.{version_of, line_of}, reader.Readers.{Finds, object_fault, Tells, TellsForm, is_whole}, reader.Told.{DraftTold}};
+ghost use Rattle.ix_script.specs.{lines.Forms.{arity, kinds, places_from}, lines.Kinds.{places_fault}, lines.Said.{version_of, line_of}, reader.Readers.{Finds, object_fault, Tells, TellsForm, is_whole}, reader.Told.{DraftTold}};
 ghost use Rattle.ix_script.specs.declared.line.Line.TheVariants as line;
 ghost use Rattle.ix_script.specs.lines.Kinds as kind;
 ghost use Rattle.ix_model.specs.{declared.config.ObjSpec.{ObjSpec}, opening.Valid.{is_within, fs_of, is_mount, is_taken, has_directory}};
@@ -105,11 +105,13 @@ impl<'a> Draft<'a> {
         refuse_if!(form.is_header() && self.body.started, Rule::LATE_HEADER);
         refuse_if!(self.is_outside(form), Rule::OUTSIDE_LANE);
         refuse_if!(!form.has_right_count(words), Rule::WORD_COUNT);
-        if let Some(rule) = places_fault(self.lines.form(), form, words) {
+        let near = self.near_names(form, words);
+        if let Some(rule) = places_fault(self.lines.form(), form, words, near) {
             return Err(rule);
         }
         refuse_if!(self.gives_twice(form, words), Rule::GIVEN_TWICE);
-        refuse_if!(self.is_unknown(form, words), Rule::UNKNOWN_NAME);
+        let unknown = near == 0 && self.is_unknown(form, words);
+        refuse_if!(unknown, Rule::UNKNOWN_NAME);
         Ok(form)
     }
 
@@ -227,14 +229,6 @@ impl<'a> Draft<'a> {
         }
     }
 
-    #[inline(always)]
-    fn tells_proc(&self, word: &'a [u8]) -> bool
-        requires told { DraftTold self.now }
-        ensures { result ≡ is_known word.now (proc_names self.now.lines) }
-    {
-        self.header.procs.has(word)
-    }
-
     /// Whether a name is given twice: rule 20.
     #[inline(always)]
     pub fn gives_twice(&self, form: Form, words: &Words<'a>) -> bool
@@ -245,11 +239,11 @@ impl<'a> Draft<'a> {
         match form {
             Form::Fs => header.told > 0 && is_named(words.get(1), header.fss.as_slice()),
             Form::Limit => is_limited(words.get(1), header.whats.as_slice()),
-            Form::Proc => self.tells_proc(words.get(1)),
+            Form::Proc => self.header.procs.has(words.get(1)),
             Form::Lane => self.body.has_lane(words.get(1)),
             Form::Pipe => words.len() > 2 && is(words.get(3), words.get(4)),
-            Form::Fork => words.len() > 3 && self.tells_proc(words.get(4)),
-            Form::Login => words.len() > 4 && self.tells_proc(words.get(5)),
+            Form::Fork => words.len() > 3 && self.header.procs.has(words.get(4)),
+            Form::Login => words.len() > 4 && self.header.procs.has(words.get(5)),
             _ => false,
         }
     }
@@ -259,7 +253,7 @@ impl<'a> Draft<'a> {
         requires told { DraftTold self.now }
         ensures { result ≡ is_unknown self.now.lines (kind.Proc, word.now) }
     {
-        !self.tells_proc(word) && !self.body.procs.has(self.body.lane, word)
+        !self.header.procs.has(word) && !self.body.procs.has(self.body.lane, word)
     }
 
     #[inline(always)]
@@ -268,6 +262,28 @@ impl<'a> Draft<'a> {
         ensures { result ≡ is_unknown self.now.lines (kind.Fd, word.now) }
     {
         !begins_with_digit(word) && !self.body.fds.has(self.body.lane, word)
+    }
+
+    /// At how many places the names of processes and descriptors stand that a line has, where these come first and are all near: known
+    /// names break no rule. 0 where that isn't so.
+    #[inline(always)]
+    fn near_names(&self, form: Form, words: &Words<'a>) -> usize
+        requires told { DraftTold self.now }
+        ensures few { result ≤ arity form words.now }
+        ensures known { 0 < result → names_unknown self.now.lines form words.now ≡ false }
+        ensures right { places_fault (places_from 1 (take result (kinds (form_told self.now.lines) form words.now)) words.now) ≡ None }
+    {
+        if !self.header.procs.has_near(words.get(1)) {
+            return 0;
+        }
+        let fd = words.get(2);
+        match form {
+            Form::OnFd(_) | Form::Counted(_) | Form::Write | Form::Dup
+                if self.body.fds.has_near(self.body.lane, fd) => { 2 }
+            Form::Plain(_) | Form::OnPath(_) | Form::Open | Form::Pipe | Form::Link => 1,
+            Form::List | Form::Setlabel | Form::Setpriv | Form::Exit | Form::Setself => 1,
+            _ => 0,
+        }
     }
 
     /// Whether a process or a descriptor is unknown: rule 21.

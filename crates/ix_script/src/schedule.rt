@@ -61,10 +61,7 @@ fn part_end(lines: &Lines, first: usize) -> usize
     ensures { result ≡ first + part_len (drop first lines.now) }
 {
     'lines: for index in first..lines.len() {
-        let Some(role) = lines.role(index) else {
-            continue;
-        };
-        match role {
+        match lines.role(index).unwrap() {
             Role::Phase | Role::Lane => return index,
             _ => continue,
         }
@@ -91,9 +88,7 @@ fn add_line(
     ensures begun { IfOk result (λ after. after ≡ begun_in begun index lines.now) }
     ensures more { OnOk result ((seat : ℕ) → slice_index_or stretches.new.items seat [] ≡ slice_index_or stretches.old.items seat [] ++ stretch_in lanes.now seat begun index lines.now) }
 {
-    let Some(role) = lines.role(index) else {
-        return Ok(begun);
-    };
+    let role = lines.role(index).unwrap();
     if let Role::Phase = role {
         *next = 0;
         return Ok(begun + 1);
@@ -102,9 +97,7 @@ fn add_line(
         return Ok(begun);
     };
     // The line isn't made: its name stands behind its word and a space.
-    let Some(text) = lines.text_at(index) else {
-        return Ok(begun);
-    };
+    let text = lines.text_at(index).unwrap();
     let Some(seat) = seat_of(*next, &text[5..], lanes) else {
         return Ok(begun);
     };

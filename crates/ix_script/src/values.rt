@@ -1,8 +1,8 @@
-ghost use Rattle.std.specs.{Prelude.{◌≡◌, ◌≤◌, ◌+◌, ◌==◌, Some, IsSome, length, position, take, IfSome, ◌<◌, [], ◌∷◌, MatchOption}, List.{list_all}};
+ghost use Rattle.std.specs.{Prelude.{◌≡◌, ◌≤◌, ◌+◌, ◌==◌, true, Some, IsSome, length, position, take, IfSome, ◌<◌, [], ◌∷◌, MatchOption}, List.{list_all}};
 ghost use Rattle.ix_script.specs.{lines.Kinds.{bounds}, lines.Said.{name_after, two_names_after}, reader.Readers.{IsFault}};
 ghost use Rattle.ix_script.specs.{texts.Cutting.{policy_text, word_at}, texts.Words.{mode_of, state_of, what_of, is_numeral, value, number_of, fd_of, keep_of}};
 ghost use Rattle.ix_script.specs.lines.Kinds as kind;
-ghost use Rattle.{ix_model.specs.world.Naming.{same_bytes}, ix_text.specs.{Bytes.{is_digit, begins_with}, Labels.{label_in}, Names.{name_of}}};
+ghost use Rattle.{ix_model.specs.world.Naming.{same_bytes}, ix_text.specs.{Bytes.{is_digit, begins_with}, Labels.{label_in}, Names.{is_script_name, name_of}}};
 
 use crate::fail::Rule;
 use crate::line::{FdWord, KeepWord, What};
@@ -44,13 +44,13 @@ pub struct NameWord<'a> {
 
 impl<'a> Model for NameWord<'a> {
     ghost use Rattle.std.specs.Prelude.{List, ℕ, IsTrue};
-    ghost use Rattle.ix_model.specs.world.Naming.{is_name};
+    ghost use Rattle.ix_text.specs.Names.{is_script_name};
 
     ghost Value = { List ℕ };
 
     ghost view = { λ n. n.word.now };
 
-    ghost invariant = { λ n. IsTrue (is_name n.word.now) };
+    ghost invariant = { λ n. IsTrue (is_script_name n.word.now) };
 }
 
 impl<'a> NameWord<'a> {
@@ -69,6 +69,14 @@ impl<'a> NameWord<'a> {
         self.word
     }
 
+    /// Its bytes, which are well formed.
+    pub(crate) fn word(&self) -> &'a [u8]
+        ensures bytes { result.now ≡ self.now }
+        ensures name { is_script_name result.now ≡ true }
+    {
+        self.word
+    }
+
     /// The name.
     pub fn name(&self) -> Name
         ensures { result ≡ self.now }
@@ -80,9 +88,7 @@ impl<'a> NameWord<'a> {
 /// Returns what stands beside the first of these texts that a word is.
 macro_rules! return_by_text {
     ($word:ident; $($text:literal => $form:expr,)+) => {
-        $(if is($word, $text) {
-            return Some($form);
-        })+
+        $(if is($word, $text) { return Some($form); })+
     };
 }
 

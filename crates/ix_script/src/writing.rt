@@ -1,18 +1,19 @@
-ghost use Rattle.std.specs.Prelude.{◌≡◌, ◌++◌, ◌∷◌, [], OnOk, ◌≤◌, ◌==◌, codes, length, replicate, IsTrue, ◌-◌, Some, None, false, take, slice_get, IfOk};
-ghost use Rattle.{std.{proofs.Common.{option_map}, specs.List.{list_all}}, ix_text.specs.Spellings.{hex_pair}};
-ghost use Rattle.ix_script.specs.{lines.Before.{form_told}, scripts.Canonical.{line_text, canonical}, scripts.Packed.{IsLine, line_in}, texts.Cutting.{is_skipped}};
+ghost use Rattle.std.specs.Prelude.{◌≡◌, ◌++◌, [], OnOk, ◌≤◌, ◌<◌, ◌==◌, codes, drop, length, IsTrue, ◌-◌, Some, None, false, take, IfOk, IfSome, IsSome, unwrap_or, ℕ};
+ghost use Rattle.{std.specs.List.{list_all}, ix_text.specs.{Bytes.{begins}, Spellings.{hex_pair}}};
+ghost use Rattle.ix_script.specs.{scripts.Canonical.{line_text, canonical, canonical_from}, scripts.Packed.{IsLine, line_in}, lines.Said.{payload_within}, texts.Cutting.{is_skipped, pieces, word_at}};
+ghost use Rattle.ix_script.specs.declared.words.Spot.TheVariants as spot;
 ghost use Rattle.ix_script.specs.texts.Spellings.{pairs_text, times_text, stands_quoted, quoted_byte, quoted_text, once, payload_text};
 
-use crate::form::form_of;
-use crate::packed::{Lines, has_one_spelling};
-use crate::payload::Payload;
+use crate::packed::has_one_spelling;
+use crate::payload::{Payload, two_digits};
 use crate::rules::is_skipped;
 use crate::script::Script;
+use crate::values::{begins_with_digit, place_of, value};
 use crate::words::Words;
 use itoa::Buffer;
 use ix_label::Form as LabelForm;
 use ix_model::NoMemory;
-use ix_text::hex_pair;
+use ix_text::{begins, hex_pair};
 use std::alloc::Global;
 
 pub(crate) fn push(out: &mut Vec<u8>, bytes: &[u8]) -> Result<(), NoMemory>
@@ -51,17 +52,15 @@ fn stands_quoted(byte: u8) -> bool
 fn quoted_byte(out: &mut Vec<u8>, byte: u8) -> Result<(), NoMemory>
     ensures { OnOk result (out.new.items ≡ out.old.items ++ quoted_byte byte) }
 {
-    if stands_quoted(byte) {
-        return push(out, &[byte]);
+    match byte {
+        b'"' | b'\\' => push(out, &[b'\\', byte]),
+        b'\n' => push(out, b"\\n"),
+        _ if stands_quoted(byte) => push(out, &[byte]),
+        _ => {
+            push(out, b"\\x")?;
+            push(out, &hex_pair(byte))
+        }
     }
-    if byte == b'"' || byte == b'\\' {
-        return push(out, &[b'\\', byte]);
-    }
-    if byte == b'\n' {
-        return push(out, b"\\n");
-    }
-    push(out, b"\\x")?;
-    push(out, &hex_pair(byte))
 }
 
 fn quoted(out: &mut Vec<u8>, bytes: &[u8]) -> Result<(), NoMemory>
@@ -80,13 +79,11 @@ fn quoted_byte_len(byte: u8) -> u8
     ensures len { result ≡ length (quoted_byte byte) }
     ensures few { result ≤ 4 }
 {
-    if stands_quoted(byte) {
-        return 1;
+    match byte {
+        b'"' | b'\\' | b'\n' => 2,
+        _ if stands_quoted(byte) => 1,
+        _ => 4,
     }
-    if byte == b'"' || byte == b'\\' || byte == b'\n' {
-        return 2;
-    }
-    4
 }
 
 fn quoted_len(bytes: &[u8]) -> u128
@@ -169,29 +166,54 @@ fn shortest_text(out: &mut Vec<u8>, bytes: &[u8]) -> Result<(), NoMemory>
     pairs(out, bytes)
 }
 
-/// Whether n*HH is shorter than the pairs, and no longer than the quotes, whatever the byte is.
-fn are_times_shortest(n: usize, byte: u8) -> bool
-    ensures { IsTrue result → payload_text (replicate n byte) ≡ times_text n byte }
+/// The byte of a payload n*HH, where that is shorter than the pairs, and no longer than quotes, whatever the byte is.
+fn byte_of_times(word: &[u8]) -> Option<u8>
+    requires { IsSome (payload_within 1048576 word.now) }
+    ensures { IfSome result (λ byte. (2 ≤ length word.now) × (payload_text (unwrap_or (payload_within 1048576 word.now) []) ≡ take (length word.now - 2) word.now ++ hex_pair byte)) }
 {
-    let len = times_len(n, byte);
-    len < n as u128 * 2 + 1 && len <= n as u128 + 2
+    if !begins_with_digit(word) {
+        return None;
+    }
+    let count = value(&word[..word.len() - 3]).unwrap() as usize;
+    if word.len() > count + 2 || word.len() > count * 2 {
+        return None;
+    }
+    two_digits(&word[word.len() - 2..])
 }
 
-/// A payload in its shortest spelling. A byte over and over is never put into the buffer but once.
-pub(crate) fn payload<const MOST: u32>(
+/// A line of that text whose last word is a payload, with the shortest spelling of it. A byte over and over is never put into
+/// the buffer but once.
+fn write_payload(
     out: &mut Vec<u8>,
     buffer: &mut Vec<u8>,
-    payload: &Payload<'_, MOST>,
+    text: &[u8],
+    word: &[u8],
 ) -> Result<(), NoMemory>
-    ensures { OnOk result (out.new.items ≡ out.old.items ++ payload_text payload.now) }
+    requires last { length word.now ≤ length text.now }
+    requires known { IsSome (payload_within 1048576 word.now) }
+    ensures { OnOk result (out.new.items ≡ out.old.items ++ (take (length text.now - length word.now) text.now ++ payload_text (unwrap_or (payload_within 1048576 word.now) []))) }
 {
-    if let Some((n, byte)) = payload.times() {
-        if are_times_shortest(n, byte) {
-            return times(out, n, byte);
-        }
+    push(out, &text[..text.len() - word.len()])?;
+    if let Some(byte) = byte_of_times(word) {
+        push(out, &word[..word.len() - 2])?;
+        return push(out, &hex_pair(byte));
     }
-    payload.decode_into(buffer)?;
+    Payload::<1_048_576>::of(word).decode_into(buffer)?;
     shortest_text(out, buffer.as_slice())
+}
+
+/// What stands behind so many words, none of which has quotes, and their spaces.
+fn behind_words(text: &[u8], count: usize) -> &[u8]
+    requires plain { (i : ℕ) → i < count → begins 34 (word_at (pieces spot.Front text.now) i) ≡ false }
+    requires more { count < length (pieces spot.Front text.now) }
+    ensures { pieces spot.Front result.now ≡ drop count (pieces spot.Front text.now) }
+{
+    let mut rest = text;
+    'words: for _ in 0..count {
+        let end = place_of(b' ', rest).unwrap();
+        rest = &rest[end + 1..];
+    }
+    rest
 }
 
 /// The canonical text of a line of that text, without a line feed: the text itself, but for a payload and a skipped line.
@@ -210,35 +232,52 @@ fn write_line(
     if is_skipped(text) {
         return Ok(());
     }
+    if begins(b'w', text) {
+        return write_payload(out, buffer, text, behind_words(text, 3));
+    }
     let mut words = Words::none();
     words.cut(text);
-    let place = form_of(words.get(0)).unwrap().payload_place();
-    if place == 0 {
-        return push(out, text);
-    }
-    push(out, &text[..text.len() - words.get(place).len()])?;
-    payload(out, buffer, &Payload::<1_048_576>::of(words.get(place)))
+    write_payload(out, buffer, text, words.get(6))
 }
 
-fn write_lines(out: &mut Vec<u8>, buffer: &mut Vec<u8>, lines: &Lines) -> Result<(), NoMemory>
-    ensures { OnOk result (out.new.items ≡ out.old.items ++ canonical lines.now) }
+/// About how many bytes of a text are put together at once.
+const PART: usize = 65_536;
+
+/// Puts the canonical text of the lines from an index on, from 0, behind what is there, up to the line with which that becomes
+/// 64 KiB longer or to the last; answers the index behind that line. `NoMemory` where there was none for it.
+pub fn write_part(
+    alloc: Global,
+    out: &mut Vec<u8>,
+    script: &Script,
+    first: usize,
+) -> Result<usize, NoMemory>
+    requires { first ≤ length script.now }
+    ensures text { IfOk result (λ end. out.new.items ++ canonical_from script.now end ≡ out.old.items ++ canonical_from script.now first) }
+    ensures more { first < length script.now → IfOk result (λ end. first < end) }
+    ensures within { IfOk result (λ end. end ≤ length script.now) }
 {
-    for index in 0..lines.len() {
-        let Some(text) = lines.text_at(index) else {
-            return Err(NoMemory);
-        };
-        write_line(out, buffer, lines.form(), text)?;
+    let lines = script.lines();
+    let full = out.len().saturating_add(PART);
+    let mut buffer = Vec::new(alloc);
+    'lines: for index in first..lines.len() {
+        let text = lines.text_at(index).unwrap();
+        write_line(out, &mut buffer, lines.form(), text)?;
         out.push(b'\n')?;
+        if out.len() >= full {
+            return Ok(index + 1);
+        }
     }
-    Ok(())
+    Ok(lines.len())
 }
 
 /// The canonical text of a script. It holds no more memory than a little besides that text.
 pub fn write(alloc: Global, script: &Script) -> Result<Vec<u8>, NoMemory>
     ensures { IfOk result (λ text. text.items ≡ canonical script.now) }
 {
-    let lines = script.lines();
-    let mut text = Vec::with_capacity(alloc, lines.room())?;
-    write_lines(&mut text, &mut Vec::new(alloc), lines)?;
+    let mut text = Vec::with_capacity(alloc, script.lines().room())?;
+    let mut first = 0;
+    'parts: while first < script.lines().len() {
+        first = write_part(alloc, &mut text, script, first)?;
+    }
     Ok(text)
 }

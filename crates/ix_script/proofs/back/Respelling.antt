@@ -1,94 +1,26 @@
--- The text of a line, where it has a payload and where it has none.
-use Rattle.std.proofs.Common.{◌≡◌, ℕ, ◌+◌, ◌-◌, ◌≤◌, ◌==◌, nat_le, Bool, true, false, not, ◌&&◌, ◌⊎◌, drop, List, [], ◌∷◌, ◌++◌, length, take, Option, Some, ap}
-use Rattle.std.proofs.Common.{None, option_map, codes, if◌then◌else◌, inl, inr, refl, sym, ◌∙◌, subst, arith, length-append, append_assoc}
-use Rattle.std.proofs.lemmas.{Bool.{eqb-true, le-leb, leb-true}, List.{append-nil, take_at, take-append-drop}, Option.cond_some}
-use Rattle.std.specs.Cmp.Lexicographic.{same_text}
-use Rattle.ix_model.specs.world.Naming.{same_bytes, PathOf}
+-- The text of a line that has a payload.
+use Rattle.std.proofs.Common.{◌≡◌, ℕ, zero, suc, ◌+◌, ◌-◌, ◌<◌, ◌≤◌, ◌==◌, nat_le, nat_lt, Bool, true, false, not, ◌&&◌, ◌⊎◌, drop, List, [], ◌∷◌, ◌++◌, length, take}
+use Rattle.std.proofs.Common.{Some, None, IsSome, unwrap_or, codes, if◌then◌else◌, inl, inr, refl, sym, ap, ◌∙◌, subst, arith, length-append, length-drop, append_assoc}
+use Rattle.std.proofs.lemmas.{Bool.{cases_Bool, eqb-true, ne_eqb, le-leb, leb-true, ltb-true, ltb-false, false≢true}, List.{append-nil, drop_more, take_at, take-append-drop}}
+use Rattle.std.{proofs.lemmas.Option.{cond_some, none-some, same_Some}, specs.{Cmp.Lexicographic.same_text, List.{position, position_or_len}}}
+use Rattle.ix_model.specs.{world.Naming.same_bytes, opening.Valid.is_within}
 use Rattle.ix_label.specs.declared.form.Form as spelled
-use Rattle.ix_text.specs.{Labels.label_in, Names.name_of, Privs.privs_of, Bytes.is_empty, Spellings.{further, joined}}
-use Rattle.ix_script.specs.{texts.Cutting.{words_of, word_at, is_skipped, is_policy_line}, texts.Payloads.payload_of, texts.Spellings.payload_text}
-use Rattle.ix_script.specs.{texts.Words.{made_path_of, state_of, fd_of}, lines.{Before.form_told, Forms.form_of}, reader.Placing.payload_place}
-use Rattle.ix_script.specs.scripts.{Canonical.{line_words, line_text, has_one_spelling, may_be_respelled}, Packed.{IsLine, line_in}}
-use Rattle.ix_script.specs.declared.{line.{Line.Line, FdWord.FdWord}, form.{Form.Form, Plain.Plain, OnPath.OnPath, OnFd.OnFd, Counted.Counted}}
-use Rattle.ix_script.specs.lines.Said.{within, payload_within, said, version_of, line_of, plain_line, path_line, fd_line, counted_line}
+use Rattle.ix_text.specs.{Labels.label_in, Names.{is_script_name, name_of}, Privs.privs_of, Bytes.{begins, begins_with, is_digit, is_empty}, Spellings.{further, joined}}
+use Rattle.ix_script.specs.{texts.Cutting.{pieces, words_of, word_at, is_skipped, is_policy_line}, texts.Payloads.payload_of, texts.Spellings.payload_text}
+use Rattle.ix_script.specs.{texts.Words.{made_path_of, state_of, numbered, named, fd_of}, lines.Before.form_told, reader.Cut.end_from}
+use Rattle.ix_script.specs.lines.Forms.{form_of, frame_form, group_form, plain_of, on_path_of, on_fd_of, counted_of, file_form, process_form}
+use Rattle.ix_script.specs.scripts.{Canonical.{line_words, line_text, has_one_spelling}, Packed.{IsLine, IsSaid, line_in}}
+use Rattle.ix_script.specs.declared.{line.{Line.Line, FdWord.FdWord}, form.Form.Form}
+use Rattle.ix_script.specs.lines.Said.{within, payload_within, version_of, line_of}
 use Rattle.ix_script.specs.declared.line.Line.TheVariants as line
+use Rattle.ix_script.specs.declared.line.FdWord.TheVariants as fd_word
 use Rattle.ix_script.specs.declared.form.Form.TheVariants as form
-use Rattle.ix_script.specs.declared.form.Plain.TheVariants as plain
-use Rattle.ix_script.specs.declared.form.OnPath.TheVariants as on_path
-use Rattle.ix_script.specs.declared.form.OnFd.TheVariants as on_fd
-use Rattle.ix_script.specs.declared.form.Counted.TheVariants as counted
+use Rattle.ix_script.specs.declared.words.Spot.TheVariants as spot
 use Rattle.ix_script.proofs.lines.{Deciding.{no_version, said_is}, FirstWords.form_spelled, FormWords.{words_from, exactly, same, no_tail, of_3, of_6}}
-use Rattle.ix_script.proofs.{texts.Cuts.words_joined, reader.Told.{mapped, bound}}
-use Rattle.ix_script.proofs.back.{LineBack.{Formed, right_count}, TextBack.{later_of, some_text, command_sound, command_parts, body_sound, own_text}}
+use Rattle.ix_script.proofs.{texts.{Cuts.{some_piece, pieces_joined, words_some, words_joined}, Pieces.{cut_within, cut_whole, plain_end}}, reader.{Packing.said_words, Told.{mapped, bound, either}}}
+use Rattle.ix_script.proofs.back.{LineBack.{Formed, right_count}, TextBack.{later_of, some_text, command_sound, command_parts, body_sound}}
 use Rattle.ix_script.proofs.back.OneSpelling.{name_spelled, label_spelled, privs_spelled, made_path_spelled, state_spelled, fd_spelled}
-
--- ---- no payload
-made_plain : {X : Type 0} (g : X → Line) (m : Option X) (l : Line) → ((x : X) → may_be_respelled (g x) ≡ false) → option_map g m ≡ Some l → may_be_respelled l ≡ false
-made_plain g m l one h = let k = mapped g m l h in ap may_be_respelled (sym k.2) ∙ one k.0
-
-plain_one : (c : Plain) (proc : List ℕ) → may_be_respelled (plain_line c proc) ≡ false
-unfolding may_be_respelled
-plain_one plain.Wait proc = refl
-plain_one plain.Self_ proc = refl
-plain_one plain.Freezeself proc = refl
-plain_one plain.Thawself proc = refl
-
-path_one : (c : OnPath) (proc : List ℕ) (path : PathOf) → may_be_respelled (path_line c proc path) ≡ false
-unfolding may_be_respelled
-path_one on_path.Create proc path = refl
-path_one on_path.Mkdir proc path = refl
-path_one on_path.Unlink proc path = refl
-path_one on_path.Rmdir proc path = refl
-path_one on_path.Chdir proc path = refl
-path_one on_path.Stat proc path = refl
-path_one on_path.Exec proc path = refl
-path_one on_path.Labelof proc path = refl
-path_one on_path.Freeze proc path = refl
-path_one on_path.Thaw proc path = refl
-
-fd_one : (c : OnFd) (proc : List ℕ) (fd : FdWord) → may_be_respelled (fd_line c proc fd) ≡ false
-unfolding may_be_respelled
-fd_one on_fd.Close proc fd = refl
-fd_one on_fd.Pex proc fd = refl
-fd_one on_fd.Unpex proc fd = refl
-fd_one on_fd.Priv proc fd = refl
-
-counted_one : (c : Counted) (proc : List ℕ) (fd : FdWord) (n : ℕ) → may_be_respelled (counted_line c proc fd n) ≡ false
-unfolding may_be_respelled
-counted_one counted.Read proc fd n = refl
-counted_one counted.Cut proc fd n = refl
-counted_one counted.Seek proc fd n = refl
-
-no_payload : (labels : spelled.Form) (f : Form) (words : List (List ℕ)) (l : Line) → payload_place f ≡ 0 → said labels f words ≡ Some l → may_be_respelled l ≡ false
-unfolding may_be_respelled
-no_payload labels form.Phase words l none h = let e : line.Phase ≡ l = cc in ap may_be_respelled (sym e)
-no_payload labels form.Limit words l none h = made_plain (λ x. line.Limit x.0 x.1) _ l (λ x. refl) h
-no_payload labels form.Fs words l none h = made_plain (λ x. line.Fs x.0 x.1.0 x.1.1.0 x.1.1.1) _ l (λ x. refl) h
-no_payload labels form.Proc words l none h = made_plain (λ x. line.Proc x.0 x.1.0 x.1.1.0 x.1.1.1.0 x.1.1.1.1) _ l (λ x. refl) h
-no_payload labels form.Dir words l none h = made_plain (λ x. line.Dir x.0 x.1.0 x.1.1) _ l (λ x. refl) h
-no_payload labels form.File words l none h = absurd (omega arith)
-no_payload labels form.Lane words l none h = made_plain (λ x. line.Lane x) _ l (λ x. refl) h
-no_payload labels (form.Plain c) words l none h = made_plain (λ x. plain_line c x) _ l (λ x. plain_one c x) h
-no_payload labels (form.OnPath c) words l none h = made_plain (λ x. path_line c x.0 x.1) _ l (λ x. path_one c x.0 x.1) h
-no_payload labels (form.OnFd c) words l none h = made_plain (λ x. fd_line c x.0 x.1) _ l (λ x. fd_one c x.0 x.1) h
-no_payload labels (form.Counted c) words l none h = made_plain (λ x. counted_line c x.0 x.1.0 x.1.1) _ l (λ x. counted_one c x.0 x.1.0 x.1.1) h
-no_payload labels form.Open words l none h = made_plain (λ x. line.Open x.0 x.1.0 x.1.1.0 x.1.1.1) _ l (λ x. refl) h
-no_payload labels form.Write words l none h = absurd (omega arith)
-no_payload labels form.Dup words l none h = made_plain (λ x. line.Dup x.0 x.1.0 x.1.1) _ l (λ x. refl) h
-no_payload labels form.Pipe words l none h = made_plain (λ x. line.Pipe x.0 x.1) _ l (λ x. refl) h
-no_payload labels form.Link words l none h = made_plain (λ x. line.Link x.0 x.1.0 x.1.1) _ l (λ x. refl) h
-no_payload labels form.List words l none h = made_plain (λ x. line.List x.0 x.1.0 x.1.1) _ l (λ x. refl) h
-no_payload labels form.Copy words l none h = made_plain (λ x. line.Copy x.0 x.1.0 x.1.1.0 x.1.1.1) _ l (λ x. refl) h
-no_payload labels form.Setlabel words l none h = made_plain (λ x. line.Setlabel x.0 x.1.0 x.1.1) _ l (λ x. refl) h
-no_payload labels form.Setpriv words l none h = made_plain (λ x. line.Setpriv x.0 x.1.0 x.1.1.0 x.1.1.1) _ l (λ x. refl) h
-no_payload labels form.Fork words l none h = made_plain (λ x. line.Fork x.0 x.1.0 x.1.1) _ l (λ x. refl) h
-no_payload labels form.Exit words l none h = made_plain (λ x. line.Exit x.0 x.1) _ l (λ x. refl) h
-no_payload labels form.Setself words l none h = made_plain (λ x. line.Setself x.0 x.1) _ l (λ x. refl) h
-no_payload labels form.Droplic words l none h = made_plain (λ x. line.Droplic x.0 x.1) _ l (λ x. refl) h
-no_payload labels form.Grant words l none h = made_plain (λ x. line.Grant x.0 x.1.0 x.1.1) _ l (λ x. refl) h
-no_payload labels form.Ceiling words l none h = made_plain (λ x. line.Ceiling x.0 x.1.0 x.1.1) _ l (λ x. refl) h
-no_payload labels form.Readlog words l none h = made_plain (λ x. line.Readlog x.0 x.1) _ l (λ x. refl) h
-no_payload labels form.Login words l none h = made_plain (λ x. line.Login x.0 x.1.0 x.1.1.0 x.1.1.1) _ l (λ x. refl) h
+use Rattle.ix_text.proofs.Tests.{both}
 
 -- ---- a payload
 -- what stands before the last of some words
@@ -101,11 +33,11 @@ further_last (word ∷ front) q =
 joined_last : (first : List ℕ) (front : List (List ℕ)) (q : List ℕ) → joined 32 (first ∷ (front ++ q ∷ [])) ≡ (first ++ (further 32 front ++ 32 ∷ [])) ++ q
 joined_last first front q = ap (λ t. first ++ t) (further_last front q) ∙ sym (append_assoc first (further 32 front ++ 32 ∷ []) q)
 
-pub record HasPayload (labels : spelled.Form) (text : List ℕ) (place : ℕ) (l : Line) : Type 0 where
-  pub bytes : List ℕ
-  pub read : payload_within 1048576 (word_at (words_of text) place) ≡ Some bytes
-  pub within_text : length (word_at (words_of text) place) ≤ length text
-  pub spelled_so : line_text labels l ≡ take (length text - length (word_at (words_of text) place)) text ++ payload_text bytes
+-- the last word is a payload, and the line's text is the same with another spelling of it
+pub record HasPayload (labels : spelled.Form) (text word : List ℕ) (l : Line) : Type 0 where
+  pub known : IsSome (payload_within 1048576 word)
+  pub within_text : length word ≤ length text
+  pub spelled_so : line_text labels l ≡ take (length text - length word) text ++ payload_text (unwrap_or (payload_within 1048576 word) [])
 
 other_last : (first : List ℕ) (front : List (List ℕ)) (p q text : List ℕ) → joined 32 (first ∷ (front ++ p ∷ [])) ≡ text
     → (length p ≤ length text) × (joined 32 (first ∷ (front ++ q ∷ [])) ≡ take (length text - length p) text ++ q)
@@ -123,7 +55,32 @@ wider word bytes h =
     let few : nat_le (length m.0) 1048576 ≡ true = le-leb (length m.0) 1048576 (omega (arith, leb-true (length m.0) 4096 c.0)) in
     ap (within 1048576) m.1 ∙ rw few (ap (λ (bs : List ℕ). Some bs) c.1)
 
-write_payload : (before : List Line) (text : List ℕ) (l : Line) → Formed before text form.Write l → HasPayload (form_told before) text 3 l
+begun_plain : (low high : ℕ) (word : List ℕ) → begins_with (is_within low high) word ≡ true → 34 < low → begins 34 word ≡ false
+begun_plain low high [] h most = refl
+begun_plain low high (b ∷ word) h most =
+    let k = leb-true low b (both (nat_le low b) (nat_le b high) h).0 in
+    ne_eqb b 34 (λ e. let q : b ≡ 34 = e in absurd (omega arith))
+
+name_plain : (word name : List ℕ) → name_of word ≡ Some name → begins 34 word ≡ false
+unfolding name_of is_script_name
+name_plain word name h =
+    let p = both _ _ (cond_some (is_script_name word) word name h).0 in
+    begun_plain 97 122 word (both _ _ (both _ _ p.0).0).0 (omega arith)
+
+fd_plain : (word : List ℕ) (fd : FdWord) → fd_of word ≡ Some fd → begins 34 word ≡ false
+unfolding fd_of
+fd_plain word fd h = elim (either (begins_with is_digit word) (numbered word) (named word) fd h) [
+  | inl p ↦ begun_plain 48 57 word p.0 (omega arith)
+  | inr p ↦ let m = mapped (λ name. fd_word.Named name) (name_of word) fd p.1 in name_plain word m.0 m.1
+]
+
+-- the payload is the fourth word, and none before it has quotes
+pub record WriteWords (labels : spelled.Form) (text : List ℕ) (l : Line) : Type 0 where
+  pub more : 3 < length (pieces spot.Front text)
+  pub plain : (i : ℕ) → i < 3 → begins 34 (word_at (pieces spot.Front text) i) ≡ false
+  pub last : (rest : List ℕ) → pieces spot.Front rest ≡ drop 3 (pieces spot.Front text) → HasPayload labels text rest l
+
+write_payload : (before : List Line) (text : List ℕ) (l : Line) → Formed before text form.Write l → WriteWords (form_told before) text l
 unfolding line_words
 write_payload before text l k =
     let words : List (List ℕ) = words_of text in
@@ -132,14 +89,27 @@ write_payload before text l k =
     let x : List ℕ = word_at words 1 in let f : List ℕ = word_at words 2 in let p : List ℕ = word_at words 3 in
     let m = of_3 (λ a b c. line.Write a b c) (name_of x) (fd_of f) (payload_within 4096 p) l k.tells in
     let other = other_last (codes "write") (x ∷ f ∷ []) p (payload_text m.2) text (ap (λ w. joined 32 (w ∷ x ∷ f ∷ p ∷ [])) k.first ∙ ap (joined 32) cut ∙ words_joined text) in
-    record {
-      bytes = m.2;
-      read = wider p m.2 m.5;
+    let read = wider p m.2 m.5 in
+    let there : HasPayload (form_told before) text p l = record {
+      known = rw read refl;
       within_text = other.0;
-      spelled_so = ap (joined 32) (ap (line_words (form_told before)) (sym m.6) ∙ same refl (same (name_spelled x m.0 m.3) (same (fd_spelled f m.1 m.4) refl))) ∙ other.1;
+      spelled_so = ap (joined 32) (ap (line_words (form_told before)) (sym m.6) ∙ same refl (same (name_spelled x m.0 m.3) (same (fd_spelled f m.1 m.4) refl))) ∙ other.1
+          ∙ ap (λ o. take (length text - length p) text ++ payload_text (unwrap_or o [])) (sym read);
+    } in
+    let pieces_are : pieces spot.Front text ≡ codes "write" ∷ x ∷ f ∷ p ∷ [] = sym (words_some text k.some) ∙ sym cut ∙ ap (λ w. w ∷ x ∷ f ∷ p ∷ []) (sym k.first) in
+    record {
+      more = rw pieces_are (omega arith);
+      plain = λ i low. rw pieces_are (plain_three x f p (name_plain x m.0 m.3) (fd_plain f m.1 m.4) i low);
+      last = λ rest is. subst (λ w. HasPayload (form_told before) text w l) (sym (append-nil p) ∙ ap (joined 32) (sym (is ∙ ap (drop 3) pieces_are)) ∙ pieces_joined spot.Front rest) there;
     }
+  where
+    plain_three : (x f p : List ℕ) → begins 34 x ≡ false → begins 34 f ≡ false → (i : ℕ) → i < 3 → begins 34 (word_at (codes "write" ∷ x ∷ f ∷ p ∷ []) i) ≡ false
+    plain_three x f p hx hf zero low = refl
+    plain_three x f p hx hf (suc zero) low = hx
+    plain_three x f p hx hf (suc (suc zero)) low = hf
+    plain_three x f p hx hf (suc (suc (suc i))) low = absurd (omega arith)
 
-file_payload : (before : List Line) (text : List ℕ) (l : Line) → Formed before text form.File l → HasPayload (form_told before) text 6 l
+file_payload : (before : List Line) (text : List ℕ) (l : Line) → Formed before text form.File l → HasPayload (form_told before) text (word_at (words_of text) 6) l
 unfolding line_words
 file_payload before text l k =
     let words : List (List ℕ) = words_of text in
@@ -150,13 +120,62 @@ file_payload before text l k =
     let m = of_6 (λ t u v x y z. line.File t u v x y z) (made_path_of a) (label_in (form_told before) b) (state_of c) (privs_of d) (privs_of e) (payload_within 1048576 p) l k.tells in
     let other = other_last (codes "file") (a ∷ b ∷ c ∷ d ∷ e ∷ []) p (payload_text m.5) text (ap (λ w. joined 32 (w ∷ a ∷ b ∷ c ∷ d ∷ e ∷ p ∷ [])) k.first ∙ ap (joined 32) cut ∙ words_joined text) in
     record {
-      bytes = m.5;
-      read = m.11;
+      known = rw m.11 refl;
       within_text = other.0;
       spelled_so = ap (joined 32) (ap (line_words (form_told before)) (sym m.12) ∙ same refl
           (same (made_path_spelled a m.0 m.6) (same (label_spelled (form_told before) b m.1 m.7)
-          (same (state_spelled c m.2 m.8) (same (privs_spelled d m.3 m.9) (same (privs_spelled e m.4 m.10) refl)))))) ∙ other.1;
+          (same (state_spelled c m.2 m.8) (same (privs_spelled d m.3 m.9) (same (privs_spelled e m.4 m.10) refl)))))) ∙ other.1
+          ∙ ap (λ o. take (length text - length p) text ++ payload_text (unwrap_or o [])) (sym m.11);
     }
+
+-- ---- a line's words, one by one
+plain_gap : (text : List ℕ) → end_from spot.Plain text ≡ position_or_len (λ b. b == 32) text
+plain_gap [] = refl
+plain_gap (b ∷ text) = elim (cases_Bool (b == 32)) [
+  | inl e ↦ rw e refl
+  | inr e ↦ rw e (omega (arith, plain_gap text))
+]
+
+-- where no quote begins a text, its first word ends at the first space
+first_gap : (text : List ℕ) → begins 34 text ≡ false → position_or_len (λ b. b == 32) text ≡ end_from spot.Front text
+first_gap text plain = sym (plain_end text plain ∙ plain_gap text)
+
+gap_there : (text : List ℕ) → begins 34 text ≡ false → 1 < length (pieces spot.Front text) → IsSome (position (λ b. b == 32) text)
+gap_there text plain more = elim (cases_Bool (nat_lt (position_or_len (λ b. b == 32) text) (length text))) [
+  | inl e ↦ rw e refl
+  | inr e ↦
+      let one = ap length (cut_whole spot.Front text (position_or_len (λ b. b == 32) text) (first_gap text plain) (ltb-false (position_or_len (λ b. b == 32) text) (length text) e)) in
+      absurd (omega (arith, one))
+]
+
+behind_gap : (text : List ℕ) (k : ℕ) → begins 34 text ≡ false → position (λ b. b == 32) text ≡ Some k → pieces spot.Front (drop (k + 1) text) ≡ drop 1 (pieces spot.Front text)
+behind_gap text k plain h =
+    let at = cond_some (nat_lt (position_or_len (λ b. b == 32) text) (length text)) (position_or_len (λ b. b == 32) text) k h in
+    sym (ap (drop 1) (cut_within spot.Front text k (sym at.1 ∙ first_gap text plain) (omega (arith, at.1, ltb-true _ _ at.0))))
+
+quoted_first : (rest : List ℕ) → begins 34 rest ≡ true → begins 34 (word_at (pieces spot.Front rest) 0) ≡ true
+unfolding pieces
+quoted_first [] h = h
+quoted_first (b ∷ rest) h =
+    let k = some_piece spot.Quoted rest in
+    subst (λ (c : ℕ). begins 34 (word_at (pieces spot.Front (c ∷ rest)) 0) ≡ true) (sym (eqb-true b 34 h)) (rw k.2 refl)
+
+-- behind so many words stands one that has no quotes, and another
+module _ (rest : List ℕ) (words : List (List ℕ)) (i : ℕ) (are : pieces spot.Front rest ≡ drop i words) (low : i + 1 < length words) (no_quote : begins 34 (word_at words i) ≡ false) where
+  these : pieces spot.Front rest ≡ word_at words i ∷ drop (i + 1) words
+  these = are ∙ drop_more words i [] (omega arith)
+
+  next_plain : begins 34 rest ≡ false
+  next_plain = elim (cases_Bool (begins 34 rest)) [
+    | inl e ↦ absurd (false≢true (sym no_quote ∙ ap (λ ws. begins 34 (word_at ws 0)) (sym these) ∙ quoted_first rest e))
+    | inr e ↦ e
+  ]
+
+  pub gap_at : IsSome (position (λ b. b == 32) rest)
+  gap_at = gap_there rest next_plain (omega (arith, ap length are, length-drop i words))
+
+  pub behind_at : (k : ℕ) → position (λ b. b == 32) rest ≡ Some k → pieces spot.Front (drop (k + 1) rest) ≡ drop (i + 1) words
+  behind_at k h = behind_gap rest k next_plain h ∙ ap (drop 1) these
 
 -- ---- a line that is held as its text
 formed_in : (labels : spelled.Form) (text : List ℕ) (f : Form) (k : IsLine labels text) → is_skipped text ≡ false → is_policy_line text ≡ false
@@ -177,24 +196,6 @@ formed_in labels text f k some other first =
         fits = parts.1;
       },
     )
-
-pub own_words : (labels : spelled.Form) (text : List ℕ) (f : Form) → IsLine labels text → is_skipped text ≡ false → is_policy_line text ≡ false
-    → form_of (word_at (words_of text) 0) ≡ Some f → payload_place f ≡ 0 → line_text labels (line_in labels text) ≡ text
-own_words labels text f k some other first none =
-    let formed = formed_in labels text f k some other first in
-    own_text labels k.before text (line_in labels text) k.told k.said k.faultless (no_payload (form_told k.before) f (words_of text) (line_in labels text) none formed.1.tells)
-
-has_payload : (before : List Line) (text : List ℕ) (f : Form) (l : Line) → (payload_place f ≡ 0 → ⊥) → Formed before text f l → HasPayload (form_told before) text (payload_place f) l
-has_payload before text form.Write l some k = write_payload before text l k
-has_payload before text form.File l some k = file_payload before text l k
-has_payload before text _ l some k = absurd (some refl)
-
-pub payload_words : (labels : spelled.Form) (text : List ℕ) (f : Form) → IsLine labels text → is_skipped text ≡ false
-    → is_policy_line text ≡ false → form_of (word_at (words_of text) 0) ≡ Some f → (payload_place f ≡ 0 → ⊥) → HasPayload labels text
-    (payload_place f) (line_in labels text)
-payload_words labels text f k some other first there =
-    let formed = formed_in labels text f k some other first in
-    subst (λ (g : spelled.Form). HasPayload g text (payload_place f) (line_in labels text)) formed.0 (has_payload k.before text f (line_in labels text) there formed.1)
 
 -- ---- skipped lines, and how others begin that may have another spelling
 pub skipped_text : (labels : spelled.Form) (text : List ℕ) → is_skipped text ≡ true → line_text labels (line_in labels text) ≡ []
@@ -227,3 +228,48 @@ no_version_there text h some = elim (two_fronts text h some) [
   | inl w ↦ ap version_of (sym w)
   | inr f ↦ ap version_of (sym f)
 ]
+
+-- ---- the two forms that have a payload
+form_of_write : (v : List ℕ) (f : Form) → form_of (codes "write" ++ v) ≡ Some f → form.Write ≡ f
+unfolding form_of frame_form group_form plain_of on_path_of on_fd_of counted_of file_form process_form
+form_of_write [] f h = same_Some form.Write f h
+form_of_write (b ∷ v) f h = absurd (none-some f h)
+
+form_of_file : (v : List ℕ) (f : Form) → form_of (codes "file" ++ v) ≡ Some f → form.File ≡ f
+unfolding form_of frame_form group_form plain_of on_path_of on_fd_of counted_of file_form process_form
+form_of_file [] f h = same_Some form.File f h
+form_of_file (b ∷ v) f h = absurd (none-some f h)
+
+first_write : (u : List ℕ) (f : Form) → form_of (word_at (words_of (codes "write" ++ u)) 0) ≡ Some f → form.Write ≡ f
+unfolding words_of pieces
+first_write u f h = let k = some_piece spot.Plain u in form_of_write k.0 f (rw k.2 at h)
+
+first_file : (u : List ℕ) (f : Form) → form_of (word_at (words_of (codes "file" ++ u)) 0) ≡ Some f → form.File ≡ f
+unfolding words_of pieces
+first_file u f h = let k = some_piece spot.Plain u in form_of_file k.0 f (rw k.2 at h)
+
+module _ (labels : spelled.Form) (text : List ℕ) (k : IsLine labels text) (other : false ≡ has_one_spelling text) (seen : false ≡ is_skipped text) where
+  policy : is_policy_line text ≡ false
+  policy = no_policy text (sym other) (sym seen)
+
+  first : IsSaid labels (words_of text)
+  first = said_words labels text k (sym seen) policy (no_version_there text (sym other) (sym seen))
+
+  formed_as : (f : Form) → first.form ≡ f → (form_told k.before ≡ labels) × Formed k.before text f (line_in labels text)
+  formed_as f e = formed_in labels text f k (sym seen) policy (first.first ∙ ap (λ (g : Form). Some g) e)
+
+  pub write_words : true ≡ begins 119 text → WriteWords labels text (line_in labels text)
+  write_words w = elim (two_fronts text (sym other) (sym seen)) [
+    | inl e ↦
+        let is = formed_as form.Write (sym (first_write (drop 5 text) first.form (subst (λ t. form_of (word_at (words_of t) 0) ≡ Some first.form) (sym e) first.first))) in
+        subst (λ g. WriteWords g text (line_in labels text)) is.0 (write_payload k.before text (line_in labels text) is.1)
+    | inr e ↦ absurd (false≢true (ap (begins 119) e ∙ sym w))
+  ]
+
+  pub file_words : false ≡ begins 119 text → HasPayload labels text (word_at (words_of text) 6) (line_in labels text)
+  file_words w = elim (two_fronts text (sym other) (sym seen)) [
+    | inl e ↦ absurd (false≢true (w ∙ ap (begins 119) (sym e)))
+    | inr e ↦
+        let is = formed_as form.File (sym (first_file (drop 4 text) first.form (subst (λ t. form_of (word_at (words_of t) 0) ≡ Some first.form) (sym e) first.first))) in
+        subst (λ g. HasPayload g text (word_at (words_of text) 6) (line_in labels text)) is.0 (file_payload k.before text (line_in labels text) is.1)
+  ]

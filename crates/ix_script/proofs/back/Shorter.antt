@@ -1,11 +1,11 @@
 -- No spelling of a payload is shorter than the shortest.
-use Rattle.std.proofs.Common.{◌≡◌, ℕ, zero, suc, ◌+◌, ◌^◌, ◌<◌, ◌≤◌, true, false, ◌||◌, ◌==◌, nat_lt, nat_le, cond, List, [], ◌∷◌, ◌++◌, length, get_or, take}
-use Rattle.std.proofs.Common.{drop, replicate, Option, Some, None, inl, inr, refl, sym, ap, ◌∙◌, option_map, subst, arith}
+use Rattle.std.proofs.Common.{◌≡◌, ℕ, zero, suc, ◌+◌, ◌-◌, ◌^◌, ◌<◌, ◌≤◌, true, false, ◌||◌, ◌==◌, nat_lt, nat_le, cond, List, [], ◌∷◌, ◌++◌, length, get_or, take}
+use Rattle.std.proofs.Common.{drop, replicate, Option, Some, None, inl, inr, refl, sym, ap, ◌∙◌, option_map, IsSome, unwrap_or, subst, append_assoc, arith}
 use Rattle.std.specs.{Prelude.{if◌then◌else◌}, List.{list_all, flat_map, position, position_or_len}, Fmt.decimal}
-use Rattle.std.proofs.{lemmas.Bool.{cases_Bool, eqb-true, ltb-true, ltb-false, leb-true, eq-eqb, or_cases}, lemmas.List.{length-append, length-replicate}}
-use Rattle.std.proofs.{lemmas.List.Sums.split_at_first, lemmas.Option.{cond_some, none-some, same_Some}}
+use Rattle.std.proofs.{lemmas.Bool.{cases_Bool, eqb-true, ne_eqb, ltb-true, ltb-false, leb-true, eq-eqb, or_cases}, lemmas.List.{length-append, length-replicate, length-take-le, take_at}}
+use Rattle.std.proofs.{lemmas.List.Sums.{split_at_first, passes_at_first}, lemmas.Option.{cond_some, none-some, same_Some}}
 use Rattle.ix_model.specs.opening.Valid.{is_within}
-use Rattle.ix_text.{specs.{Bytes.{begins, is_empty}, Spellings.hex_pair}, proofs.Tests.{both, join_tests}}
+use Rattle.ix_text.{specs.{Bytes.{begins, begins_with, is_digit, is_empty}, Spellings.hex_pair}, proofs.Tests.{both, join_tests}}
 use Rattle.ix_script.specs.{texts.Words.{is_numeral, value}, lines.Said.payload_within, declared.payload.Escape.Escape}
 use Rattle.ix_script.specs.texts.Payloads.{◌>>=◌, after_bytes, pair_of, pairs_of, escaped_byte, escape_step, ends, bytes_of, quoted_from, two_digits, times_of}
 use Rattle.ix_script.specs.texts.Payloads.{times_from, payload_of}
@@ -178,32 +178,105 @@ two_parts (high ∷ []) b h = absurd (none-some b h)
 two_parts (high ∷ low ∷ []) b h = (pair_small high low b h, refl)
 two_parts (high ∷ low ∷ c ∷ text) b h = absurd (none-some b h)
 
-times_parts : (count text bytes : List ℕ) → times_from count text ≡ Some bytes → (b : ℕ) × (b < 256) × (length text ≡ 2) × (is_numeral count ≡ true) × (replicate (value count) b ≡ bytes)
-unfolding times_from
-times_parts count text bytes h = elim (either (is_numeral count) (option_map (λ byte. replicate (value count) byte) (two_digits text)) None bytes h) [
-  | inl p ↦
-      let m = mapped (λ byte. replicate (value count) byte) (two_digits text) bytes p.1 in
-      let two = two_parts text m.0 m.1 in
-      (m.0, two.0, two.1, p.0, m.2)
-  | inr p ↦ absurd (none-some bytes p.1)
-]
+-- a word n*HH, by its parts
+record TimesWord (word bytes : List ℕ) : Type 0 where
+  star : ℕ
+  byte : ℕ
+  small : byte < 256
+  two : two_digits (drop (star + 1) word) ≡ Some byte
+  numeral : is_numeral (take star word) ≡ true
+  are : replicate (value (take star word)) byte ≡ bytes
+  whole : word ≡ take star word ++ 42 ∷ drop (star + 1) word
+  front : length (take star word) ≡ star
+  long : length word ≡ star + 3
 
-times_longer : (word bytes : List ℕ) → length bytes < 2 ^ 64 → times_of word ≡ Some bytes → (length (payload_text bytes) ≤ length word) × Small bytes
-unfolding times_of
-times_longer word bytes few h =
+times_word : (word bytes : List ℕ) → times_of word ≡ Some bytes → TimesWord word bytes
+unfolding times_of times_from
+times_word word bytes h =
     let m = bound (position (λ b. b == 42) word) (λ star. times_from (take star word) (drop (star + 1) word)) bytes h in
     let at = cond_some (nat_lt (position_or_len (λ b. b == 42) word) (length word)) (position_or_len (λ b. b == 42) word) m.0 m.1 in
     let inside : position_or_len (λ b. b == 42) word < length word = ltb-true _ _ at.0 in
-    let split = split_at_first (λ b. b == 42) word 0 inside in
-    let p = times_parts (take m.0 word) (drop (m.0 + 1) word) bytes m.2 in
-    let n : value (take m.0 word) ≡ length bytes = sym (length-replicate (value (take m.0 word)) p.0) ∙ ap length p.4 in
-    let small : value (take m.0 word) < 2 ^ 64 = omega arith in
-    let digits : length (decimal (value (take m.0 word))) ≡ length (take m.0 word) = ap length (decimal_of_value (take m.0 word) p.3 small) in
-    let k = no_longer_times (value (take m.0 word)) p.0 small in
-    let same : length (payload_text (replicate (value (take m.0 word)) p.0)) ≡ length (payload_text bytes) = ap (λ bs. length (payload_text bs)) p.4 in
-    let whole : length word ≡ length (take m.0 word) + suc (length (drop (m.0 + 1) word)) =
-    ap length (subst (λ (i : ℕ). word ≡ take i word ++ (get_or word i 0 ∷ drop (i + 1) word)) at.1 split) ∙ length-append (take m.0 word) (get_or word m.0 0 ∷ drop (m.0 + 1) word) in
-    (omega arith, subst Small p.4 (small_replicate (value (take m.0 word)) p.0 p.1))
+    let passes : get_or word m.0 0 ≡ 42 = eqb-true _ 42 (subst (λ (i : ℕ). (get_or word i 0 == 42) ≡ true) at.1 (passes_at_first (λ b. b == 42) word 0 inside)) in
+    let split : word ≡ take m.0 word ++ 42 ∷ drop (m.0 + 1) word =
+    subst (λ (i : ℕ). word ≡ take i word ++ (get_or word i 0 ∷ drop (i + 1) word)) at.1 (split_at_first (λ b. b == 42) word 0 inside) ∙ ap (λ b. take m.0 word ++ b ∷ drop (m.0 + 1) word) passes in
+    elim (either (is_numeral (take m.0 word)) (option_map (λ byte. replicate (value (take m.0 word)) byte) (two_digits (drop (m.0 + 1) word))) None bytes m.2) [
+      | inl p ↦
+          let d = mapped (λ byte. replicate (value (take m.0 word)) byte) (two_digits (drop (m.0 + 1) word)) bytes p.1 in
+          let two = two_parts (drop (m.0 + 1) word) d.0 d.1 in
+          let front : length (take m.0 word) ≡ m.0 = length-take-le m.0 word (omega (arith, inside, at.1)) in
+          record {
+            star = m.0;
+            byte = d.0;
+            small = two.0;
+            two = d.1;
+            numeral = p.0;
+            are = d.2;
+            whole = split;
+            front = front;
+            long = ap length split ∙ length-append (take m.0 word) (42 ∷ drop (m.0 + 1) word) ∙ (omega (arith, front, two.1));
+          }
+      | inr p ↦ absurd (none-some bytes p.1)
+    ]
+
+times_longer : (word bytes : List ℕ) → length bytes < 2 ^ 64 → times_of word ≡ Some bytes → (length (payload_text bytes) ≤ length word) × Small bytes
+times_longer word bytes few h =
+    let k = times_word word bytes h in
+    let n : ℕ = value (take k.star word) in
+    let count : n ≡ length bytes = sym (length-replicate n k.byte) ∙ ap length k.are in
+    let small : n < 2 ^ 64 = omega arith in
+    let digits : length (decimal n) ≡ k.star = ap length (decimal_of_value (take k.star word) k.numeral small) ∙ k.front in
+    let same : length (payload_text (replicate n k.byte)) ≡ length (payload_text bytes) = ap (λ bs. length (payload_text bs)) k.are in
+    (omega (arith, no_longer_times n k.byte small, k.long), subst Small k.are (small_replicate n k.byte k.small))
+
+begun_by_digit : (word : List ℕ) → begins_with is_digit word ≡ true → payload_of word ≡ times_of word
+unfolding payload_of
+begun_by_digit [] h = cc
+begun_by_digit (b ∷ word) h =
+    let p = both (nat_le 48 b) (nat_le b 57) h in
+    let low = leb-true 48 b p.0 in
+    let high = leb-true b 57 p.1 in
+    rw (ne_eqb b 34 (λ e. let q : b ≡ 34 = e in absurd (omega arith)), ne_eqb b 120 (λ e. let q : b ≡ 120 = e in absurd (omega arith))) refl
+
+-- a payload that begins with a digit: n*HH, whose digits are the last two bytes
+pub record KnownTimes (word : List ℕ) (n : ℕ) : Type 0 where
+  pub byte : ℕ
+  pub long : 3 ≤ length word
+  pub few : n ≤ 1048576
+  pub two : two_digits (drop (length word - 2) word) ≡ Some byte
+  pub bytes : unwrap_or (payload_within 1048576 word) [] ≡ replicate n byte
+  pub text : times_text n byte ≡ take (length word - 2) word ++ hex_pair byte
+  pub len : length word ≡ length (times_text n byte)
+
+pub known_times : (word : List ℕ) → begins_with is_digit word ≡ true → IsSome (payload_within 1048576 word) → KnownTimes word (value (take (length word - 3) word))
+known_times word digit some =
+    let bytes : List ℕ = unwrap_or (payload_within 1048576 word) [] in
+    let m = bound (payload_of word) (λ bs. if nat_le (length bs) 1048576 then Some bs else None) bytes (some_is (payload_within 1048576 word) some) in
+    let c = cond_some (nat_le (length m.0) 1048576) m.0 bytes m.2 in
+    let most : length m.0 ≤ 1048576 = leb-true (length m.0) 1048576 c.0 in
+    let k = times_word word bytes (sym (begun_by_digit word digit) ∙ m.1 ∙ ap (λ (bs : List ℕ). Some bs) c.1) in
+    let n : ℕ = value (take k.star word) in
+    let few : n ≤ 1048576 = omega (arith, length-replicate n k.byte, ap length k.are, ap length c.1) in
+    let small : n < 2 ^ 64 = omega (arith, few) in
+    let decimal_is : decimal n ≡ take k.star word = decimal_of_value (take k.star word) k.numeral small in
+    let front : List ℕ = take k.star word ++ 42 ∷ [] in
+    let cut : take (length word - 2) word ≡ front = ap (take (length word - 2)) (k.whole ∙ sym (append_assoc (take k.star word) (42 ∷ []) (drop (k.star + 1) word)))
+    ∙ take_at front (drop (k.star + 1) word) (length word - 2) (omega (arith, length-append (take k.star word) (42 ∷ []), k.front, k.long)) in
+    let text : times_text n k.byte ≡ take (length word - 2) word ++ hex_pair k.byte =
+    ap (λ t. t ++ 42 ∷ hex_pair k.byte) decimal_is ∙ sym (append_assoc (take k.star word) (42 ∷ []) (hex_pair k.byte)) ∙ ap (λ t. t ++ hex_pair k.byte) (sym cut) in
+    let there : KnownTimes word n = record {
+      byte = k.byte;
+      long = omega (arith, k.long);
+      few = few;
+      two = subst (λ i. two_digits (drop i word) ≡ Some k.byte) (omega (arith, k.long)) k.two;
+      bytes = sym k.are;
+      text = text;
+      len = k.long ∙ (omega (arith, ap length decimal_is, k.front, length-append (decimal n) (42 ∷ hex_pair k.byte)));
+    } in
+    subst (λ i. KnownTimes word (value (take i word))) (omega (arith, k.long)) there
+  where
+    some_is : (o : Option (List ℕ)) → IsSome o → o ≡ Some (unwrap_or o [])
+    some_is None h = cc
+    some_is (Some bytes) h = refl
 
 -- ---- any spelling
 pub payload_longer : (word bytes : List ℕ) → list_all (is_within 32 126) word ≡ true → length bytes < 2 ^ 64 → payload_of word ≡ Some bytes → (length (payload_text bytes) ≤ length word) × Small bytes

@@ -1,9 +1,10 @@
 -- The table of the words that begin lines, looked through one by one.
-use Rattle.std.proofs.Common.{◌≡◌, ℕ, zero, suc, ◌+◌, ◌<◌, ◌≤◌, Bool, true, false, List, [], ◌∷◌, length, take, Option, Some, None, Bor, sym, ap, ◌∙◌, subst, add-one, arith}
-use Rattle.std.specs.{List.{slice_index_or}, Cmp.Lexicographic.{same_text}}
-use Rattle.std.proofs.lemmas.List.{take_all}
+use Rattle.std.proofs.Common.{◌≡◌, ℕ, zero, suc, ◌+◌, ◌<◌, ◌≤◌, ◌==◌, Bool, true, false, not, List, [], ◌∷◌, length, map, take, get_or, Option, Some, None, Bor, inl, inr, refl, sym, ap, ◌∙◌, subst, add-one, arith}
+use Rattle.std.specs.{List.{list_all, slice_index_or}, Prelude.{min, nat_lt}, Cmp.Lexicographic.{same_text}}
+use Rattle.std.proofs.lemmas.{List.{take_all}, Bool.{cases_Bool, eqb-false, ltb-true, ne_eqb, not-true}}
 use Rattle.ix_model.specs.world.Naming.{same_bytes}
 use Rattle.ix_script.specs.{declared.form.Form.{Form}, lines.Forms.{form_of}}
+use Rattle.ix_text.proofs.Tests.{both}
 
 -- each word is its form's
 abbrev pub AreRight : List (Bor (List ℕ) × Form) → Type 0
@@ -14,6 +15,59 @@ AreRight (e ∷ forms) = (form_of e.0.now ≡ Some e.1) × AreRight forms
 abbrev pub AreNot : List ℕ → List (Bor (List ℕ) × Form) → Type 0
 AreNot word [] = Unit {0}
 AreNot word (e ∷ forms) = (same_bytes word e.0.now ≡ false) × AreNot word forms
+
+-- the lengths of its words
+abbrev lengths : List (Bor (List ℕ) × Form) → List ℕ
+lengths forms = map (λ e. length e.0.now) forms
+
+abbrev differs : ℕ → ℕ → Bool
+differs n len = not (len == n)
+
+-- words of other lengths are none of a word
+pub of_others : (word : List ℕ) (forms : List (Bor (List ℕ) × Form)) (i : ℕ) → list_all (differs (length word)) (take i (lengths forms)) ≡ true → AreNot word (take i forms)
+of_others word forms zero h = tt
+of_others word [] (suc i) h = tt
+of_others word (e ∷ forms) (suc i) h =
+    let p = both (differs (length word) (length e.0.now)) (list_all (differs (length word)) (take i (lengths forms))) h in
+    let other = eqb-false (length e.0.now) (length word) (not-true (length e.0.now == length word) p.0) in (
+      elim (cases_Bool (same_bytes word e.0.now)) [
+        | inl same ↦ absurd (other (ap length (sym (same_text word e.0.now (sym same)))))
+        | inr differ ↦ differ
+      ],
+      of_others word forms i p.1,
+    )
+
+-- the lengths of all words, in the order of the table
+abbrev all_lengths : List ℕ
+all_lengths = 2 ∷ 3 ∷ 3 ∷ 3 ∷ 3 ∷ 4 ∷ 4 ∷ 4 ∷ 4 ∷ 4 ∷ 4 ∷ 4 ∷ 4 ∷ 4 ∷ 4 ∷ 4 ∷ 4 ∷ 4 ∷ 4 ∷ 4 ∷ 4 ∷ 4 ∷ 4 ∷ 5 ∷ 5 ∷ 5 ∷ 5 ∷ 5 ∷ 5 ∷ 5 ∷ 5 ∷ 5 ∷ 5 ∷ 6 ∷ 6 ∷ 6 ∷ 7 ∷ 7 ∷ 7 ∷ 7 ∷ 7 ∷ 7 ∷ 8 ∷ 8 ∷ 10 ∷ []
+
+too_long : (n : ℕ) (lens : List ℕ) → 11 ≤ n → list_all (λ len. nat_lt len 11) lens ≡ true → list_all (differs n) lens ≡ true
+too_long n [] far h = refl
+too_long n (len ∷ lens) far h =
+    let p = both (nat_lt len 11) (list_all (λ l. nat_lt l 11) lens) h in
+    let other : (len == n) ≡ false = ne_eqb len n (λ is. omega (arith, is, ltb-true len 11 p.0)) in
+    rw other (too_long n lens far p.1)
+
+-- where the words of a length begin; behind these, where the table ends
+abbrev begins : List ℕ
+begins = 0 ∷ 0 ∷ 0 ∷ 1 ∷ 5 ∷ 23 ∷ 33 ∷ 36 ∷ 42 ∷ 44 ∷ 44 ∷ 45 ∷ []
+
+-- before it, all have another
+pub before : (n : ℕ) → list_all (differs n) (take (get_or begins (min n 11) 0) all_lengths) ≡ true
+before zero = refl
+before (suc zero) = refl
+before (suc (suc zero)) = refl
+before (suc (suc (suc zero))) = refl
+before (suc (suc (suc (suc zero)))) = refl
+before (suc (suc (suc (suc (suc zero))))) = refl
+before (suc (suc (suc (suc (suc (suc zero)))))) = refl
+before (suc (suc (suc (suc (suc (suc (suc zero))))))) = refl
+before (suc (suc (suc (suc (suc (suc (suc (suc zero)))))))) = refl
+before (suc (suc (suc (suc (suc (suc (suc (suc (suc zero))))))))) = refl
+before (suc (suc (suc (suc (suc (suc (suc (suc (suc (suc zero)))))))))) = refl
+before (suc (suc (suc (suc (suc (suc (suc (suc (suc (suc (suc n))))))))))) =
+    let end : min (suc (suc (suc (suc (suc (suc (suc (suc (suc (suc (suc n))))))))))) 11 ≡ 11 = omega arith in
+    subst (λ i. list_all (differs (suc (suc (suc (suc (suc (suc (suc (suc (suc (suc (suc n)))))))))))) (take (get_or begins i 0) all_lengths) ≡ true) (sym end) (too_long (suc (suc (suc (suc (suc (suc (suc (suc (suc (suc (suc n))))))))))) all_lengths (omega arith) refl)
 
 -- all of a table is right, no other word has a form, and the first so many entries aren't the word's
 pub record Looking (word : List ℕ) (forms : List (Bor (List ℕ) × Form)) (i : ℕ) : Type 0 where

@@ -1,5 +1,5 @@
 -- The rules that words break by themselves, place by place.
-use Rattle.std.proofs.Common.{◌≡◌, ℕ, ◌<◌, nat_le, nat_lt, Bool, true, false, ◌||◌, ◌&&◌, not, cond, List, [], ◌∷◌, ◌++◌, length, map, drop, get_or, suc, ◌+◌}
+use Rattle.std.proofs.Common.{◌≡◌, ℕ, ◌<◌, nat_le, nat_lt, Bool, true, false, ◌||◌, ◌&&◌, not, cond, List, [], ◌∷◌, ◌++◌, length, map, take, drop, get_or, zero, suc, ◌+◌}
 use Rattle.std.proofs.Common.{◌≤◌, Option, Some, None, option_map, min, codes, if◌then◌else◌, inl, inr, refl, sym, ap, ◌∙◌, arith}
 use Rattle.std.specs.{List.list_any, Option.{IsSome, is_none, option_map_or}}
 use Rattle.std.proofs.lemmas.{Bool.{ltb-false, le-leb}, Option.none-some, List.{at_drop_more, at_drop_all}}
@@ -189,6 +189,17 @@ stand [] h = tt
 stand (p ∷ places) h =
     let n = neither (places_fault (p ∷ [])) (places_fault places) (sym (least_fault p places) ∙ h) in
     (stands p.0 p.1 n.0, stand places n.1)
+
+-- those at the first places are known to break none
+pub known_first : (ks : List Kind) (i n : ℕ) (words : List (List ℕ)) → places_fault (places_from i (take n ks) words) ≡ None
+    → places_fault (places_from i ks words) ≡ places_fault (places_from (i + n) (drop n ks) words)
+known_first ks i zero words h = ap (λ j. places_fault (places_from j ks words)) (omega arith)
+known_first [] i (suc n) words h = refl
+known_first (k ∷ ks) i (suc n) words h =
+    let p : Place = (k, word_at words i) in
+    let apart = neither (places_fault (p ∷ [])) (places_fault (places_from (suc i) (take n ks) words)) (sym (least_fault p (places_from (suc i) (take n ks) words)) ∙ h) in
+    least_fault p (places_from (suc i) ks words) ∙ ap (λ o. lesser o (places_fault (places_from (suc i) ks words))) apart.0 ∙ known_first ks (suc i) n words apart.1
+    ∙ ap (λ j. places_fault (places_from j (drop n ks) words)) (omega arith)
 
 -- ---- along a table
 abbrev number : Option Rule → Option ℕ

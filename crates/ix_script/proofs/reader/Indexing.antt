@@ -1,9 +1,11 @@
 -- An index goes on with its list.
-use Rattle.std.proofs.Common.{◌≡◌, ℕ, Option, Bool, true, false, ◌&&◌, ◌||◌, not, cond, map, List, [], ◌∷◌, ◌++◌, refl, sym, ap, ◌∙◌, None, Some, append_assoc}
-use Rattle.std.specs.{BTreeMap.is_at, BTreeSet.{BTreeSet, Updates, contains}, Cmp.{tied_then, Lexicographic.slice_cmp}, List.list_any}
+use Rattle.std.proofs.Common.{◌≡◌, ℕ, Option, Bool, true, false, ◌&&◌, ◌||◌, not, cond, map, List, [], ◌∷◌, ◌++◌, refl, sym, ap, ◌∙◌, None, Some, append_assoc, inl, inr}
+use Rattle.std.specs.{BTreeMap.is_at, BTreeSet.{BTreeSet, Updates, contains}, Cmp.{tied_then, Lexicographic.slice_cmp}, List.{list_all, list_any}}
 use Rattle.std.specs.Ordering.{bool_cmp, is_eq, nat_cmp}
-use Rattle.std.proofs.lemmas.{Cmp.nat_list_eq_equiv, Map.Text.is_eq-slice_cmp, List.append-nil}
+use Rattle.std.specs.Cmp.Lexicographic as bytes
+use Rattle.std.proofs.lemmas.{Bool.cases_Bool, Cmp.nat_list_eq_equiv, Map.Text.is_eq-slice_cmp, List.append-nil}
 use Rattle.ix_model.{specs.{world.{Naming.{same_bytes, same_names}, Texts.names_in}, declared.config.ObjSpec.ObjSpec}, proofs.texts.Joining.same_text}
+use Rattle.ix_text.{specs.Names.is_script_name, proofs.Tests.both}
 use Rattle.ix_script.specs.reader.Indexed.{place_cmp, is_place, is_named, is_indexed, site_cmp, is_site, AreSites, is_there, dir_there, file_there}
 use Rattle.ix_script.{specs.{declared.index.{Place.Place, Site.Site}, lines.Before.{in_lane, is_given, is_known}}, proofs.reader.Pushed.any_push}
 
@@ -59,6 +61,19 @@ place_indexed p near old new items more was q =
     let this : Bool = is_place q (p.lane.name.now, p.name.name.now) in
     ap (λ b. list_any met near || b) (more.0 q ∙ (λ i. cond (equal_places p q i) true (contains place_cmp old q)))
     ∙ far_or (list_any met near) (contains place_cmp old q) this ∙ ap (λ b. b || this) (was q) ∙ sym (any_push (is_place q) items (p.lane.name.now, p.name.name.now))
+
+-- a name that is found among well-formed ones
+pub named_well : (lane word : List ℕ) (near : List Place) → list_any (is_named lane word) near ≡ true → list_all (λ p. is_script_name p.name.name.now) near ≡ true
+    → is_script_name word ≡ true
+named_well lane word [] met well = cc
+named_well lane word (p ∷ near) met well =
+    let both_well = both (is_script_name p.name.name.now) (list_all (λ (q : Place). is_script_name q.name.name.now) near) well in
+    elim (cases_Bool (is_named lane word p)) [
+      | inl met_here ↦
+          let same = both (same_bytes word p.name.name.now) (same_bytes lane p.lane.name.now) met_here in
+          ap is_script_name (bytes.same_text word p.name.name.now (sym same.0)) ∙ both_well.0
+      | inr other ↦ named_well lane word near (rw other at met) both_well.1
+    ]
 
 -- names in a lane without a name
 pub in_no_lane : (word : List ℕ) (names : List (List ℕ)) → is_given (Some []) word (map (λ n. ([], n)) names) ≡ is_known word names

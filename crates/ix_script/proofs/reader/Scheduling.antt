@@ -77,10 +77,6 @@ part_found (Some l) r is = sym (part_by_role l) ∙ ap begins_role (same_Some (r
 pub part_at : (found : Option Line) (r : Role) → Some r ≡ option_map role_of found → begins_role r ≡ option_map_or begins_part found false
 part_at found r is = sym (part_found found r (sym is))
 
-pub no_part : (found : Option Line) → None ≡ option_map role_of found → false ≡ option_map_or begins_part found false
-no_part None is = refl
-no_part (Some l) is = absurd (none-some (role_of l) is)
-
 at_line : (lines : List Line) (i : ℕ) → i < length lines → (l : Line) × (slice_get lines i ≡ Some l)
 at_line lines i low = (get_or lines i line.Skipped, slice_get-get_or lines i line.Skipped low)
 

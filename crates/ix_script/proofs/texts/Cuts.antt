@@ -7,7 +7,7 @@ use Rattle.ix_script.proofs.back.OneSpelling.{joined_front}
 use Rattle.ix_text.{specs.{Bytes.is_empty, Spellings.{further, joined}}, proofs.Tests.both}
 use Rattle.ix_script.specs.declared.words.Spot.TheVariants as spot
 
-some_piece : (at : Spot) (text : List ℕ) → (x : List ℕ) × (xs : List (List ℕ)) × (pieces at text ≡ x ∷ xs)
+pub some_piece : (at : Spot) (text : List ℕ) → (x : List ℕ) × (xs : List (List ℕ)) × (pieces at text ≡ x ∷ xs)
 unfolding pieces
 some_piece at [] = ([], [], refl)
 some_piece at (b ∷ text) = elim (cases_Bool (parts_words at b)) [
@@ -15,7 +15,7 @@ some_piece at (b ∷ text) = elim (cases_Bool (parts_words at b)) [
   | inr e ↦ let k = some_piece (after_byte at b) text in (b ∷ k.0, k.1, rw (e, k.2) refl)
 ]
 
-pieces_joined : (at : Spot) (text : List ℕ) → joined 32 (pieces at text) ≡ text
+pub pieces_joined : (at : Spot) (text : List ℕ) → joined 32 (pieces at text) ≡ text
 unfolding pieces
 pieces_joined at [] = refl
 pieces_joined at (b ∷ text) = elim (cases_Bool (parts_words at b)) [

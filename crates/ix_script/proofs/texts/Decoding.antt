@@ -1,7 +1,7 @@
 -- Decoding pairs of digits, each at its place.
 use Rattle.std.proofs.Common.{◌≡◌, ℕ, zero, suc, ◌+◌, ◌*◌, ◌<◌, ◌≤◌, true, false, List, [], ◌∷◌, ◌++◌, length, take, drop, set, get_or, unwrap_or, Option, Some}
-use Rattle.std.proofs.Common.{None, refl, sym, ◌∙◌, ap, subst, append_assoc, arith}
-use Rattle.std.{specs.Prelude.IsSome, proofs.lemmas.List.{take_more_set, length-set}}
+use Rattle.std.proofs.Common.{None, refl, sym, ◌∙◌, ap, add-zero, drop-drop, subst, append_assoc, arith}
+use Rattle.std.{specs.{Prelude.IsSome, Simd.first_chunks}, proofs.lemmas.List.{take_more_set, length-set, get_or-take, get_or-drop}}
 use Rattle.ix_script.specs.texts.Payloads.{◌>>=◌, pair_of, pairs_of, after_bytes}
 
 -- the bytes that pairs spell
@@ -59,6 +59,23 @@ byte_at k text byte n h e =
     let two : suc (suc k) ≡ k + 2 = omega arith in
     subst (λ j. IsSome (pairs_of (drop j text)) × (bytes_at k text ≡ byte ∷ bytes_at j text)) two
     (byte_from k text byte n h (subst (λ j. pair_of (get_or text k 0) (get_or text j 0) ≡ Some byte) (sym one) e))
+
+-- ---- both digits at once
+two_at : (text : List ℕ) (k i : ℕ) → i < k → get_or (first_chunks 2 k text) i [] ≡ take 2 (drop (2 * i) text)
+two_at text zero i low = absurd (omega arith)
+two_at text (suc k) zero low = refl
+two_at text (suc k) (suc i) low =
+    let place : 2 + 2 * i ≡ 2 * suc i = omega arith in
+    two_at (drop 2 text) k i (omega arith) ∙ ap (take 2) (drop-drop (2 * i) 2 text ∙ ap (λ n. drop n text) place)
+
+-- the digits of byte i, by chunks of two
+pub chunk_pair : (text : List ℕ) (k i : ℕ) → i < k → pair_of (get_or (get_or (first_chunks 2 k text) i []) 0 0) (get_or (get_or (first_chunks 2 k text) i []) 1 0)
+    ≡ pair_of (get_or text (2 * i) 0) (get_or text (2 * i + 1) 0)
+chunk_pair text k i low =
+    let from : List ℕ = drop (2 * i) text in
+    let first : get_or (take 2 from) 0 0 ≡ get_or text (2 * i) 0 = get_or-take 2 from 0 0 (omega arith) ∙ get_or-drop (2 * i) text 0 0 ∙ ap (λ n. get_or text n 0) (add-zero (2 * i)) in
+    let second : get_or (take 2 from) 1 0 ≡ get_or text (2 * i + 1) 0 = get_or-take 2 from 1 0 (omega arith) ∙ get_or-drop (2 * i) text 1 0 in
+    rw (two_at text k i low, first, second) refl
 
 -- ---- the loop
 -- i bytes are in the buffer, and what is left spells the others

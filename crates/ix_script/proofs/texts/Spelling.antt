@@ -1,15 +1,15 @@
 -- Reading a payload piece by piece, as loops do.
 use mir.Val.{bool_byte}
-use Rattle.std.proofs.Common.{◌≡◌, ℕ, zero, suc, ◌+◌, ◌*◌, inl, inr, ◌<◌, ◌≤◌, ◌==◌, Bool, true, false, ◌&&◌, List, [], ◌∷◌, ◌++◌, length, drop, get_or, Option}
-use Rattle.std.proofs.Common.{Some, None, refl, sym, ◌∙◌, ap, append_assoc, arith, IsSome, Result, Ok, Err, add-one, drop-cons, length-drop, length-append}
+use Rattle.std.proofs.Common.{◌≡◌, ℕ, zero, suc, ◌+◌, ◌*◌, ◌/◌, inl, inr, ◌<◌, ◌≤◌, ◌==◌, Bool, true, false, ◌&&◌, List, [], ◌∷◌, ◌++◌, length, drop, get_or, Option}
+use Rattle.std.proofs.Common.{Some, None, refl, sym, ◌∙◌, ap, append_assoc, arith, IsSome, unwrap_or, subst, Result, Ok, Err, add-one, drop-cons, length-drop, length-append}
 use Rattle.std.specs.{Prelude.{is_some, nat_le}, Result.IsOk, List.list_all}
-use Rattle.std.proofs.lemmas.{Option.none-some, Bool.{cases_Bool, le-ltb, leb-true}, List.{append-nil, drop_all}}
-use Rattle.ix_text.specs.Bytes.{is_empty}
+use Rattle.std.proofs.lemmas.{Option.none-some, Bool.{cases_Bool, eqb-true, le-ltb, leb-true}, List.{append-nil, drop_all}}
+use Rattle.ix_text.specs.Bytes.{begins, is_empty}
 use Rattle.ix_script.specs.texts.Payloads.{◌>>=◌, digit_of, pair_of, pairs_of, after_bytes, bytes_of, escape_step, ends, quoted_from, payload_of}
-use Rattle.ix_script.specs.{lines.Said.{payload_within, within}, texts.Spelled.{HasCount, Spells, spelling_fault}, reader.Readers.Refuses}
+use Rattle.ix_script.specs.{lines.Said.{payload_within, within}, texts.{PayloadBytes.{bytes_in, IsPayload}, Spelled.{HasCount, SpellsRight, Spells, spelling_fault}}, reader.Readers.Refuses}
 use Rattle.ix_script.specs.declared.{fail.Rule.Rule, payload.{Spelling.Spelling, Escape.Escape}}
 use Rattle.ix_script.specs.declared.payload.Escape.TheVariants as escape
-use Rattle.ix_script.proofs.texts.Pieces.{last_place}
+use Rattle.ix_script.proofs.texts.{Decoding.pairs_twice, Pieces.last_place}
 
 -- what isn't well formed breaks that rule, however much may stand
 pub no_spelling : (most : ℕ) (meaning : Option (List ℕ)) → meaning ≡ None → spelling_fault most meaning ≡ Some 18
@@ -107,12 +107,6 @@ pairs_even (suc n) (a ∷ b ∷ text) h d =
     let rest = pairs_even n text (omega arith) (second_of_both (is_hex b) (list_all is_hex text) later) in
     record { bytes = byte.0 ∷ rest.bytes; spelled = rw (byte.1, rest.spelled) refl; count = omega (arith, rest.count) }
 
-pub no_digits : (text : List ℕ) → length text < 2 → quoted_from escape.High text ≡ None
-unfolding quoted_from escape_step
-no_digits [] h = refl
-no_digits (b ∷ []) h = refl
-no_digits (b ∷ c ∷ text) h = absurd (omega arith)
-
 -- ---- quotes
 quoted_at : (at : Escape) (text : List ℕ) (i : ℕ) → i < length text → ends at (get_or text i 0) ≡ false
     → quoted_from at (drop i text) ≡ (escape_step at (get_or text i 0) >>= λ s. after_bytes (bytes_of s.1) (quoted_from s.0 (drop (i + 1) text)))
@@ -185,3 +179,34 @@ spelled_other most e (Some bytes) h some = absurd (spelled_few most e bytes h so
 pub spelled_right : (most : ℕ) (r : Result (Spelling × ℕ) Rule) (word : List ℕ) → Spells most r (payload_of word) → IsSome (payload_within most word) → IsOk r
 spelled_right most (Ok p) word h some = refl
 spelled_right most (Err e) word h some = spelled_other most e (payload_of word) h some
+
+-- what spells these bytes is a payload, where no more may stand
+pub right_payload : (most : ℕ) (s : Spelling) (n : ℕ) (meaning : Option (List ℕ)) → IsSome (within most meaning) → SpellsRight s n meaning
+    → IsPayload most s n × (within most meaning ≡ Some (bytes_in s))
+right_payload most s n meaning some r =
+    let same : r.bytes ≡ bytes_in s = ap (λ o. unwrap_or o []) (sym r.spelled) in
+    elim (cases_Bool (nat_le (length r.bytes) most)) [
+      | inl few ↦ (
+        record { spelled = r.spelled ∙ ap (λ (bs : List ℕ). Some bs) same; count = r.count ∙ ap length same; few = omega (arith, r.count, leb-true (length r.bytes) most few) },
+        rw (r.meant, few) (ap (λ (bs : List ℕ). Some bs) same),
+      )
+      | inr many ↦ let none : IsSome {T = List ℕ} None = rw (r.meant, many) at some in cc
+    ]
+
+some_within : (most : ℕ) (meaning : Option (List ℕ)) → IsSome (within most meaning) → IsSome meaning × (meaning ≡ Some (unwrap_or meaning []))
+some_within most None h = cc
+some_within most (Some bytes) h = (refl, refl)
+
+begun_by_x : (word : List ℕ) → begins 120 word ≡ true → (payload_of word ≡ pairs_of (drop 1 word)) × (length word ≡ 1 + length (drop 1 word))
+unfolding payload_of
+begun_by_x [] h = cc
+begun_by_x (b ∷ word) h = (rw (eqb-true b 120 h) refl, omega arith)
+
+-- a payload that begins as pairs do is spelled by them
+pub known_pairs : (most : ℕ) (word text : List ℕ) → begins 120 word ≡ true → text ≡ drop 1 word → IsSome (payload_within most word)
+    → (payload_of word ≡ Some (unwrap_or (pairs_of text) [])) × (pairs_of text ≡ Some (unwrap_or (pairs_of text) [])) × (length word / 2 ≡ length (unwrap_or (pairs_of text) []))
+known_pairs most word text x is some =
+    let begun = begun_by_x word x in
+    let means : payload_of word ≡ pairs_of text = begun.0 ∙ ap pairs_of (sym is) in
+    let there = some_within most (pairs_of text) (subst (λ o. IsSome (within most o)) means some) in
+    (means ∙ there.1, there.1, omega (arith, pairs_twice text there.0, begun.1, ap length is))

@@ -1,13 +1,14 @@
 -- What an index beside a list holds.
-use Rattle.std.specs.Prelude.{◌≡◌, ℕ, Bool, ◌&&◌, ◌||◌, not, if◌then◌else◌, List, [], map}
+use Rattle.std.specs.Prelude.{◌≡◌, ℕ, Bool, true, ◌&&◌, ◌||◌, not, if◌then◌else◌, List, [], map}
 use Rattle.std.specs.BTreeSet.{BTreeSet, contains}
 use Rattle.std.specs.Cmp.Lexicographic.{slice_cmp}
-use Rattle.std.specs.List.{list_any}
+use Rattle.std.specs.List.{list_all, list_any}
 use Rattle.std.specs.Ordering.{bool_cmp, nat_cmp, ordering_then}
 use Rattle.std.specs.declared.cmp.Ordering.{Ordering}
 use Rattle.ix_model.specs.world.Naming.{same_bytes, same_names}
 use Rattle.ix_model.specs.declared.config.ObjSpec.{ObjSpec}
 use Rattle.ix_model.specs.world.Texts.{names_in}
+use Rattle.ix_text.specs.Names.{is_script_name}
 use Rattle.ix_script.specs.declared.index.Given.{Given}
 use Rattle.ix_script.specs.declared.index.Names.{Names}
 use Rattle.ix_script.specs.declared.index.Place.{Place}
@@ -29,9 +30,10 @@ is_named lane name p = same_bytes name p.name.name.now && same_bytes lane p.lane
 abbrev pub is_indexed : List Place → BTreeSet Place → Place → Bool
 is_indexed near index p = list_any (is_named p.lane.name.now p.name.name.now) near || contains place_cmp index p
 
--- they have the places of the list, and no other
+-- they have the places of the list, and no other; the first ones have well-formed names
 abbrev pub AreIndexed : Given → List (List ℕ × List ℕ) → Type 0
-AreIndexed given items = (p : Place) → is_indexed given.near.items given.index p ≡ list_any (is_place p) items
+AreIndexed given items = ((p : Place) → is_indexed given.near.items given.index p ≡ list_any (is_place p) items)
+    × (list_all (λ p. is_script_name p.name.name.now) given.near.items ≡ true)
 
 -- so they have names, in a lane without a name
 abbrev pub AreNames : Names → List (List ℕ) → Type 0

@@ -75,9 +75,3 @@ is_entry (form.OnFd on_fd.Close) = true
 is_entry (form.OnFd on_fd.Pex) = true
 is_entry (form.OnFd on_fd.Unpex) = true
 is_entry _ = false
-
--- the place of a form's payload; 0 where it has none
-abbrev pub payload_place : Form → ℕ
-payload_place form.Write = 3
-payload_place form.File = 6
-payload_place _ = 0

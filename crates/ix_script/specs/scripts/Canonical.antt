@@ -1,5 +1,5 @@
 -- The canonical text of a script.
-use Rattle.std.specs.Prelude.{ℕ, Bool, true, false, not, ◌&&◌, List, [], ◌∷◌, ◌++◌, take, codes}
+use Rattle.std.specs.Prelude.{ℕ, Bool, true, false, not, ◌&&◌, List, [], ◌∷◌, ◌++◌, take, drop, codes}
 use Rattle.std.specs.List.{flat_map}
 use Rattle.std.specs.Fmt.{decimal}
 use Rattle.ix_label.specs.declared.form.Form.{Form}
@@ -93,3 +93,7 @@ canonical_in labels lines = flat_map (λ l. line_text labels l ++ codes "\n") li
 -- the text of a script, in its own form
 abbrev pub canonical : List Line → List ℕ
 canonical lines = canonical_in (form_told lines) lines
+
+-- of the text of a script, the lines from an index on
+abbrev pub canonical_from : List Line → ℕ → List ℕ
+canonical_from lines first = canonical_in (form_told lines) (drop first lines)

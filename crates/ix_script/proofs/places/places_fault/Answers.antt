@@ -1,26 +1,44 @@
-use Rattle.std.proofs.{Common.{◌≡◌, ℕ, List, ◌+◌, length, nat_le, false, sym, ap, ◌∙◌, subst, arith}, lemmas.{List.length-map, Bool.lt-leb}}
-use Rattle.ix_label.specs.declared.form.Form.TheVariants.{One}
-use Rattle.ix_script.specs.{lines.{Forms.{arity, own_places, places_from, tail_of}, Kinds.Kind}, reader.{Placing.kind_in, Readers.IsFault}}
-use Rattle.ix_script.proofs.lines.Readings.{both_faults, tail_there}
+use Rattle.std.proofs.{Common.{◌≡◌, ◌++◌, ℕ, List, Option, None, ◌+◌, length, map, take, drop, nat_le, true, false, sym, ap, ◌∙◌, subst, arith}, lemmas.{List.{append-nil, drop-map}, Bool.{le-leb, lt-leb}}}
+use Rattle.ix_label.specs.declared.form.Form as spelled
+use Rattle.ix_script.specs.{declared.{fail.Rule.Rule, form.Form.Form}, reader.{Placing.kind_in, Readers.IsFault}}
+use Rattle.ix_script.specs.lines.{Forms.{arity, kinds, own_places, places_from, tail_of}, Kinds.{Kind, places_fault}}
+use Rattle.ix_script.specs.declared.form.Kind as made
+use Rattle.ix_script.proofs.lines.Readings.{both_faults, known_first, no_tail, tail_there}
 use Rattle.ix_script.proofs.places.places_fault.Goals as goal
 
+-- the fault at the places that are left is that of all own ones
+of_all : (labels : spelled.Form) (f : Form) (words : List (List ℕ)) (ks left : List made.Kind) (n : ℕ) (r : Option Rule) → map (kind_in labels words) ks ≡ kinds labels f words
+    → left ≡ drop n ks → places_fault (places_from 1 (take n (kinds labels f words)) words) ≡ None → IsFault r (places_from (1 + n) (map (kind_in labels words) left) words)
+    → IsFault r (own_places labels f words)
+of_all labels f words ks left n r are rest known fault =
+    let same = ap (drop n) (sym are) ∙ drop-map (kind_in labels words) n ks ∙ ap (map (kind_in labels words)) (sym rest) in
+    known_first (kinds labels f words) 1 n words known ∙ ap (λ js. places_fault (places_from (1 + n) js words)) same ∙ fault
+
+pub split_at-requires : goal.split_at-requires
+split_at-requires c = omega (arith, c.requires.few, c.kinds-kinds.ensures.count c.args.words.now)
+
 pub fault_from-requires : goal.fault_from-requires
-fault_from-requires c =
+fault_from-requires c = omega (arith, c.kinds-kinds.ensures.count c.args.words.now, c.tail.ensures.few c.args.words.now)
+
+pub returns-then-len-kinds : goal.returns-then-len-kinds
+returns-then-len-kinds c =
     let words = c.args.words.now in
-    let count : length c.kinds-kinds.result.now ≡ arity c.args.form words = sym (length-map c.kinds-kinds.result.now (kind_in One words)) ∙ ap length (c.kinds-kinds.ensures.kinds One words) in
-    omega (arith, count, c.tail.ensures.few words)
+    let labels = c.args.labels in
+    let f = c.args.form in
+    let own = of_all labels f words c.kinds-kinds.result.now _ c.args.known _ (c.kinds-kinds.ensures.kinds labels words) c.split_at.ensures.back c.requires.right c.fault_from-own.ensures in
+    let short : nat_le (length words) (1 + arity f words) ≡ true = le-leb (length words) (1 + arity f words)
+    (omega (arith, c.kinds-kinds.ensures.count words, c.if-len-kinds.true, c.len.ensures)) in
+    rw (no_tail (tail_of f) (1 + arity f words) words short) (ap places_fault (append-nil (own_places labels f words)) ∙ own)
 
 pub returns : goal.returns
 returns c =
     let words = c.args.words.now in
     let labels = c.args.labels in
     let f = c.args.form in
-    let count : length c.kinds-kinds.result.now ≡ arity f words = sym (length-map c.kinds-kinds.result.now (kind_in One words)) ∙ ap length (c.kinds-kinds.ensures.kinds One words) in
+    let count = c.kinds-kinds.ensures.count words in
     let long : nat_le (length words) (1 + arity f words) ≡ false = lt-leb (length words) (1 + arity f words) (omega (arith, count, c.if-len-kinds.false, c.len.ensures)) in
     let at : 2 + length c.kinds-kinds.result.now ≡ 1 + arity f words + 1 = omega (arith, count) in
-    let own : IsFault c.fault_from-own.result (own_places labels f words) = subst
-    (λ (ks : List Kind). IsFault c.fault_from-own.result (places_from 1 ks words))
-    (c.kinds-kinds.ensures.kinds labels words) c.fault_from-own.ensures in
+    let own = of_all labels f words c.kinds-kinds.result.now _ c.args.known _ (c.kinds-kinds.ensures.kinds labels words) c.split_at.ensures.back c.requires.right c.fault_from-own.ensures in
     let more : IsFault c.fault_from.result (places_from (1 + arity f words + 1) (tail_of f) words) = subst
     (λ (n : ℕ). IsFault c.fault_from.result (places_from n (tail_of f) words)) at
     (subst (λ (ks : List Kind). IsFault c.fault_from.result (places_from (2 + length c.kinds-kinds.result.now) ks words))

@@ -1,20 +1,16 @@
 use Rattle.std.proofs.Common.{sym, ◌∙◌, arith}
-use Rattle.ix_script.proofs.reader.Scheduling.{part_here, part_later, part_none, part_role, other_part, part_at, no_part}
+use Rattle.ix_script.proofs.reader.Scheduling.{part_here, part_later, part_none, part_role, other_part, part_at}
 use Rattle.ix_script.proofs.schedule.part_end.Goals as goal
 
 pub returns-in-Phase : goal.returns-in-Phase
 returns-in-Phase c =
-    let none = part_here c.args.lines.now c.lines.index (sym (part_at _ c.in-Some.role (sym c.in-Some.is ∙ c.role.ensures)) ∙ part_role c.in-Some.role c.in-Phase.is) in
+    let none = part_here c.args.lines.now c.lines.index (sym (part_at _ c.unwrap.result (sym c.unwrap.ensures ∙ c.role.ensures)) ∙ part_role c.unwrap.result c.in-Phase.is) in
     omega (arith, c.lines.invariant, none)
-
-pub lines-preserved-in_default : goal.lines-preserved-in_default
-lines-preserved-in_default c =
-    c.lines.invariant ∙ part_later c.args.lines.now c.lines.index (omega (arith, c.lines-test.true, c.len-index-end.ensures)) (sym (no_part _ (sym c.in_default.is ∙ c.role.ensures)))
 
 pub lines-preserved : goal.lines-preserved
 lines-preserved c =
     c.lines.invariant ∙ part_later c.args.lines.now c.lines.index (omega (arith, c.lines-test.true, c.len-index-end.ensures))
-    (sym (part_at _ c.in-Some.role (sym c.in-Some.is ∙ c.role.ensures)) ∙ other_part c.in-Some.role c.in_default-role.not-Phase c.in_default-role.not-Lane)
+    (sym (part_at _ c.unwrap.result (sym c.unwrap.ensures ∙ c.role.ensures)) ∙ other_part c.unwrap.result c.in_default.not-Phase c.in_default.not-Lane)
 
 pub returns : goal.returns
 returns c =

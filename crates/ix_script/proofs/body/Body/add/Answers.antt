@@ -1,6 +1,7 @@
-use Rattle.std.proofs.Common.{[], ◌∷◌, ℕ, ◌≡◌, ◌++◌, false, List, Option, option_map, Some, sym, ap, ◌∙◌, refl, subst, arith}
-use Rattle.ix_script.specs.{lines.Before.{is_command, in_lane, new_fds, new_procs, lanes_after}, reader.Told.phase_lanes_in, declared.body.Body.Body}
+use Rattle.std.proofs.Common.{[], ◌∷◌, ℕ, ◌≡◌, ◌++◌, false, List, Option, option_map, Some, None, sym, ap, ◌∙◌, refl, subst, arith}
+use Rattle.ix_script.specs.{lines.Before.{is_command, in_lane, new_fds, new_procs, lanes_after}, reader.{Told.phase_lanes_in, Indexed.AreIndexed}, declared.body.Body.Body}
 use Rattle.ix_script.proofs.reader.Commands.{still, on_ok, one_counted, or_true, or_false, body_next, lane_added, no_more}
+use Rattle.ix_script.proofs.reader.Indexing.{two_in_lane}
 use Rattle.ix_script.proofs.reader.PhaseLanes.{OneMore, ComesNext, comes_next, next_more, other_more}
 use Rattle.ix_script.specs.declared.line.Line.TheVariants as line
 use Rattle.ix_script.proofs.body.Body.add.Goals as goal
@@ -34,14 +35,30 @@ returns-in-Dup c =
     (λ items h. rw c.in-Dup.is (given items h)) (λ items h. no_more b.procs items (items ++ in_lane at (new_procs x)) at (new_procs x) (rw c.in-Dup.is refl) refl h)
     (one_counted b.commands c.from.result c.is_command.result (is_command x) c.from.ensures c.is_command.ensures)) c.add_any-in-Dup.ensures
 
-pub returns-in-Pipe : goal.returns-in-Pipe
-returns-in-Pipe c =
+pub returns-in_ok-add-in-Some : goal.returns-in_ok-add-in-Some
+returns-in_ok-add-in-Some c =
     let x = c.args.line.now in
     let b = c.args.self.now in
     let at : Option (List ℕ) = option_map (λ s. s.now) b.lane in
-    on_ok c.add_two.result (λ given lines told. body_next b _ lines x told (rw c.in-Pipe.is (sym (or_false b.started))) (rw c.in-Pipe.is refl) told.within (rw c.in-Pipe.is refl) (rw c.in-Pipe.is refl)
-    (λ items h. rw c.in-Pipe.is (given items h)) (λ items h. no_more b.procs items (items ++ in_lane at (new_procs x)) at (new_procs x) (rw c.in-Pipe.is refl) refl h)
-    (one_counted b.commands c.from.result c.is_command.result (is_command x) c.from.ensures c.is_command.ensures)) c.add_two.ensures
+    let first : List ℕ = c.in-Some.first in
+    let second : List ℕ = c.in-Some.second in
+    let is : x ≡ line.Pipe c.in-Pipe.proc (Some (first, second)) = c.in-Pipe.is ∙ ap (line.Pipe c.in-Pipe.proc) c.in-Some.is in
+    on_ok c.add-in-Some.result (λ given lines told. body_next b _ lines x told (rw is (sym (or_false b.started))) (rw is refl) told.within (rw is refl) (rw is refl)
+    (λ items h. rw is (subst (λ (xs : List (List ℕ × List ℕ)). AreIndexed c.add-in-Some.new.self xs) (two_in_lane items at first second)
+    (given (items ++ in_lane at (first ∷ [])) (c.in_ok-add-in-Some.ensures items h))))
+    (λ items h. no_more b.procs items (items ++ in_lane at (new_procs x)) at (new_procs x) (rw is refl) refl h)
+    (one_counted b.commands c.from.result c.is_command.result (is_command x) c.from.ensures c.is_command.ensures)) c.add-in-Some.ensures
+
+pub returns-in-None : goal.returns-in-None
+returns-in-None c = λ lines told.
+    let x = c.args.line.now in
+    let b = c.args.self.now in
+    let at : Option (List ℕ) = option_map (λ s. s.now) b.lane in
+    let is : x ≡ line.Pipe c.in-Pipe.proc None = c.in-Pipe.is ∙ ap (line.Pipe c.in-Pipe.proc) c.in-None.is in
+    body_next b _ lines x told (rw is (sym (or_false b.started))) (rw is refl) told.within (rw is refl) (rw is refl)
+    (λ items h. no_more b.fds items (items ++ in_lane at (new_fds x)) at (new_fds x) (rw is refl) refl h)
+    (λ items h. no_more b.procs items (items ++ in_lane at (new_procs x)) at (new_procs x) (rw is refl) refl h)
+    (one_counted b.commands c.from.result c.is_command.result (is_command x) c.from.ensures c.is_command.ensures)
 
 pub returns-in-Fork : goal.returns-in-Fork
 returns-in-Fork c =

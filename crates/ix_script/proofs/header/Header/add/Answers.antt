@@ -27,11 +27,7 @@ returns-in-Proc c =
     on_both c.push-in-Proc.result (λ names count lines first told valid fault.
     header_next c.args.self.now _ c.args.first lines c.args.line.now first told (fits_of lines valid) (follows lines c.args.line.now fault)
     (rw c.in-Proc.is (omega arith)) c.in_ok-add_fs.ensures c.limits_after-self.ensures (rw c.in-Proc.is (sym (append-nil c.args.self.now.whats)))
-    (rw c.in-Proc.is (record {
-      names = λ ns told. subst (λ (name : List ℕ). AreNames c.push-in-Proc.new.self (ns ++ name ∷ []))
-          c.as_bytes.ensures (names ns told);
-      count = count;
-    }))
+    (rw c.in-Proc.is (record { names = names; count = count }))
     (rw c.in-Proc.is (nothing_made c.args.self.now.made)) (rw c.as_slice.ensures at c.take.ensures) (rw c.group.ensures at c.max-self.ensures)
     (rw c.in-Proc.is (sym (or_false c.args.self.now.policy)))) c.push-in-Proc.ensures.names c.push-in-Proc.ensures.count
 

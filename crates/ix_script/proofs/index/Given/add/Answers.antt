@@ -3,5 +3,5 @@ use Rattle.ix_script.proofs.index.Given.add.Goals as goal
 
 pub returns : goal.returns
 returns c = λ items are.
-    rw (c.in-Some.is, ← c.place_of-2.ensures.lane, ← c.place_of-2.ensures.name)
-    (place_indexed c.place_of-2.result c.args.self.now.near.items c.args.self.now.index c.insert.new.self items c.in_ok-insert.ensures.updates are)
+    rw (c.in-Some.is, ← c.word.ensures.bytes, ← c.place_of-place.ensures.lane, ← c.place_of-place.ensures.name)
+    (place_indexed c.place_of-place.result c.args.self.now.near.items c.args.self.now.index c.insert.new.self items c.in_ok-insert.ensures.updates are.0, are.1)
