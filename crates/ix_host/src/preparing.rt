@@ -18,6 +18,7 @@ use crate::refusing::{refuse, refuse_long};
 use crate::saving::save;
 use crate::status::Status;
 use crate::streams::input::input_for;
+use crate::streams::outlet::{finish, room, write_full};
 use crate::streams::sending::tell;
 use crate::streams::stream::Input;
 use crate::task::{Task, Telling};
@@ -26,19 +27,30 @@ use ix_check::parts;
 use ix_io::{Sink, Source};
 use ix_model::NoMemory;
 use ix_policy::Policy;
-use ix_script::{ReadFail, Script, read, write};
+use ix_script::{ReadFail, Script, read, write_part};
 use ix_twin::divide;
 use std::alloc::Global;
 
-/// Writes the canonical text of a script.
+/// Writes the canonical text of a script, part by part.
 fn print<K: Sink>(alloc: Global, sink: &mut K, script: &Script) -> Status
     ensures { Ends (outcome.Whole (canonical script.now)) result (K.taken sink.old) (K.taken sink.new) (K.finished sink.new)
         (K.faults sink.old) (K.faults sink.new) }
 {
-    match write(alloc, script) {
-        Ok(text) => tell(sink, text.as_slice(), Status::Done),
-        Err(NoMemory) => Status::NoMemory,
+    let Ok(mut waiting) = room(alloc) else {
+        return Status::NoMemory;
+    };
+    let mut first = 0;
+    'parts: while first < script.len() as usize {
+        let Ok(next) = write_part(alloc, &mut waiting, script, first) else {
+            return Status::NoMemory;
+        };
+        first = next;
+        let failure = write_full(sink, &mut waiting);
+        if failure.is_some() {
+            return finish(sink, waiting.as_slice(), failure);
+        }
     }
+    finish(sink, waiting.as_slice(), None)
 }
 
 /// What a command asks with a script that it doesn't refuse, and what else is asked for.
