@@ -1,8 +1,19 @@
-ghost use Rattle.std.specs.Prelude.{◌≡◌, ◌<◌, length};
+ghost use Rattle.std.specs.Prelude.{◌≡◌, ◌<◌, Some, length};
 ghost use Rattle.ix_script.specs.lines.Roles.{role_of};
 ghost use Rattle.ix_lanes.specs.histories.Indexed.{line_in};
 
 use ix_script::{Line, Role, Script};
+
+/// The line at an index from 0, which it asks to be below the number of lines. What keeps it keeps it so: a line is wide, and is copied
+/// once more where it is taken out.
+#[inline(always)]
+pub(crate) fn line_kept(script: &Script, index: u32) -> Option<Line<'_>>
+    requires { index < length script.now }
+    ensures { result ≡ Some (line_in script.now index) }
+{
+    let _count = script.len();
+    script.line(index + 1)
+}
 
 /// The line at an index from 0, which it asks to be below the number of lines: its number in the script is one more. It takes no
 /// memory.
@@ -10,8 +21,7 @@ pub fn line_at(script: &Script, index: u32) -> Line<'_>
     requires { index < length script.now }
     ensures { result ≡ line_in script.now index }
 {
-    let _count = script.len();
-    match script.line(index + 1) {
+    match line_kept(script, index) {
         Some(line) => line,
         None => unreachable!(),
     }

@@ -1,5 +1,5 @@
 -- What follows of a line from what it is for.
-use Rattle.std.proofs.Common.{◌≡◌, ℕ, ◌<◌, true, false, List, [], length, Option, Some, None, refl, sym, slice_get}
+use Rattle.std.proofs.Common.{◌≡◌, ℕ, ◌<◌, true, false, true≢false, List, [], length, Option, Some, None, refl, sym, slice_get}
 use Rattle.std.proofs.lemmas.Option.{get_or_from_slice_get, slice_get-get_or}
 use Rattle.ix_script.specs.{declared.line.Line.Line, lines.{Before.{new_fds, new_procs, proc_name_told, is_phase}, Roles.role_of}}
 use Rattle.ix_script.specs.scripts.Schedule.{begins_part, seat_after}
@@ -46,6 +46,12 @@ unfolding role_of
 seat-left lanes at line.Phase no_phase no_lane = absurd (no_phase refl)
 seat-left lanes at (line.Lane name) no_phase no_lane = absurd (no_lane refl)
 seat-left lanes at _ no_phase no_lane = refl
+
+pub seat-stays : (lanes : List (List ℕ)) (at : Option ℕ) (l : Line) → role_begins (role_of l) ≡ false → seat_after lanes at l ≡ at
+unfolding role_of
+seat-stays lanes at line.Phase begins = absurd (true≢false begins)
+seat-stays lanes at (line.Lane name) begins = absurd (true≢false begins)
+seat-stays lanes at _ begins = refl
 
 -- a line that begins a lane's part of a phase names the lane
 pub seat-named : (lanes : List (List ℕ)) (at : Option ℕ) (l : Line) → role_of l ≡ role.Lane → ((name : List ℕ) → l ≡ line.Lane name → ⊥)

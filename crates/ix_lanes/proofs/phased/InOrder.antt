@@ -127,21 +127,23 @@ module _ (s : List Line) (i : ℕ) (low : i < length s) (all : List Places) (k :
         itself : set all k p ≡ all
         itself = ap (set all k) (sym (get_or_from_slice_get all k p p there)) ∙ set-get_or all k p
 
-    pub begun_within : (buf : List ℕ) → seat ≡ seat_at s (take i s) → IsPending at_part (part_left header (standing p) (i + 1) l c at_part) → Holds l buf at_part
-        → IsWithin s (set all k p) i seat l buf c at_part
-    begun_within buf seated pending holds = record {
+    pub begun_within : (buf : List ℕ) → seat ≡ seat_at s (take i s) → (kept : Option Line) → kept ≡ Some (line_in s i) → role_begins (role_of (line_in s i)) ≡ false
+        → IsPending at_part (part_left header (standing p) (i + 1) l c at_part) → Holds l buf at_part → IsWithin s (set all k p) i seat kept buf c at_part
+    begun_within buf seated kept line apart pending holds = record {
       within = omega (arith, low);
       in_lane = seated;
       low = λ h. low;
-      line = λ h. same;
+      line = λ h. line;
+      apart = λ h. apart;
       seated = λ h. ap is_some is;
       pending = λ m here.
           let one : k ≡ m = let h : Some k ≡ Some m = sym is ∙ here in cc in
           let all_is : set all k p ≡ all = ap (set all k) (sym (get_or_from_slice_get all k p p there)) ∙ set-get_or all k p in
-          let path : part_left header (standing p) (i + 1) l c at_part ≡ part_left (header_of s) (names_of (map standing (set all k p)) m) (i + 1) l c at_part =
-          (λ j. part_left (tables j) (sym (names_there all k p there) j) (i + 1) l c at_part) ∙ (λ j. part_left (header_of s) (names_of (map standing (sym all_is j)) (one j)) (i + 1) l c at_part) in
+          let path : part_left header (standing p) (i + 1) l c at_part ≡ part_left (header_of s) (names_of (map standing (set all k p)) m) (i + 1) (line_in s i) c at_part =
+          (λ j. part_left (tables j) (sym (names_there all k p there) j) (i + 1) (same j) c at_part)
+          ∙ (λ j. part_left (header_of s) (names_of (map standing (sym all_is j)) (one j)) (i + 1) (line_in s i) c at_part) in
           subst (IsPending at_part) path pending;
-      holds = holds;
+      holds = subst (λ (x : Line). Holds x buf at_part) same holds;
     }
 
   -- which asks for none
@@ -208,6 +210,13 @@ module _ (s : List Line) (all : List Places) (i k : ℕ) (placed : ArePlaced s a
 
   pub lane_mine : is_seat k (seat_at s (take i s)) ≡ true
   lane_mine = let one : is_seat k (Some k) ≡ true = (Decides-eqb k k).1 refl in ap (is_seat k) is ∙ one
+
+-- and begins no part
+pub asking_apart : (r : Role) (seat asked : Option ℕ) (k : ℕ) → asked ≡ (if role_begins r then None else seat) → asked ≡ Some k → role_begins r ≡ false
+asking_apart r seat asked k is some = elim (cases_Bool (role_begins r)) [
+  | inl e ↦ let none : asked ≡ None = rw e at is in cc
+  | inr e ↦ e
+]
 
 -- ---- where a run stands in a line
 -- a call stands next
@@ -329,7 +338,7 @@ came_next k f (asking.Came r) = refl
 came_next k f (Due a) = refl
 
 -- ---- an answer to a line's call
-module _ (s : List Line) (all : List Places) (i : ℕ) (seat : Option ℕ) (l : Line) (buf : List ℕ) (c : Copying) (at_part : Part) (h : IsWithin s all i seat l buf c at_part)
+module _ (s : List Line) (all : List Places) (i : ℕ) (seat : Option ℕ) (l : Option Line) (buf : List ℕ) (c : Copying) (at_part : Part) (h : IsWithin s all i seat l buf c at_part)
     (not : is_over at_part ≡ false) (k : ℕ) (is : seat ≡ Some k) (d : Copying) (q : Part) (a : Answered) where
   abbrev HeardOn : Type 0
   HeardOn = IsHeard (header_of s) (names_of (map standing all) k) (i + 1) (line_in s i) c at_part d q a None
@@ -344,14 +353,15 @@ module _ (s : List Line) (all : List Places) (i : ℕ) (seat : Option ℕ) (l : 
     in_lane = h.in_lane;
     low = λ x. h.low not;
     line = λ x. h.line not;
+    apart = λ x. h.apart not;
     seated = λ x. h.seated not;
     pending = λ m here.
         let one : k ≡ m = let e : Some k ≡ Some m = sym is ∙ here in cc in
         let due = pending_due (header_of s) (names_of (map standing all) k) (i + 1) (line_in s i) d q on.1 in
-        let path : part_left (header_of s) (names_of (map standing all) k) (i + 1) (line_in s i) d q ≡ part_left (header_of s) (names_of (map standing all) m) (i + 1) l d q =
-        λ j. part_left (header_of s) (names_of (map standing all) (one j)) (i + 1) (sym (h.line not) j) d q in
+        let path : part_left (header_of s) (names_of (map standing all) k) (i + 1) (line_in s i) d q ≡ part_left (header_of s) (names_of (map standing all) m) (i + 1) (line_in s i) d q =
+        λ j. part_left (header_of s) (names_of (map standing all) (one j)) (i + 1) (line_in s i) d q in
         subst (IsPending q) path due;
-    holds = subst (λ (x : Line). Holds x buf q) (sym (h.line not)) (on.3 buf);
+    holds = on.3 buf;
   }
 
   -- with fewer calls left

@@ -1,5 +1,5 @@
 -- What lines ask for.
-use Rattle.std.specs.Prelude.{◌≡◌, ℕ, List, [], ◌∷◌, Option, Some, None}
+use Rattle.std.specs.Prelude.{◌≡◌, ℕ, Bool, true, false, List, [], ◌∷◌, Option, Some, None}
 use Rattle.ix_model.specs.history.Events.{Event}
 use Rattle.ix_policy.specs.declared.rule.Rule.{Rule}
 use Rattle.ix_asking.specs.Asking.{Asked, Asking, Done, Ask, followed, mapped}
@@ -46,6 +46,13 @@ line_asks rules header names n (line.Priv proc fd) = by_rules rules (λ r. gives
 line_asks rules header names n (line.Login proc fd hand named) =
     by_rules rules (λ r. mapped who_in (sessions.serves r (server_of header names n proc fd) (record { 0 = fd_of names hand })))
 line_asks rules header names n l = one_call (asked header names n l)
+
+-- whether a line may ask for several calls
+abbrev pub asks_several : Line → Bool
+asks_several (line.Copy proc from to count) = true
+asks_several (line.Priv proc fd) = true
+asks_several (line.Login proc fd hand named) = true
+asks_several _ = false
 
 -- what lines ask for, one after the other, and what the lane's names stand for then
 abbrev pub lines_ask : Option (List Rule) → Numbers → Names → List Numbered → Asking Names

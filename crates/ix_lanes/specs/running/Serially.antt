@@ -8,6 +8,7 @@ use Rattle.ix_asking.specs.Asking.{Asking, Came, Due, Next, first}
 use Rattle.ix_asking.specs.Runs.{entry_of}
 use Rattle.ix_asking.specs.declared.copying.Copying.{Copying}
 use Rattle.ix_script.specs.lines.Before.{lanes_of}
+use Rattle.ix_script.specs.lines.Roles.{role_of}
 use Rattle.ix_script.specs.declared.line.Line.{Line}
 use Rattle.ix_script.specs.declared.role.Role.{Role}
 use Rattle.ix_script.specs.declared.role.Role.TheVariants as role
@@ -79,14 +80,15 @@ pub record AreTables (s : List Line) (procs : Numbers) (places : List Places) (r
   pub placed : ArePlaced s places
 
 -- It stands at the end, or in a line of some lane, which asks for a call next.
-pub record IsWithin (s : List Line) (places : List Places) (at : ℕ) (seat : Option ℕ) (l : Line) (buf : List ℕ) (copying : Copying) (p : Part) : Type 0 where
+pub record IsWithin (s : List Line) (places : List Places) (at : ℕ) (seat : Option ℕ) (l : Option Line) (buf : List ℕ) (copying : Copying) (p : Part) : Type 0 where
   pub within : at ≤ length s
   pub in_lane : seat ≡ seat_at s (take at s)
   pub low : is_over p ≡ false → at < length s
-  pub line : is_over p ≡ false → l ≡ line_in s at
+  pub line : is_over p ≡ false → l ≡ Some (line_in s at)
+  pub apart : is_over p ≡ false → role_begins (role_of (line_in s at)) ≡ false
   pub seated : is_over p ≡ false → is_some seat ≡ true
-  pub pending : (k : ℕ) → seat ≡ Some k → IsPending p (part_left (header_of s) (names_of (map standing places) k) (at + 1) l copying p)
-  pub holds : Holds l buf p
+  pub pending : (k : ℕ) → seat ≡ Some k → IsPending p (part_left (header_of s) (names_of (map standing places) k) (at + 1) (line_in s at) copying p)
+  pub holds : Holds (line_in s at) buf p
 
 -- Where it stands, the entries that are left are those of the lines from an index on, with these names and in this lane.
 abbrev pub LeavesLines : List Line → List Places → Option ℕ → ℕ → SerialLeft → Type 0

@@ -14,6 +14,7 @@ use ix_model::{Buf, Call, Pid};
 use ix_script::{LabelWord, Line, NameWord, PathWord};
 
 /// Puts the bytes that a line writes, where it is a `write` line, at the front of a buffer, and answers how many they are.
+#[inline(always)]
 pub fn put_written(line: &Line<'_>, buf: &mut Buf) -> usize
     ensures few { result ≤ 4096 }
     ensures bytes { take result buf.new ≡ written line.now }
@@ -265,6 +266,7 @@ fn pid_in(handed: &Handed) -> u32
 }
 
 /// Lets a name, if there is one, stand for a number.
+#[inline(never)]
 fn bind_one<N: Copy>(names: &mut Bindings<Option<N>>, name: &Option<NameWord<'_>>, number: N)
     requires { has_all names.old (listed name.now) ≡ true }
     ensures set { given names.new ≡ bound name.now number (given names.old) }
@@ -276,6 +278,7 @@ fn bind_one<N: Copy>(names: &mut Bindings<Option<N>>, name: &Option<NameWord<'_>
 }
 
 /// Lets the names of both ends of a pipe, if there are any, stand for what is handed.
+#[inline(never)]
 fn bind_both(
     fds: &mut Bindings<Option<u8>>,
     two: &Option<(NameWord<'_>, NameWord<'_>)>,
@@ -296,6 +299,7 @@ fn bind_both(
 }
 
 /// Lets the names that stand after `as`, if any do, stand for what is handed.
+#[inline(always)]
 #[tactic(auto, unfolding(crate::specs::asking::Asked::named, crate::specs::asking::Places::has_places))]
 pub fn bind(places: &mut Places, line: &Line<'_>, handed: &Handed)
     requires { has_places places.old line.now ≡ true }

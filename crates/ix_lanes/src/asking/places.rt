@@ -79,6 +79,7 @@ impl Places {
     }
 
     /// The process of a name: one of the header, or one that the lane gave.
+    #[inline(always)]
     pub fn pid(&self, header: &Bindings<u32>, name: &NameWord<'_>) -> Pid
         ensures { result.0 ≡ pid_of header.now (standing self.now) name.now }
     {

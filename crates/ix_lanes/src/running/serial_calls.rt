@@ -13,7 +13,7 @@ use crate::asking::calls::{bind, call_of};
 use crate::asking::handed::Handed;
 use crate::asking::places::Places;
 use crate::lanes::header_of;
-use crate::lines::{line_at, role_at};
+use crate::lines::{line_kept, role_at};
 use crate::running::beginning::begin;
 use crate::running::hearing::heard;
 use crate::running::lane_calls::places_of;
@@ -48,8 +48,8 @@ struct Place<'a> {
     at: u32,
     /// The seat of the lane in which that line stands.
     seat: Option<u32>,
-    /// The line itself.
-    line: Line<'a>,
+    /// The line itself, where it stands in one.
+    line: Option<Line<'a>>,
     turns: Turns,
 }
 
@@ -80,8 +80,20 @@ impl<'a> Place<'a> {
         self.at += 1;
     }
 
+    /// Goes past a line that begins neither a phase nor a lane's part of one.
+    #[inline(always)]
+    fn leave(&mut self, script: &Script)
+        requires within { self.old.at < length script.now }
+        ensures seat { self.new.seat ≡ self.old.seat }
+        ensures at { self.new.at ≡ self.old.at + 1 }
+    {
+        let _count = script.len();
+        self.at += 1;
+    }
+
     /// Goes on to the next line that asks for a call, whichever lane it is of, and begins it. Lines that ask for none are done on the way,
     /// and those that begin a phase or a lane's part of it aren't made.
+    #[inline(always)]
     fn find(
         &mut self,
         script: &'a Script,
@@ -107,8 +119,11 @@ impl<'a> Place<'a> {
         'lines: while self.at < script.len() {
             let role = role_at(script, self.at);
             if let Some(seat) = seat_asking(self.seat, role) {
-                self.line = line_at(script, self.at);
-                let (number, line) = (self.at + 1, &self.line);
+                self.line = line_kept(script, self.at);
+                let Some(line) = &self.line else {
+                    unreachable!()
+                };
+                let number = self.at + 1;
                 let names = &mut places[seat as usize];
                 begin(
                     policy, header, names, number, role, line, written, copying, begun,
@@ -180,7 +195,7 @@ impl<'a> SerialCalls<'a> {
         let mut here = Place {
             at: 0,
             seat: None,
-            line: Line::Skipped,
+            line: None,
             turns: Turns::new(),
         };
         here.find(
@@ -212,7 +227,10 @@ impl<'a> SerialCalls<'a> {
         ensures { made_by result call.new ≡ next_entry self.now }
     {
         let _count = self.script.len();
-        let (line, written) = (&self.here.line, &self.written[..count]);
+        let Some(line) = &self.here.line else {
+            unreachable!()
+        };
+        let written = &self.written[..count];
         let places = &self.places[seat as usize];
         let number = self.here.at + 1;
         call_of(&self.header, places, seat, number, line, written, call)
@@ -254,6 +272,7 @@ impl<'a> SerialCalls<'a> {
     }
 
     /// Takes the answer to the next entry: the reply, and the bytes that were read, if any. It takes no memory.
+    #[inline(always)]
     pub fn hear(&mut self, reply: &Reply, bytes: &[u8])
         requires due { is_some (next_entry self.old) ≡ true }
         requires few { length bytes.now ≤ 4096 }
@@ -268,9 +287,11 @@ impl<'a> SerialCalls<'a> {
         let Some(seat) = self.here.seat else {
             unreachable!()
         };
-        bind(&mut self.places[seat as usize], &self.here.line, &handed);
-        let role = role_at(self.script, self.here.at);
-        self.here.pass(self.script, role);
+        let Some(line) = &self.here.line else {
+            unreachable!()
+        };
+        bind(&mut self.places[seat as usize], line, &handed);
+        self.here.leave(self.script);
         self.here.find(
             self.script,
             self.policy,

@@ -1,5 +1,5 @@
 use Rattle.std.proofs.Common.{sym, ap, ◌∙◌}
-use Rattle.ix_asking.specs.{Asking.first, Steps.next_of}
+use Rattle.ix_asking.specs.{Steps.next_of}
 use Rattle.ix_lanes.{specs.running.Serially.entry_next, proofs.phased.InOrder.came_next}
 use Rattle.ix_lanes.proofs.running.serial_calls.called.Goals as goal
 

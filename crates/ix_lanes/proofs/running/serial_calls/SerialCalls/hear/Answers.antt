@@ -1,12 +1,12 @@
-use Rattle.std.proofs.Common.{◌≡◌, ◌∷◌, ◌+◌, ◌<◌, List, Some, map, drop, sym, ap, ◌∙◌, subst, length, arith}
+use Rattle.std.proofs.Common.{◌≡◌, ◌∷◌, ◌+◌, ◌<◌, List, Some, map, drop, take, sym, ap, ◌∙◌, subst, length, arith}
 use Rattle.std.{specs.Vec.with_item, proofs.lemmas.List.with_items_is}
 use Rattle.ix_model.specs.{history.Step.step_of, world.World.World}
 use Rattle.ix_asking.specs.Asking.{Answered}
-use Rattle.ix_script.specs.declared.line.Line.{Line}
+use Rattle.ix_script.specs.{lines.Before.lanes_of, declared.line.Line.Line, scripts.Schedule.seat_after}
 use Rattle.ix_lanes.specs.{asking.{Asked.Names, Places.standing}, declared.asking.places.Places.Places}
 use Rattle.ix_lanes.specs.histories.{Indexed.line_in, Serial.{header_of, names_of, serial_from}}
-use Rattle.ix_lanes.specs.running.{Left.IsHeard, Serially.{ArePlaced, LeavesLines, SerialLeft, entries_left, most_entries, next_entry}}
-use Rattle.ix_lanes.proofs.{found.Roles.line-there, phased.Placed.placed-line}
+use Rattle.ix_lanes.specs.running.{Left.IsHeard, Phases.seat_at, Serially.{ArePlaced, LeavesLines, SerialLeft, entries_left, most_entries, next_entry}}
+use Rattle.ix_lanes.proofs.{found.Roles.{line-there, seat-stays}, phased.{LaneLines.seat_one_more, Placed.placed-line}}
 use Rattle.ix_lanes.proofs.phased.InOrder.{due_seen, goes_on, indexed, lane_is, lane_mine, lane_within, line_asks_on, line_done, lines_behind, placed_set}
 use Rattle.ix_lanes.proofs.phased.InOrder.{still_fewer, still_within}
 use Rattle.ix_lanes.proofs.running.serial_calls.SerialCalls.hear.Goals as goal
@@ -82,8 +82,21 @@ bind-requires c =
     let is = sym c.self.invariant.1.in_lane ∙ c.in-Some-seat.is in
     let low = lane_within s i.places.items i.here.at k c.self.invariant.0.placed is in
     let there = indexed i.places.items k c.index_mut.result.now low (sym c.index_mut.ensures.value) in
-    let line = line-there s i.here.at (c.self.invariant.1.low st.0) ∙ ap Some (sym (c.self.invariant.1.line st.0)) in
-    placed-line s k i.here.at i.here.line line c.index_mut.result.now (lane_mine s i.places.items i.here.at k c.self.invariant.0.placed is) (c.self.invariant.0.placed.placed k _ there)
+    let same : c.in-Some-line.line ≡ line_in s i.here.at = let e = sym c.in-Some-line.is ∙ c.self.invariant.1.line st.0 in cc in
+    let line = line-there s i.here.at (c.self.invariant.1.low st.0) ∙ ap Some (sym same) in
+    placed-line s k i.here.at c.in-Some-line.line line c.index_mut.result.now (lane_mine s i.places.items i.here.at k c.self.invariant.0.placed is) (c.self.invariant.0.placed.placed k _ there)
+
+pub find-requires-clause-seat : goal.find-requires-clause-seat
+find-requires-clause-seat c =
+    let i = c.self.inside in
+    let s : List Line = i.script.now in
+    let at = i.here.at in
+    let st = due_seen c.self.view_is c.requires.due in
+    c.leave.ensures.seat
+    ∙ sym (seat-stays (lanes_of s) i.here.seat (line_in s at) (c.self.invariant.1.apart st.0))
+    ∙ ap (λ o. seat_after (lanes_of s) o (line_in s at)) c.self.invariant.1.in_lane
+    ∙ sym (seat_one_more s at (line_in s at) (line-there s at (c.self.invariant.1.low st.0)))
+    ∙ ap (λ n. seat_at s (take n s)) (sym c.leave.ensures.at)
 
 pub find-requires-clause-places : goal.find-requires-clause-places
 find-requires-clause-places c =
@@ -104,6 +117,8 @@ returns-clause-on c =
     let there = indexed i.places.items k c.index_mut.result.now low (sym c.index_mut.ensures.value) in
     let names : Names = names_of (map standing i.places.items) k in
     let a : Answered = record { reply = c.args.reply.now; bytes = c.args.bytes.now } in
+    let same : c.in-Some-line.line ≡ line_in s i.here.at = let e = sym c.in-Some-line.is ∙ c.self.invariant.1.line st.0 in cc in
+    let stays = c.leave.ensures.seat ∙ sym (seat-stays (lanes_of s) i.here.seat (line_in s i.here.at) (c.self.invariant.1.apart st.0)) in
     let done = (c.in-Some.ensures (header_of s) names (i.here.at + 1) (line_in s i.here.at) (st.1 k c.in-Some-seat.is)).0 in
     let new : List Places → SerialLeft = λ places. record {
       script = s;
@@ -113,18 +128,18 @@ returns-clause-on c =
       copying = c.find.new.copying;
       part = c.find.new.begun;
     } in
-    let left : LeavesLines s c.as_mut_slice.result.now c.pass.new.self.seat c.pass.new.self.at (new c.find.new.places) = c.find.ensures.left in
+    let left : LeavesLines s c.as_mut_slice.result.now c.leave.new.self.seat c.leave.new.self.at (new c.find.new.places) = c.find.ensures.left in
     let few : length c.find.new.places ≡ i.places.len = omega (arith, c.find.ensures.places.count, c.self.invariant.0.placed.count, i.places.ok) in
     let items = with_items_is (with_item i.places k c.bind.new.places) c.find.new.places few in
     λ w place e next gave.
     let x : World = (step_of w place e).world in
     let behind =
-    lines_behind s i.places.items i.here.at k c.index_mut.result.now there i.here.seat c.in-Some-seat.is i.here.line (c.self.invariant.1.line st.0)
+    lines_behind s i.places.items i.here.at k c.index_mut.result.now there i.here.seat c.in-Some-seat.is c.in-Some-line.line same
     c.in-Some.handed c.bind.new.places c.bind.ensures.set
-    c.pass.new.self.seat c.pass.ensures.seat c.pass.new.self.at c.pass.ensures.at x (place + 1) in
+    c.leave.new.self.seat stays c.leave.new.self.at c.leave.ensures.at x (place + 1) in
     ap (λ y. entries_left y w place) (sym c.self.view_is)
     ∙ line_done s (map standing i.places.items) i.here.at i.here.seat k c.in-Some-seat.is i.copying i.part st.0 a c.in-Some.handed done w place e (ap next_entry c.self.view_is ∙ next) gave
     ∙ ap (λ events. e ∷ events) (sym behind)
-    ∙ ap (λ places. e ∷ serial_from s x (place + 1) (map standing places) c.pass.new.self.seat (c.pass.new.self.at + 1) (drop c.pass.new.self.at s)) (sym c.as_mut_slice.ensures.value)
+    ∙ ap (λ places. e ∷ serial_from s x (place + 1) (map standing places) c.leave.new.self.seat (c.leave.new.self.at + 1) (drop c.leave.new.self.at s)) (sym c.as_mut_slice.ensures.value)
     ∙ ap (λ events. e ∷ events) (sym (left x (place + 1)))
     ∙ ap (λ places. e ∷ entries_left (new places) x (place + 1)) (sym items)

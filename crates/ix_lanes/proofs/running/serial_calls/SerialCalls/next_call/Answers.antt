@@ -1,14 +1,13 @@
-use Rattle.std.proofs.Common.{◌≡◌, List, Some, map, sym, ap, ◌∙◌}
-use Rattle.ix_asking.specs.{Asking.{Asking, first}, declared.serving.outcome.Outcome.Outcome}
+use Rattle.std.proofs.Common.{List, map, sym, ap, ◌∙◌}
+use Rattle.ix_asking.specs.{Asking.{Asking}, declared.serving.outcome.Outcome.Outcome}
 use Rattle.ix_privserv.specs.Places as privileges
 use Rattle.ix_privserv.specs.declared.server.PrivServer.{PrivServer}
 use Rattle.ix_sessserv.specs.Places as sessions
 use Rattle.ix_sessserv.specs.declared.server.SessServer.{SessServer}
 use Rattle.ix_script.specs.declared.line.Line.{Line}
-use Rattle.ix_lanes.specs.{asking.{Places.standing, Handing.who_in}, declared.running.part.Part.Part, running.Serially.next_entry}
+use Rattle.ix_lanes.specs.{asking.{Places.standing, Handing.who_in}, running.Serially.next_entry}
 use Rattle.ix_lanes.proofs.phased.InOrder.{mapped_next}
 use Rattle.ix_lanes.specs.declared.asking.handed.Handed.TheVariants as handed
-use Rattle.ix_lanes.specs.declared.running.part.Part.TheVariants as part
 use Rattle.ix_lanes.proofs.running.serial_calls.SerialCalls.next_call.Goals as goal
 
 pub returns-in-Priv-clause-entry : goal.returns-in-Priv-clause-entry
