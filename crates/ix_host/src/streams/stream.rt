@@ -7,7 +7,7 @@ use ix_io::{Failed, Sink, Source};
 use std::alloc::Global;
 
 /// The most bytes of one read.
-const PIECE: usize = 4096;
+const PIECE: usize = 65_536;
 
 /// What a source gave.
 #[derive(Drop)]
@@ -29,9 +29,9 @@ pub fn read_all<S: Source>(alloc: Global, source: &mut S, max: usize) -> Input
     ensures fault { result ≡ Input.Fault → Rose (S.faults source.old) (S.faults source.new) }
     ensures kept { ¬ (result ≡ Input.Fault) → S.faults source.new ≡ S.faults source.old }
 {
-    let mut bytes = Vec::new(alloc);
+    let (mut bytes, mut room) = (Vec::new(alloc), [0; PIECE]);
     'pieces: while bytes.len() <= max {
-        match read_piece(source, &mut bytes, max) {
+        match read_piece(source, &mut bytes, &mut room, max) {
             Piece::More => {}
             Piece::End => return Input::Whole(bytes),
             Piece::Fault => return Input::Fault,
@@ -50,8 +50,13 @@ enum Piece {
     NoMemory,
 }
 
-/// Reads a piece, and puts it at the end of what was read.
-fn read_piece<S: Source>(source: &mut S, bytes: &mut Vec<u8>, max: usize) -> Piece
+/// Reads a piece into a room for it, and puts it at the end of what was read.
+fn read_piece<S: Source>(
+    source: &mut S,
+    bytes: &mut Vec<u8>,
+    room: &mut [u8; PIECE],
+    max: usize,
+) -> Piece
     requires few { max ≤ longest }
     requires within { vec_len bytes.old ≤ max }
     ensures told { (all : List ℕ) → IsFront all bytes.old.items (S.left source.old) → GoesOn all bytes.new.items (S.left source.new) result }
@@ -61,9 +66,8 @@ fn read_piece<S: Source>(source: &mut S, bytes: &mut Vec<u8>, max: usize) -> Pie
     ensures fault { result ≡ Piece.Fault → Rose (S.faults source.old) (S.faults source.new) }
     ensures kept { ¬ (result ≡ Piece.Fault) → S.faults source.new ≡ S.faults source.old }
 {
-    let mut buf = [0; PIECE];
     let most = PIECE.min(max + 1 - bytes.len());
-    let piece = &mut buf[..most];
+    let piece = &mut room[..most];
     match source.read(piece) {
         Err(Failed) => Piece::Fault,
         Ok(0) => Piece::End,
