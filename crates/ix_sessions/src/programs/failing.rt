@@ -4,14 +4,14 @@ use ix_io::{MemSink, MemSource};
 use std::alloc::{AllocError, Global};
 use std::process::Abort;
 
-/// What a file is read by, over and over, behind a comment: two pieces of a source, and a report of three pieces of a sink.
+/// What a file is read by, over and over, behind comments: two pieces of a source, and a report of three pieces of a sink.
 fn long_script(alloc: Global) -> Result<Vec<u8>, AllocError> {
     let mut script = Vec::from_slice(
         alloc,
         b"ix 1\nproc a - * - -\nfile /x - free - - 4096*61\nphase\nlane m\nopen a /x r as f\n#",
     )?;
-    for _ in 0..5000 {
-        script.push(b'#')?;
+    for _ in 0..10_000 {
+        script.extend_from_slice(b"######\n#")?;
     }
     for _ in 0..17 {
         script.extend_from_slice(b"\nread a f 4096\nseek a f 0")?;
