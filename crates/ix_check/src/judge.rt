@@ -43,7 +43,7 @@ impl<'a> Judge<'a, LaneCalls<'a>> {
     /// all the memory that a text's judging needs, but for lines longer than 32,768 bytes.
     pub fn new(
         alloc: Global,
-        script: &'a Script,
+        script: &'a Script<'a>,
         header: &'a Bindings<u32>,
         policy: Option<&'a Policy>,
         core: Core,
@@ -67,7 +67,7 @@ impl<'a> Judge<'a, LaneCalls<'a>> {
 }
 
 /// The seat of the lane that a line names, where it has the turn.
-fn called<L: LaneSteps>(script: &Script, core: &Core, lanes: &[L], line: &[u8]) -> Option<u32>
+fn called<L: LaneSteps>(script: &Script<'_>, core: &Core, lanes: &[L], line: &[u8]) -> Option<u32>
     ensures { (state : State World (List Answered)) → IsAmong L.at script.now core.now lanes.now state
         → IsCalled L.at lanes.now (told_call (judged_plan script.now) state line.now) result }
 {

@@ -58,7 +58,7 @@ impl LaneSteps for LaneCalls<'_> {
 /// there was none for them.
 pub fn first_lanes<'a>(
     alloc: Global,
-    script: &'a Script,
+    script: &'a Script<'a>,
     header: &'a Bindings<u32>,
     policy: Option<&'a Policy>,
 ) -> Result<Vec<LaneCalls<'a>>, NoMemory>

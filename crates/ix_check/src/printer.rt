@@ -12,7 +12,7 @@ const ROOM: usize = 32_768;
 /// What prints the line of an entry of a script when it sees it, in the place of what stood there.
 #[derive(Drop)]
 pub struct Printer<'a> {
-    pub script: &'a Script,
+    pub script: &'a Script<'a>,
     /// How many entries there were before.
     count: u32,
     pub line: Vec<u8>,
@@ -22,7 +22,7 @@ pub struct Printer<'a> {
 
 impl<'a> Printer<'a> {
     /// One that has printed nothing, with room for a line. `NoMemory` where there was none for that room.
-    pub fn new(alloc: Global, script: &'a Script) -> Result<Printer<'a>, NoMemory>
+    pub fn new(alloc: Global, script: &'a Script<'a>) -> Result<Printer<'a>, NoMemory>
         ensures script { IfOk result (λ printer. printer.script.now ≡ script.now) }
     {
         let line = Vec::with_capacity(alloc, ROOM)?;

@@ -24,7 +24,7 @@ fn names_lane(text: &[u8], name: &[u8]) -> bool
 }
 
 /// The seat of the lane with whose name a text begins, a space behind it.
-fn seat_named(script: &Script, text: &[u8]) -> Option<u32>
+fn seat_named(script: &Script<'_>, text: &[u8]) -> Option<u32>
     ensures { result ≡ told_from 0 [] (lanes_of script.now) text.now }
 {
     for seat in 0..script.len() {
@@ -49,7 +49,7 @@ fn behind_place(line: &[u8], place: u32) -> Option<&[u8]>
 }
 
 /// The seat of the lane that a line names behind the place of its entry, where it begins so.
-pub fn told_seat(script: &Script, place: u32, line: &[u8]) -> Option<u32>
+pub fn told_seat(script: &Script<'_>, place: u32, line: &[u8]) -> Option<u32>
     ensures { result ≡ told_from 0 (mark place) (lanes_of script.now) line.now }
 {
     match behind_place(line, place) {

@@ -20,7 +20,7 @@ use std::alloc::Global;
 /// What is answered of a text that claims to be the report of a script.
 fn judge(
     alloc: Global,
-    script: &Script,
+    script: &Script<'_>,
     policy: Option<&Policy>,
     claimed: &[u8],
 ) -> Result<Verdict, NoMemory>
@@ -37,7 +37,7 @@ fn judge(
 /// The line of what is answered.
 fn answer(
     alloc: Global,
-    script: &Script,
+    script: &Script<'_>,
     policy: Option<&Policy>,
     claimed: &[u8],
 ) -> Result<Vec<u8>, NoMemory>
@@ -55,7 +55,7 @@ fn answer(
 pub fn check<K: Sink>(
     alloc: Global,
     sink: &mut K,
-    script: &Script,
+    script: &Script<'_>,
     policy: Option<&Policy>,
     claimed: &[u8],
 ) -> Status

@@ -25,8 +25,8 @@ fn tell_both<K: Sink>(
     alloc: Global,
     sink: &mut K,
     at: &Label,
-    one: (&Script, Option<&Policy>),
-    two: (&Script, Option<&Policy>),
+    one: (&Script<'_>, Option<&Policy>),
+    two: (&Script<'_>, Option<&Policy>),
 ) -> Status
     requires first { option_map (λ p. p.now) one.1 ≡ rules_told one.0.now }
     requires second { option_map (λ p. p.now) two.1 ≡ rules_told two.0.now }
@@ -44,8 +44,8 @@ fn compare_with<K: Sink>(
     alloc: Global,
     sink: &mut K,
     at: &Label,
-    one: (&Script, Option<&Policy>),
-    second: &Script,
+    one: (&Script<'_>, Option<&Policy>),
+    second: &Script<'_>,
     lines: u32,
 ) -> Status
     requires first { option_map (λ p. p.now) one.1 ≡ rules_told one.0.now }
@@ -68,7 +68,7 @@ pub fn twin<K: Sink>(
     alloc: Global,
     sink: &mut K,
     at: &Label,
-    one: (&Script, Option<&Policy>),
+    one: (&Script<'_>, Option<&Policy>),
     input: &[u8],
 ) -> Status
     requires first { option_map (λ p. p.now) one.1 ≡ rules_told one.0.now }

@@ -37,7 +37,7 @@ fn sum_up_serial<K: Sink>(
     alloc: Global,
     sink: &mut K,
     count: u32,
-    script: &Script,
+    script: &Script<'_>,
     policy: Option<&Policy>,
 ) -> Status
     requires policy { option_map (λ p. p.now) policy ≡ rules_told script.now }
@@ -56,7 +56,7 @@ fn sum_up_again<K: Sink>(
     alloc: Global,
     sink: &mut K,
     count: u32,
-    script: &Script,
+    script: &Script<'_>,
     history: &Core,
 ) -> Status
     requires config { history.now.config ≡ config_of script.now }
@@ -76,7 +76,7 @@ pub fn tell_serial<K: Sink>(
     alloc: Global,
     sink: &mut K,
     telling: Telling,
-    script: &Script,
+    script: &Script<'_>,
     policy: Option<&Policy>,
 ) -> Status
     requires policy { option_map (λ p. p.now) policy ≡ rules_told script.now }
@@ -94,7 +94,7 @@ pub fn conclude<K: Sink>(
     alloc: Global,
     sink: &mut K,
     telling: Telling,
-    script: &Script,
+    script: &Script<'_>,
     history: &Core,
 ) -> Status
     requires config { history.now.config ≡ config_of script.now }

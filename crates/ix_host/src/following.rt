@@ -17,7 +17,7 @@ use ix_script::Script;
 use std::alloc::Global;
 
 /// A core without entries, of a script's config.
-fn first_core(alloc: Global, script: &Script) -> Result<Core, NoMemory>
+fn first_core(alloc: Global, script: &Script<'_>) -> Result<Core, NoMemory>
     ensures { IfOk result (λ core. core ≡ record { config = config_of script.now; events = [] }) }
 {
     Core::boot(alloc, script.config(alloc)?)
@@ -27,7 +27,7 @@ fn first_core(alloc: Global, script: &Script) -> Result<Core, NoMemory>
 pub fn flow<K: Sink>(
     alloc: Global,
     sink: &mut K,
-    script: &Script,
+    script: &Script<'_>,
     policy: Option<&Policy>,
 ) -> Status
     requires policy { option_map (λ p. p.now) policy ≡ rules_told script.now }

@@ -79,7 +79,15 @@ pub fn run_lanes<S: Source, K: Sink, W: Watch, R: Threads + Wait + Sync>(
     let Ok(asked) = lanes_command(alloc, words) else {
         return Status::NoMemory;
     };
-    match prepare(alloc, b"usage: ixrun run\n", asked, source, sink) {
+    let mut input = Vec::new(alloc);
+    match prepare(
+        alloc,
+        b"usage: ixrun run\n",
+        asked,
+        source,
+        sink,
+        &mut input,
+    ) {
         Task::Ended(status) => status,
         Task::Run(telling, script, policy) => {
             match run_history(rt, alloc, &script, policy.as_ref(), watch) {

@@ -18,7 +18,7 @@ pub enum ScriptPolicy {
 
 /// Reads the policy of a script, if it has one. `NoMemory` where there was none for its rules.
 #[tactic(auto, unfolding(crate::specs::Policies::policy_refusal, ix_lanes::specs::asking::Ruled::rules_told))]
-pub fn policy_of(alloc: Global, script: &Script) -> Result<ScriptPolicy, NoMemory>
+pub fn policy_of(alloc: Global, script: &Script<'_>) -> Result<ScriptPolicy, NoMemory>
     ensures { IfOk result (λ policy. IsPolicy script.now policy) }
 {
     let Some((line, text)) = script.policy() else {

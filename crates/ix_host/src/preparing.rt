@@ -32,7 +32,7 @@ use ix_twin::divide;
 use std::alloc::Global;
 
 /// Writes the canonical text of a script, part by part.
-fn print<K: Sink>(alloc: Global, sink: &mut K, script: &Script) -> Status
+fn print<K: Sink>(alloc: Global, sink: &mut K, script: &Script<'_>) -> Status
     ensures { Ends (outcome.Whole (canonical script.now)) result (K.taken sink.old) (K.taken sink.new) (K.finished sink.new)
         (K.faults sink.old) (K.faults sink.new) }
 {
@@ -54,20 +54,20 @@ fn print<K: Sink>(alloc: Global, sink: &mut K, script: &Script) -> Status
 }
 
 /// What a command asks with a script that it doesn't refuse, and what else is asked for.
-fn accepted_task<K: Sink>(
+fn accepted_task<'a, K: Sink>(
     alloc: Global,
     sink: &mut K,
     command: Command,
-    script: Script,
+    script: Script<'a>,
     policy: Option<Policy>,
     beside: &[u8],
-) -> Task
+) -> Task<'a>
     requires scripted { reads_image command ≡ false }
     requires runnable { IsRunnable script }
     requires accepted { policy_refusal script ≡ None }
     requires short { IsShortFor command beside.now }
     requires policy { policy ≡ rules_told script }
-    ensures leads { LeadsTo (λ history. outcome_for command script beside.now history) script result (K.taken sink.old) (K.taken sink.new)
+    ensures leads { LeadsTo (λ history. outcome_for command script.entry beside.now history) script.entry result (K.taken sink.old) (K.taken sink.new)
         (K.finished sink.new) (K.faults sink.old) (K.faults sink.new) }
     ensures untouched { OnRun result (sink.new ≡ sink.old) }
 {
@@ -87,18 +87,18 @@ fn accepted_task<K: Sink>(
 }
 
 /// What a command asks with a script whose policy, on that line, is refused. A made script has none.
-fn refused_task<K: Sink>(
+fn refused_task<'a, K: Sink>(
     alloc: Global,
     sink: &mut K,
     command: Command,
-    script: Script,
+    script: Script<'a>,
     line: u32,
-) -> Task
+) -> Task<'a>
     requires scripted { reads_image command ≡ false }
     requires runnable { IsRunnable script }
     requires policy { rules_told script ≡ None }
     requires refusal { policy_refusal script ≡ Some (line, 27) }
-    ensures leads { (beside : List ℕ) → LeadsTo (λ history. outcome_for command script beside history) script result (K.taken sink.old) (K.taken sink.new)
+    ensures leads { (beside : List ℕ) → LeadsTo (λ history. outcome_for command script.entry beside history) script.entry result (K.taken sink.old) (K.taken sink.new)
         (K.finished sink.new) (K.faults sink.old) (K.faults sink.new) }
     ensures untouched { OnRun result (sink.new ≡ sink.old) }
 {
@@ -115,17 +115,17 @@ fn refused_task<K: Sink>(
 }
 
 /// What a command asks with a script, and what else is asked for.
-fn script_task<K: Sink>(
+fn script_task<'a, K: Sink>(
     alloc: Global,
     sink: &mut K,
     command: Command,
-    script: Script,
+    script: Script<'a>,
     beside: &[u8],
-) -> Task
+) -> Task<'a>
     requires scripted { reads_image command ≡ false }
     requires runnable { IsRunnable script }
     requires short { IsShortFor command beside.now }
-    ensures leads { LeadsTo (λ history. outcome_for command script beside.now history) script result (K.taken sink.old) (K.taken sink.new)
+    ensures leads { LeadsTo (λ history. outcome_for command script.entry beside.now history) script.entry result (K.taken sink.old) (K.taken sink.new)
         (K.finished sink.new) (K.faults sink.old) (K.faults sink.new) }
     ensures untouched { OnRun result (sink.new ≡ sink.old) }
 {
@@ -156,7 +156,12 @@ fn parts_for<'a>(command: &Command, bytes: &'a [u8]) -> (&'a [u8], &'a [u8])
 }
 
 /// What a command asks with an input in which a script stands.
-fn parts_task<K: Sink>(alloc: Global, sink: &mut K, command: Command, bytes: &[u8]) -> Task
+fn parts_task<'a, K: Sink>(
+    alloc: Global,
+    sink: &mut K,
+    command: Command,
+    bytes: &'a [u8],
+) -> Task<'a>
     requires scripted { reads_image command ≡ false }
     requires readable { IsReadable command bytes.now }
     ensures leads { LeadsTo (λ history. outcome_in command bytes.now history) (script_in (script_bytes command bytes.now)) result (K.taken sink.old) (K.taken sink.new)
@@ -174,7 +179,12 @@ fn parts_task<K: Sink>(alloc: Global, sink: &mut K, command: Command, bytes: &[u
 }
 
 /// What a command asks with an input.
-fn input_task<K: Sink>(alloc: Global, sink: &mut K, command: Command, bytes: &[u8]) -> Task
+fn input_task<'a, K: Sink>(
+    alloc: Global,
+    sink: &mut K,
+    command: Command,
+    bytes: &'a [u8],
+) -> Task<'a>
     requires { IsReadable command bytes.now }
     ensures leads { LeadsTo (λ history. outcome_in command bytes.now history) (script_in (script_bytes command bytes.now)) result (K.taken sink.old) (K.taken sink.new)
         (K.finished sink.new) (K.faults sink.old) (K.faults sink.new) }
@@ -188,13 +198,15 @@ fn input_task<K: Sink>(alloc: Global, sink: &mut K, command: Command, bytes: &[u
 }
 
 /// Does what is asked for up to the run of lanes, where there is to be one, and writes the usage line where nothing is asked for.
-pub fn prepare<S: Source, K: Sink>(
+/// What is read is put into `input`, which the script of a run borrows.
+pub fn prepare<'a, S: Source, K: Sink>(
     alloc: Global,
     usage: &[u8],
     asked: Option<Command>,
     source: &mut S,
     sink: &mut K,
-) -> Task
+    input: &'a mut Vec<u8>,
+) -> Task<'a>
     requires { IfSome asked IsCounted }
     // What is read.
     ensures bounded { IfSome (S.left source.old) (λ bytes. TakesFew (input_max asked) bytes (S.left source.new)) }
@@ -216,7 +228,10 @@ pub fn prepare<S: Source, K: Sink>(
         return Task::Ended(tell(sink, usage, Status::Usage));
     };
     match input_for(alloc, &command, source) {
-        Input::Whole(bytes) => input_task(alloc, sink, command, bytes.as_slice()),
+        Input::Whole(bytes) => {
+            *input = bytes;
+            input_task(alloc, sink, command, input.as_slice())
+        }
         Input::TooLong => Task::Ended(refuse_long(alloc, sink, &command)),
         Input::Fault => Task::Ended(Status::ReadFault),
         Input::NoMemory => Task::Ended(Status::NoMemory),

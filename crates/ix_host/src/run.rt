@@ -90,7 +90,8 @@ pub fn run_serial<S: Source, K: Sink>(
         return Status::NoMemory;
     };
     let usage = b"usage: ixone run | print | gen COUNT | check | flow | save | load | twin LABEL\n";
-    match prepare(alloc, usage, asked, source, sink) {
+    let mut input = Vec::new(alloc);
+    match prepare(alloc, usage, asked, source, sink, &mut input) {
         Task::Ended(status) => status,
         Task::Run(telling, script, policy) => {
             tell_serial(alloc, sink, telling, &script, policy.as_ref())

@@ -38,7 +38,7 @@ impl Witness for Nobody {
 }
 
 /// The file systems of a script's config, and a core without entries of that config.
-fn first_core(alloc: Global, script: &Script) -> Result<(Vec<FsSpec>, Core), NoMemory>
+fn first_core(alloc: Global, script: &Script<'_>) -> Result<(Vec<FsSpec>, Core), NoMemory>
     ensures fss { IfOk result (λ r. r.0.items ≡ (config_of script.now).fss) }
     ensures few { IfOk result (λ r. length r.0.items ≤ 16) }
     ensures core { IfOk result (λ r. r.1 ≡ record { config = config_of script.now; events = [] }) }
@@ -79,7 +79,7 @@ fn tell_image<K: Sink>(alloc: Global, sink: &mut K, fss: &[FsSpec], core: &Core)
 pub fn save<K: Sink>(
     alloc: Global,
     sink: &mut K,
-    script: &Script,
+    script: &Script<'_>,
     policy: Option<&Policy>,
 ) -> Status
     requires policy { option_map (λ p. p.now) policy ≡ rules_told script.now }

@@ -13,9 +13,9 @@ pub enum Telling {
 
 /// What is left to do of what was asked for.
 #[derive(Drop)]
-pub enum Task {
+pub enum Task<'a> {
     /// Nothing: it came to an end with this status.
     Ended(Status),
     /// The lanes of a script are to be run by its policy, if it has one, and this is to be told of the history to which they come.
-    Run(Telling, Script, Option<Policy>),
+    Run(Telling, Script<'a>, Option<Policy>),
 }

@@ -13,7 +13,7 @@ use std::alloc::Global;
 fn add_proc(
     header: &mut Bindings<u32>,
     count: u32,
-    script: &Script,
+    script: &Script<'_>,
     index: u32,
 ) -> Result<u32, NoMemory>
     requires few { count < 4294967295 }
@@ -32,7 +32,7 @@ fn add_proc(
 }
 
 /// The processes of the header, by their names: they have pids 1, 2 and so on, in order. `NoMemory` where there was none for them.
-pub fn header_of(alloc: Global, script: &Script) -> Result<Bindings<u32>, NoMemory>
+pub fn header_of(alloc: Global, script: &Script<'_>) -> Result<Bindings<u32>, NoMemory>
     ensures { IfOk result (λ header. header ≡ header_of script.now) }
 {
     let mut header = Bindings::new(alloc);
@@ -44,7 +44,7 @@ pub fn header_of(alloc: Global, script: &Script) -> Result<Bindings<u32>, NoMemo
 }
 
 /// The seat of the lane of a name.
-fn seat_of(script: &Script, name: &NameWord<'_>) -> Option<u32>
+fn seat_of(script: &Script<'_>, name: &NameWord<'_>) -> Option<u32>
     ensures { result ≡ seat_from 0 name.now (lanes_of script.now) }
 {
     for seat in 0..script.len() {
@@ -60,7 +60,7 @@ fn seat_of(script: &Script, name: &NameWord<'_>) -> Option<u32>
 
 /// The seat of the lane in which the line after the one at an index stands. Of the lines only one that begins a lane's part of a phase is
 /// made for it.
-pub fn seat_past(script: &Script, seat: Option<u32>, index: u32, role: Role) -> Option<u32>
+pub fn seat_past(script: &Script<'_>, seat: Option<u32>, index: u32, role: Role) -> Option<u32>
     requires within { index < length script.now }
     requires role { role ≡ role_of (line_in script.now index) }
     ensures { result ≡ seat_after (lanes_of script.now) seat (line_in script.now index) }

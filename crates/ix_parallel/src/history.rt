@@ -22,7 +22,7 @@ use std::thread::Threads;
 fn seated<'a, W, R>(
     rt: &'a R,
     alloc: Global,
-    script: &'a Script,
+    script: &'a Script<'a>,
     header: &'a Bindings<u32>,
     policy: Option<&'a Policy>,
     kernel: &'a Kernel,
@@ -79,7 +79,7 @@ fn join_all<R, W>(kernel: &Kernel, lanes: Vec<Lane<'_, Watched<'_, R, W>>>) -> O
 fn run_seats<W: Watch, R: Threads + Wait + Sync>(
     rt: &R,
     alloc: Global,
-    script: &Script,
+    script: &Script<'_>,
     policy: Option<&Policy>,
     kernel: &Kernel,
     seats: Vec<KSeat>,
@@ -102,7 +102,7 @@ fn run_seats<W: Watch, R: Threads + Wait + Sync>(
 }
 
 /// The core of a kernel, once all lanes have run and their seats were joined into this one. Its journal had room for all their calls.
-fn close(script: &Script, kernel: Kernel, seat: KSeat, stop: Option<Answer>) -> Core
+fn close(script: &Script<'_>, kernel: Kernel, seat: KSeat, stop: Option<Answer>) -> Core
     requires { StandsForAll script.now kernel seat stop }
     ensures config { result.config ≡ config_of script.now }
     ensures history { IsHistory script.now result.events }
@@ -122,7 +122,7 @@ fn close(script: &Script, kernel: Kernel, seat: KSeat, stop: Option<Answer>) -> 
 pub fn run_history<W: Watch, R: Threads + Wait + Sync>(
     rt: &R,
     alloc: Global,
-    script: &Script,
+    script: &Script<'_>,
     policy: Option<&Policy>,
     watch: &W,
 ) -> Result<Core, NoMemory>

@@ -29,7 +29,7 @@ fn parts_of<'a, R, W>(lanes: &[Lane<'_, Watched<'a, R, W>>], phase: u32) -> [boo
 /// that was made; after it, the first meets each of these. Other lanes meet none.
 fn run_one<'a, W: Watch, R: Threads + Wait + Sync>(
     rt: &R,
-    script: &Script,
+    script: &Script<'_>,
     lanes: &mut [Lane<'_, Watched<'a, R, W>>],
     phase: u32,
     end: u32,
@@ -50,7 +50,7 @@ fn run_one<'a, W: Watch, R: Threads + Wait + Sync>(
 /// Runs all phases of a script, one after the other, until a call of a lane is stopped. The first lane has then seen all that was made.
 fn run_each<'a, W: Watch, R: Threads + Wait + Sync>(
     rt: &R,
-    script: &Script,
+    script: &Script<'_>,
     lanes: &mut [Lane<'_, Watched<'a, R, W>>],
 ) -> Option<Answer>
     requires few { length lanes.old ≤ 64 }
@@ -72,7 +72,7 @@ fn run_each<'a, W: Watch, R: Threads + Wait + Sync>(
 /// lanes have seen all that was made.
 pub fn run_phases<'a, W: Watch, R: Threads + Wait + Sync>(
     rt: &R,
-    script: &Script,
+    script: &Script<'_>,
     lanes: &mut [Lane<'_, Watched<'a, R, W>>],
 ) -> Option<Answer>
     requires few { length lanes.old ≤ 64 }

@@ -1,6 +1,6 @@
-ghost use Rattle.std.specs.Prelude.{◌≡◌, ◌++◌, ◌∷◌, ◌+◌, ◌<◌, ◌^◌, [], true, false, Some, None, length, OnOk, IfOk, IfErr, IsTrue};
+ghost use Rattle.std.specs.Prelude.{◌≡◌, ◌≤◌, ◌++◌, ◌∷◌, ◌+◌, ◌<◌, ◌^◌, [], true, false, Some, None, length, OnOk, IfOk, IfErr, IsTrue};
 ghost use Rattle.ix_script.specs.{lines.Before.{form_told}, lines.Faults.{line_fault, text_fault}, lines.Roles.{role_of}, lines.Said.{line_of}};
-ghost use Rattle.ix_script.specs.{reader.Readers.{HasCause, IsFormed, IsPlain, LineMore, LineRight, is_whole}, reader.Told.{CanGrow, DraftTold, IsNextLane}};
+ghost use Rattle.ix_script.specs.{reader.Readers.{HasCause, IsFormed, IsPlain, LineMore, LineRight, is_whole}, reader.Told.{CanGrow, DraftTold, IsNextLane}, scripts.Packed.{front_of, with_line}};
 ghost use Rattle.{std.{proofs.Common.{option_map}, specs.List.{list_all}}, ix_model.specs.opening.Valid.{is_within}, ix_text.specs.Bytes.{is_empty}};
 
 use crate::body::Body;
@@ -23,19 +23,20 @@ use std::sync::ledger::Ledger;
 /// The lines so far, and what they tell.
 #[derive(Drop)]
 pub(crate) struct Draft<'a> {
-    pub lines: Lines,
+    pub lines: Lines<'a>,
     pub header: Header<'a>,
     pub body: Body<'a>,
 }
 
 impl<'a> Draft<'a> {
-    /// Before any line, with room for those of an input. `NoMemory` where there was none for that room.
-    pub fn new(alloc: Global, bytes: &[u8]) -> Result<Draft<'a>, NoMemory>
+    /// Before any line of a text, with room for all of them. `NoMemory` where there was none for that room.
+    pub fn new(alloc: Global, text: &'a [u8]) -> Result<Draft<'a>, NoMemory>
+        requires { length text.now ≤ 16777216 }
         ensures told { IfOk result (λ d. DraftTold d) }
-        ensures none { IfOk result (λ d. d.lines ≡ []) }
+        ensures none { IfOk result (λ d. d.lines ≡ front_of text.now) }
     {
         Ok(Draft {
-            lines: Lines::for_all(alloc, bytes)?,
+            lines: Lines::of(alloc, text)?,
             header: Header::new(alloc)?,
             body: Body::new(alloc),
         })
@@ -43,10 +44,10 @@ impl<'a> Draft<'a> {
 
     /// One line more, which the text says. After an error the draft isn't used.
     fn add(&mut self, alloc: Global, text: &[u8], line: &Line<'a>) -> Result<(), NoMemory>
-        requires grows { CanGrow self.old }
-        requires right { LineRight self.old.lines line.now (line_fault self.old.lines text.now) (line_of (form_told self.old.lines) text.now) }
+        requires grows { CanGrow self.old text.now }
+        requires right { LineRight self.old.lines.said line.now (line_fault self.old.lines.said text.now) (line_of (form_told self.old.lines.said) text.now) }
         ensures told { OnOk result (DraftTold self.new) }
-        ensures lines { OnOk result (self.new.lines ≡ self.old.lines ++ line.now ∷ []) }
+        ensures lines { OnOk result (self.new.lines ≡ with_line self.old.lines line.now text.now) }
     {
         let first = self.lines.len() == 0;
         let form = self.lines.form_with(line);
@@ -58,8 +59,8 @@ impl<'a> Draft<'a> {
 
     /// The fault of the next line, by the rule that it breaks.
     fn fault(&self, rule: Rule) -> ReadFail
-        requires { length self.now.lines + 1 < 2 ^ 32 }
-        ensures { HasCause result (Some (length self.now.lines + 1, rule.0)) }
+        requires { length self.now.lines.said + 1 < 2 ^ 32 }
+        ensures { HasCause result (Some (length self.now.lines.said + 1, rule.0)) }
     {
         fault_at(self.lines.len() as u32 + 1, rule)
     }
@@ -67,12 +68,12 @@ impl<'a> Draft<'a> {
     /// A command more that gives no name and is no server's: nothing is kept of it but its text and what it costs.
     #[inline(always)]
     fn add_command(&mut self, text: &[u8], cost: u64) -> Result<(), ReadFail>
-        requires grows { CanGrow self.old }
-        requires later { is_empty self.old.lines ≡ false }
-        requires plain { IsPlain self.old.lines text.now cost }
+        requires grows { CanGrow self.old text.now }
+        requires later { is_empty self.old.lines.said ≡ false }
+        requires plain { IsPlain self.old.lines.said text.now cost }
         ensures told { OnOk result (DraftTold self.new) }
         ensures line { OnOk result (LineMore self.old.lines self.new.lines text.now) }
-        ensures fail { IfErr result (λ e. HasCause e (option_map (λ rule. (length self.old.lines + 1, rule)) (line_fault self.old.lines text.now))) }
+        ensures fail { IfErr result (λ e. HasCause e (option_map (λ rule. (length self.old.lines.said + 1, rule)) (line_fault self.old.lines.said text.now))) }
     {
         if self.body.commands >= 200_000 {
             return Err(self.fault(Rule::TOO_MANY));
@@ -96,8 +97,8 @@ impl<'a> Draft<'a> {
 
     /// That line: it breaks no rule.
     fn add_next_lane(&mut self, text: &'a [u8]) -> Result<(), NoMemory>
-        requires grows { CanGrow self.old }
-        requires later { is_empty self.old.lines ≡ false }
+        requires grows { CanGrow self.old text.now }
+        requires later { is_empty self.old.lines.said ≡ false }
         requires text { text_fault text.now ≡ None }
         requires next { IsNextLane self.old text.now }
         ensures told { OnOk result (DraftTold self.new) }
@@ -120,12 +121,12 @@ impl<'a> Draft<'a> {
         words: &Words<'a>,
         steps: &mut Steps<L>,
     ) -> Result<(), ReadFail>
-        requires grows { CanGrow self.old }
-        requires later { is_empty self.old.lines ≡ false }
-        requires formed { IsFormed self.old.lines text.now form words.now }
+        requires grows { CanGrow self.old text.now }
+        requires later { is_empty self.old.lines.said ≡ false }
+        requires formed { IsFormed self.old.lines.said text.now form words.now }
         ensures told { OnOk result (DraftTold self.new) }
         ensures line { OnOk result (LineMore self.old.lines self.new.lines text.now) }
-        ensures fail { IfErr result (λ e. HasCause e (option_map (λ rule. (length self.old.lines + 1, rule)) (line_fault self.old.lines text.now))) }
+        ensures fail { IfErr result (λ e. HasCause e (option_map (λ rule. (length self.old.lines.said + 1, rule)) (line_fault self.old.lines.said text.now))) }
     {
         let line = line_said(self.lines.form(), form, words).unwrap();
         if let Role::Command = role_of(&line) {
@@ -140,12 +141,12 @@ impl<'a> Draft<'a> {
     /// Adds a line that isn't cut into words, or tells its fault. No other line clears room for it.
     #[inline(never)]
     fn add_whole(&mut self, alloc: Global, text: &'a [u8]) -> Result<(), ReadFail>
-        requires grows { CanGrow self.old }
+        requires grows { CanGrow self.old text.now }
         requires sound { text_fault text.now ≡ None }
-        requires whole { is_whole self.old.lines text.now ≡ true }
+        requires whole { is_whole self.old.lines.said text.now ≡ true }
         ensures told { OnOk result (DraftTold self.new) }
         ensures line { OnOk result (LineMore self.old.lines self.new.lines text.now) }
-        ensures fail { IfErr result (λ e. HasCause e (option_map (λ rule. (length self.old.lines + 1, rule)) (line_fault self.old.lines text.now))) }
+        ensures fail { IfErr result (λ e. HasCause e (option_map (λ rule. (length self.old.lines.said + 1, rule)) (line_fault self.old.lines.said text.now))) }
     {
         match self.whole_line(text) {
             Ok(line) => Ok(self.add(alloc, text, &line)?),
@@ -163,11 +164,11 @@ impl<'a> Draft<'a> {
         words: &mut Words<'a>,
         steps: &mut Steps<L>,
     ) -> Result<(), ReadFail>
-        requires grows { CanGrow self.old }
+        requires grows { CanGrow self.old text.now }
         requires printable { IsTrue printable → list_all (is_within 32 126) text.now ≡ true }
         ensures told { OnOk result (DraftTold self.new) }
         ensures line { OnOk result (LineMore self.old.lines self.new.lines text.now) }
-        ensures fail { IfErr result (λ e. HasCause e (option_map (λ rule. (length self.old.lines + 1, rule)) (line_fault self.old.lines text.now))) }
+        ensures fail { IfErr result (λ e. HasCause e (option_map (λ rule. (length self.old.lines.said + 1, rule)) (line_fault self.old.lines.said text.now))) }
     {
         if let Err(rule) = check_text(printable, text) {
             return Err(self.fault(rule));

@@ -1,13 +1,11 @@
-ghost use Rattle.std.{specs.List.{list_any}, specs.Prelude.{◌≡◌, true, IsTrue, Some, nat_eq, refl, ◌++◌, ◌∷◌, [], List, ℕ, OnOk, ◌+◌, ◌<◌, ◌^◌}, proofs.Common.{option_map}};
-ghost use Rattle.std.{specs.Cmp.Lexicographic.{nat_list_cmp_total, nat_list_eq_equiv, pointwise, slice_cmp, texts_po, texts_ties}, specs.Ordering.{nat_cmp}};
-ghost use Rattle.ix_script.specs.{lines.Before.{in_lane, is_given, listed, listed_two, is_known}, reader.Indexed.{AreIndexed, AreNames, AreSites, is_named, dir_there, file_there, is_there}};
-ghost use Rattle.{ix_text.specs.Names.{is_script_name}, std.specs.Cmp.{on_equiv, on_per, on_po, on_total, partial_equiv_from_equiv}, ix_model.specs.{declared.config.ObjSpec.{ObjSpec}, world.Paths.{path_of}, world.Texts.{names_in}}};
+ghost use Rattle.std.{specs.List.{list_any}, specs.Prelude.{◌≡◌, true, IsTrue, ◌++◌, ◌∷◌, [], List, ℕ, OnOk, ◌+◌, ◌<◌, ◌^◌}, proofs.Common.{option_map}};
+ghost use Rattle.ix_script.specs.{lines.Before.{in_lane, is_given, listed, is_known}, reader.Indexed.{AreIndexed, AreNames, AreSites, is_named, dir_there, file_there, is_there}};
+ghost use Rattle.{ix_text.specs.Names.{is_script_name}, ix_model.specs.{declared.config.ObjSpec.{ObjSpec}, world.Paths.{path_of}, world.Texts.{names_in}}};
 
 use crate::values::NameWord;
 use ix_model::{NoMemory, Path};
 use ix_text::is;
 use std::alloc::Global;
-use std::cmp::Ordering;
 use std::collections::BTreeSet;
 
 /// A name of a script, or the text of the names of a path, in the order of its bytes.

@@ -1,6 +1,6 @@
-ghost use Rattle.std.{specs.Prelude.{◌≡◌, ◌++◌, ◌∷◌, ◌+◌, ◌<◌, ◌^◌, [], Some, None, length, slice_get, OnOk, IfOk, MatchOption}, proofs.Common.{option_map}};
+ghost use Rattle.std.{specs.Prelude.{◌≡◌, ◌++◌, ◌∷◌, ◌+◌, ◌<◌, ◌≤◌, ◌^◌, [], Some, None, length, slice_get, OnOk, IfOk, MatchOption}, proofs.Common.{option_map}};
 ghost use Rattle.ix_script.specs.{lines.Before.{form_told}, lines.Forms.{form_of}, lines.Roles.{header_only, role_of}, lines.Said.{line_of}};
-ghost use Rattle.ix_script.specs.{scripts.Canonical.{has_one_spelling}, scripts.Need.{cost_of_line, need}, scripts.Packed.{IsLine, begin_at, line_in}};
+ghost use Rattle.ix_script.specs.{scripts.Canonical.{has_one_spelling}, scripts.Need.{cost_of_line, need}, scripts.Packed.{IsLine, IsNext, begin_at, front_of, line_in, with_line}};
 
 use crate::form::form_of;
 use crate::header::form_by;
@@ -15,32 +15,33 @@ use ix_model::NoMemory;
 use std::alloc::Global;
 use std::marker::Model;
 
-/// Lines, each of which breaks no rule. Their texts are kept, and contracts see what they say.
+/// The lines at the front of a text, each of which breaks no rule. Contracts see the text, what they say, and where the next begins.
 #[derive(Drop)]
-pub(crate) struct Lines {
+pub(crate) struct Lines<'a> {
+    text: &'a [u8],
+    /// Where in it the next line begins.
+    at: usize,
     /// The form in which their labels are spelled.
     form: LabelForm,
-    /// The texts of all lines in order, without line feeds.
-    text: Vec<u8>,
-    /// Where in it the text of each line ends.
+    /// Where in the text each line ends, before its line feed.
     ends: Vec<u32>,
     roles: Vec<Role>,
     need: u64,
 }
 
-impl Model for Lines {
-    ghost use Rattle.std.specs.{Prelude.{List, ◌≡◌}, Coded.{codes}};
-    ghost use Rattle.ix_script.specs.{lines.Before.{form_told}, scripts.Packed.{AreLines, AreSummed, held}, declared.line.Line.{Line}};
+impl<'a> Model for Lines<'a> {
+    ghost use Rattle.std.specs.{Prelude.{◌≡◌, ◌≤◌, length}, Coded.{codes}};
+    ghost use Rattle.ix_script.specs.scripts.Packed.{AreMarked, FrontOf, begin_at, held};
     ghost use Rattle.ix_label.specs.contracts.label.Label as label_type;
 
-    ghost Value = { List Line };
+    ghost Value = { FrontOf };
 
     ghost coded = { Prim.hlevel (codes, label_type.the_row.coded) };
 
-    ghost view = { λ l. held l.form 0 l.text.items l.ends.items };
+    ghost view = { λ l. record { text = l.text.now; said = held l.form 0 l.text.now l.ends.items; at = l.at } };
 
-    ghost invariant = { λ l. AreLines l.form 0 l.text.items l.ends.items × AreSummed (held l.form 0 l.text.items l.ends.items) l.roles.items l.need
-        × (l.form ≡ form_told (held l.form 0 l.text.items l.ends.items)) };
+    ghost invariant = { λ l. AreMarked l.form l.text.now l.ends.items l.roles.items l.need × (l.at ≡ begin_at 0 l.ends.items (length l.ends.items))
+        × (length l.text.now ≤ 16777216) };
 }
 
 /// What a text says that breaks no rule. Each way out returns, as in `line_said`.
@@ -86,28 +87,29 @@ fn feeds_in(bytes: &[u8]) -> usize {
     feeds
 }
 
-fn begin(ends: &[u32], i: usize) -> u32
+fn begin(ends: &[u32], i: usize) -> usize
     requires { i < length ends.now }
     ensures { result ≡ begin_at 0 ends.now i }
 {
     match i.checked_sub(1) {
-        Some(before) => ends[before],
+        Some(before) => ends[before] as usize + 1,
         None => 0,
     }
 }
 
-impl Lines {
-    /// No lines, with room for those of an input. `NoMemory` where there was none for that room.
-    pub fn for_all(alloc: Global, bytes: &[u8]) -> Result<Lines, NoMemory>
-        ensures { IfOk result (λ lines. lines ≡ []) }
+impl<'a> Lines<'a> {
+    /// No lines of a text, with room for all of them. `NoMemory` where there was none for that room.
+    pub fn of(alloc: Global, text: &'a [u8]) -> Result<Lines<'a>, NoMemory>
+        requires { length text.now ≤ 16777216 }
+        ensures { IfOk result (λ lines. lines ≡ front_of text.now) }
     {
-        let feeds = feeds_in(bytes);
-        let text = Vec::with_capacity(alloc, bytes.len().saturating_sub(feeds))?;
-        let ends = Vec::with_capacity(alloc, feeds.saturating_add(1))?;
-        let roles = Vec::with_capacity(alloc, feeds.saturating_add(1))?;
+        let room = feeds_in(text).saturating_add(1);
+        let ends = Vec::with_capacity(alloc, room)?;
+        let roles = Vec::with_capacity(alloc, room)?;
         Ok(Lines {
-            form: LabelForm::One,
             text,
+            at: 0,
+            form: LabelForm::One,
             ends,
             roles,
             need: 0,
@@ -115,21 +117,21 @@ impl Lines {
     }
 
     pub fn len(&self) -> usize
-        ensures { result ≡ length self.now }
+        ensures { result ≡ length self.now.said }
     {
         self.ends.as_slice().len()
     }
 
     /// The form in which their labels are spelled: the first line tells it.
     pub fn form(&self) -> LabelForm
-        ensures { result ≡ form_told self.now }
+        ensures { result ≡ form_told self.now.said }
     {
         self.form
     }
 
     /// The same with a line more at the end.
     pub fn form_with(&self, line: &Line<'_>) -> LabelForm
-        ensures { result ≡ form_told (self.now ++ line.now ∷ []) }
+        ensures { result ≡ form_told (self.now.said ++ line.now ∷ []) }
     {
         if self.len() == 0 {
             form_by(line)
@@ -140,38 +142,38 @@ impl Lines {
 
     /// How many bytes the texts have, with a line feed each: no fewer than the canonical text has.
     pub fn room(&self) -> usize {
-        self.text.len().saturating_add(self.ends.len())
+        self.text.len().saturating_add(1)
     }
 
     /// The text of the line at an index from 0; `None` exactly past the end.
-    pub fn text_at(&self, i: usize) -> Option<&[u8]>
-        ensures { MatchOption result (slice_get self.now i ≡ None) (λ text. IsLine (form_told self.now) text.now × (slice_get self.now i ≡ Some (line_in (form_told self.now) text.now))) }
+    pub fn text_at(&self, i: usize) -> Option<&'a [u8]>
+        ensures { MatchOption result (slice_get self.now.said i ≡ None) (λ text. IsLine (form_told self.now.said) text.now × (slice_get self.now.said i ≡ Some (line_in (form_told self.now.said) text.now))) }
     {
         let ends = self.ends.as_slice();
         if i >= ends.len() {
             return None;
         }
-        let begin = begin(ends, i) as usize;
-        Some(&self.text.as_slice()[begin..ends[i] as usize])
+        let begin = begin(ends, i);
+        Some(&self.text[begin..ends[i] as usize])
     }
 
     /// The line at an index from 0; `None` exactly past the end. It takes no memory.
-    pub fn get(&self, i: usize) -> Option<Line<'_>>
-        ensures { result ≡ slice_get self.now i }
+    pub fn get(&self, i: usize) -> Option<Line<'a>>
+        ensures { result ≡ slice_get self.now.said i }
     {
         said(self.form, self.text_at(i)?)
     }
 
     /// What the line at an index from 0 is for; `None` exactly past the end. The line isn't made for it.
     pub fn role(&self, i: usize) -> Option<Role>
-        ensures { result ≡ option_map role_of (slice_get self.now i) }
+        ensures { result ≡ option_map role_of (slice_get self.now.said i) }
     {
         self.roles.as_slice().get(i).copied()
     }
 
     /// The line at an index from 0, where it stands in the header. No other line is made.
-    pub fn header_line(&self, i: usize) -> Option<Line<'_>>
-        ensures { result ≡ header_only (slice_get self.now i) }
+    pub fn header_line(&self, i: usize) -> Option<Line<'a>>
+        ensures { result ≡ header_only (slice_get self.now.said i) }
     {
         match self.role(i) {
             Some(Role::Header) => self.get(i),
@@ -180,12 +182,12 @@ impl Lines {
     }
 
     pub fn need(&self) -> u64
-        ensures { result ≡ need self.now }
+        ensures { result ≡ need self.now.said }
     {
         self.need
     }
 
-    /// One line more, which the text says in that form; it is for that, and costs so much. Without memory for it the lines stay.
+    /// One line more, which that text of it says in that form; it is for that, and costs so much. Without memory for it the lines stay.
     pub fn push(
         &mut self,
         form: LabelForm,
@@ -193,28 +195,23 @@ impl Lines {
         role: Role,
         cost: u64,
     ) -> Result<(), NoMemory>
+        requires next { IsNext self.old text.now }
         requires faultless { IsLine form text.now }
-        requires form { form_told (self.old ++ line_in form text.now ∷ []) ≡ form }
+        requires form { form_told (self.old.said ++ line_in form text.now ∷ []) ≡ form }
         requires role { role_of (line_in form text.now) ≡ role }
         requires cost { cost_of_line (line_in form text.now) ≡ cost }
-        requires few { length self.old + 1 < 2 ^ 32 }
-        ensures { OnOk result (self.new ≡ self.old ++ line_in form text.now ∷ []) }
+        requires few { length self.old.said + 1 < 2 ^ 32 }
+        ensures { OnOk result (self.new ≡ with_line self.old (line_in form text.now) text.now) }
     {
-        let Ok(end) = u32::try_from(self.text.as_slice().len() + text.len()) else {
-            return Err(NoMemory);
-        };
-        self.ends.push(end)?;
+        let end = self.at + text.len();
+        self.ends.push(end as u32)?;
         let Ok(()) = self.roles.push(role) else {
-            self.ends.pop();
-            return Err(NoMemory);
-        };
-        let Ok(()) = self.text.extend_from_slice(text) else {
-            self.roles.pop();
             self.ends.pop();
             return Err(NoMemory);
         };
         self.need += cost;
         self.form = form;
+        self.at = end + 1;
         Ok(())
     }
 }

@@ -108,8 +108,8 @@ impl Plan {
 
     /// What lines tell. No line is made but those of the header: no other tells anything.
     #[tactic(auto, unfolding(crate::specs::lines::Before::fss_told, crate::specs::lines::Before::limits_of, crate::specs::lines::Before::procs_of, crate::specs::lines::Before::objects_of))]
-    fn of(alloc: Global, lines: &Lines) -> Result<Plan, NoMemory>
-        ensures { IfOk result (λ p. IsPlan p lines.now) }
+    fn of(alloc: Global, lines: &Lines<'_>) -> Result<Plan, NoMemory>
+        ensures { IfOk result (λ p. IsPlan p lines.now.said) }
     {
         let mut plan = Plan {
             fss: List::new(alloc),
@@ -128,8 +128,8 @@ impl Plan {
 
 /// What a machine starts from by these lines.
 #[tactic(auto, unfolding(crate::specs::scripts::Scripts::config_of))]
-pub(crate) fn config(alloc: Global, lines: &Lines) -> Result<Config, NoMemory>
-    ensures { IfOk result (λ c. c ≡ config_of lines.now) }
+pub(crate) fn config(alloc: Global, lines: &Lines<'_>) -> Result<Config, NoMemory>
+    ensures { IfOk result (λ c. c ≡ config_of lines.now.said) }
 {
     let mut plan = Plan::of(alloc, lines)?;
     if plan.fss.len() == 0 {

@@ -1,6 +1,6 @@
-ghost use Rattle.std.specs.{Prelude.{◌≡◌, ◌<◌, ◌≤◌, ◌∷◌, [], true, None, Some, length, IfOk, IfErr, OnOk}, List.{list_all}};
+ghost use Rattle.std.specs.{Prelude.{◌≡◌, ◌<◌, ◌≤◌, ◌+◌, ◌∷◌, [], true, None, Some, length, take, drop, IfOk, IfErr, OnOk}, List.{list_all}};
 ghost use Rattle.ix_script.specs.{lines.Before.{commands, lanes_of}, lines.Faults.{fault_from, fault_of}, reader.Readers.{HasCause, in_printable_lines}};
-ghost use Rattle.ix_script.specs.{reader.Told.{DraftTold}, scripts.Schedule.{LanesOnce}, scripts.Scripts.{form_in, lines_said, script_of, config_of}};
+ghost use Rattle.ix_script.specs.{reader.Told.{DraftTold}, scripts.Schedule.{LanesOnce}, scripts.Packed.{front_of}, scripts.Scripts.{form_in, lines_said, script_of, config_of}};
 ghost use Rattle.{ix_script.specs.texts.Lines.{cut, lines_of}, ix_model.specs.opening.Valid.{is_valid}};
 
 use crate::draft::Draft;
@@ -17,6 +17,8 @@ use std::sync::ledger::{Blank, Ledger};
 fn first_line(bytes: &[u8]) -> (&[u8], &[u8])
     requires { 0 < length bytes.now }
     ensures lines { cut bytes.now ≡ result.0.now ∷ cut result.1.now }
+    ensures line { result.0.now ≡ take (length result.0.now) bytes.now }
+    ensures rest { result.1.now ≡ drop (length result.0.now + 1) bytes.now }
     ensures fewer { length result.1.now < length bytes.now }
 {
     match bytes.split_once_str(b"\n") {
@@ -45,17 +47,17 @@ impl<'a> Draft<'a> {
         steps: &mut Steps<L>,
     ) -> Result<(), ReadFail>
         requires told { DraftTold self.old }
-        requires none { self.old.lines ≡ [] }
+        requires none { self.old.lines ≡ front_of bytes.now }
         requires some { 0 < length bytes.now }
         requires few { length bytes.now ≤ 16777216 }
         ensures told { OnOk result (DraftTold self.new) }
-        ensures valid { OnOk result (is_valid (config_of self.new.lines) ≡ true) }
+        ensures valid { OnOk result (is_valid (config_of self.new.lines.said) ≡ true) }
         ensures faultless { OnOk result (fault_from [] (lines_of bytes.now) ≡ None) }
-        ensures said { OnOk result (lines_said (form_in (lines_of bytes.now)) (lines_of bytes.now) ≡ Some self.new.lines) }
-        ensures few { OnOk result (length self.new.lines ≤ 16777216) }
-        ensures few_commands { OnOk result (commands self.new.lines ≤ 200000) }
-        ensures few_lanes { OnOk result (length (lanes_of self.new.lines) ≤ 64) }
-        ensures once { OnOk result (LanesOnce self.new.lines) }
+        ensures said { OnOk result (lines_said (form_in (lines_of bytes.now)) (lines_of bytes.now) ≡ Some self.new.lines.said) }
+        ensures few { OnOk result (length self.new.lines.said ≤ 16777216) }
+        ensures few_commands { OnOk result (commands self.new.lines.said ≤ 200000) }
+        ensures few_lanes { OnOk result (length (lanes_of self.new.lines.said) ≤ 64) }
+        ensures once { OnOk result (LanesOnce self.new.lines.said) }
         ensures fail { IfErr result (λ e. HasCause e (fault_from [] (lines_of bytes.now))) }
     {
         let printable = all_printable_lines(bytes);
@@ -70,7 +72,7 @@ impl<'a> Draft<'a> {
     }
 }
 
-fn read_with<L: Ledger>(alloc: Global, bytes: &[u8], blank: Blank) -> Result<Script, ReadFail>
+fn read_with<L: Ledger>(alloc: Global, bytes: &[u8], blank: Blank) -> Result<Script<'_>, ReadFail>
     requires name { blank.name ≡ L.name }
     requires parts { blank.parts ≡ L.parts }
     requires some { 0 < L.parts }
@@ -92,8 +94,8 @@ fn read_with<L: Ledger>(alloc: Global, bytes: &[u8], blank: Blank) -> Result<Scr
 }
 
 /// The script that the bytes are; else the first line, from 1, that breaks a rule, and the least rule that it breaks, by all rules
-/// but 27, on what a policy says. `ReadFail::NoMemory` where there was none for the script, which keeps the texts of the lines.
-pub fn read(alloc: Global, bytes: &[u8]) -> Result<Script, ReadFail>
+/// but 27, on what a policy says. `ReadFail::NoMemory` where there was none for the script, which borrows the bytes.
+pub fn read(alloc: Global, bytes: &[u8]) -> Result<Script<'_>, ReadFail>
     ensures script { IfOk result (λ s. script_of bytes.now ≡ Some s) }
     ensures fail { IfErr result (λ e. HasCause e (fault_of bytes.now)) }
 {

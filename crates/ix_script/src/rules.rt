@@ -96,7 +96,7 @@ impl<'a> Draft<'a> {
     #[inline(always)]
     pub fn form_by_words(&self, words: &Words<'a>) -> Result<Form, Rule>
         requires told { DraftTold self.now }
-        ensures { TellsForm self.now.lines result words.now }
+        ensures { TellsForm self.now.lines.said result words.now }
     {
         words.check()?;
         let Some(form) = form_of(words.get(0)) else {
@@ -124,7 +124,7 @@ impl<'a> Draft<'a> {
         steps: &mut Steps<L>,
     ) -> Result<(), Rule>
         requires told { DraftTold self.now }
-        ensures { (o : ObjSpec) → o.path ≡ path.now → o.label ≡ label.now → length o.bytes ≡ len → Finds result (object_fault self.now.lines o) }
+        ensures { (o : ObjSpec) → o.path ≡ path.now → o.label ≡ label.now → length o.bytes ≡ len → Finds result (object_fault self.now.lines.said o) }
     {
         refuse_if!(self.is_above(path, label, steps), Rule::ABOVE_CEILING);
         refuse_if!(self.is_misplaced(&path.path()), Rule::MISFIT);
@@ -136,7 +136,7 @@ impl<'a> Draft<'a> {
     #[tactic(auto, unfolding(crate::specs::lines::Faults::said_fault))]
     pub fn check_said<L: Ledger>(&self, line: &Line<'a>, steps: &mut Steps<L>) -> Result<(), Rule>
         requires told { DraftTold self.now }
-        ensures { Finds result (said_fault self.now.lines line.now) }
+        ensures { Finds result (said_fault self.now.lines.said line.now) }
     {
         match line {
             Line::Proc { label, ceiling, .. } => {
@@ -174,8 +174,8 @@ impl<'a> Draft<'a> {
     #[tactic(auto, unfolding(crate::specs::lines::Faults::body_fault))]
     pub fn whole_line(&self, text: &'a [u8]) -> Result<Line<'a>, Rule>
         requires told { DraftTold self.now }
-        requires whole { is_whole self.now.lines text.now ≡ true }
-        ensures { Tells self.now.lines result (body_fault self.now.lines text.now) (line_of (form_told self.now.lines) text.now) }
+        requires whole { is_whole self.now.lines.said text.now ≡ true }
+        ensures { Tells self.now.lines.said result (body_fault self.now.lines.said text.now) (line_of (form_told self.now.lines.said) text.now) }
     {
         if self.lines.len() == 0 {
             return first_line(text);
@@ -221,7 +221,7 @@ impl<'a> Draft<'a> {
     /// Whether a command stands outside a lane, or a lane outside a phase: rule 9.
     pub fn is_outside(&self, form: Form) -> bool
         requires told { DraftTold self.now }
-        ensures { result ≡ is_outside self.now.lines form }
+        ensures { result ≡ is_outside self.now.lines.said form }
     {
         match form {
             Form::Lane => !self.body.started,
@@ -233,7 +233,7 @@ impl<'a> Draft<'a> {
     #[inline(always)]
     pub fn gives_twice(&self, form: Form, words: &Words<'a>) -> bool
         requires told { DraftTold self.now }
-        ensures { result ≡ is_given_twice self.now.lines form words.now }
+        ensures { result ≡ is_given_twice self.now.lines.said form words.now }
     {
         let header = &self.header;
         match form {
@@ -251,7 +251,7 @@ impl<'a> Draft<'a> {
     #[inline(always)]
     fn lacks_proc(&self, word: &'a [u8]) -> bool
         requires told { DraftTold self.now }
-        ensures { result ≡ is_unknown self.now.lines (kind.Proc, word.now) }
+        ensures { result ≡ is_unknown self.now.lines.said (kind.Proc, word.now) }
     {
         !self.header.procs.has(word) && !self.body.procs.has(self.body.lane, word)
     }
@@ -259,7 +259,7 @@ impl<'a> Draft<'a> {
     #[inline(always)]
     fn lacks_fd(&self, word: &'a [u8]) -> bool
         requires told { DraftTold self.now }
-        ensures { result ≡ is_unknown self.now.lines (kind.Fd, word.now) }
+        ensures { result ≡ is_unknown self.now.lines.said (kind.Fd, word.now) }
     {
         !begins_with_digit(word) && !self.body.fds.has(self.body.lane, word)
     }
@@ -270,8 +270,8 @@ impl<'a> Draft<'a> {
     fn near_names(&self, form: Form, words: &Words<'a>) -> usize
         requires told { DraftTold self.now }
         ensures few { result ≤ arity form words.now }
-        ensures known { 0 < result → names_unknown self.now.lines form words.now ≡ false }
-        ensures right { places_fault (places_from 1 (take result (kinds (form_told self.now.lines) form words.now)) words.now) ≡ None }
+        ensures known { 0 < result → names_unknown self.now.lines.said form words.now ≡ false }
+        ensures right { places_fault (places_from 1 (take result (kinds (form_told self.now.lines.said) form words.now)) words.now) ≡ None }
     {
         if !self.header.procs.has_near(words.get(1)) {
             return 0;
@@ -290,7 +290,7 @@ impl<'a> Draft<'a> {
     #[inline(always)]
     pub fn is_unknown(&self, form: Form, words: &Words<'a>) -> bool
         requires told { DraftTold self.now }
-        ensures { result ≡ names_unknown self.now.lines form words.now }
+        ensures { result ≡ names_unknown self.now.lines.said form words.now }
     {
         if !form.is_command() {
             return false;
@@ -313,14 +313,14 @@ impl<'a> Draft<'a> {
 impl<'a> Draft<'a> {
     fn is_taken(&self, path: &Path<'a>) -> bool
         requires told { DraftTold self.now }
-        ensures { result ≡ is_taken (fss_of self.now.lines) (objects_of self.now.lines) (path_of path.now).names }
+        ensures { result ≡ is_taken (fss_of self.now.lines.said) (objects_of self.now.lines.said) (path_of path.now).names }
     {
         is_mount(self.header.fss.as_slice(), path) || self.header.made.has(path)
     }
 
     fn has_directory(&self, path: &Path<'a>) -> bool
         requires told { DraftTold self.now }
-        ensures { result ≡ has_directory (fss_of self.now.lines) (objects_of self.now.lines) (path_of path.now).names }
+        ensures { result ≡ has_directory (fss_of self.now.lines.said) (objects_of self.now.lines.said) (path_of path.now).names }
     {
         if path.len() == 0 {
             return true;
@@ -336,7 +336,7 @@ impl<'a> Draft<'a> {
         steps: &mut Steps<L>,
     ) -> bool
         requires told { DraftTold self.now }
-        ensures { (o : ObjSpec) → o.path ≡ path.now → o.label ≡ label.now → result ≡ object_above self.now.lines o }
+        ensures { (o : ObjSpec) → o.path ≡ path.now → o.label ≡ label.now → result ≡ object_above self.now.lines.said o }
     {
         let fss = self.header.fss.as_slice();
         let k = fs_of(fss, &path.path());
@@ -345,14 +345,14 @@ impl<'a> Draft<'a> {
 
     fn is_misplaced(&self, path: &Path<'a>) -> bool
         requires told { DraftTold self.now }
-        ensures { (o : ObjSpec) → o.path ≡ path_of path.now → result ≡ object_is_misplaced self.now.lines o }
+        ensures { (o : ObjSpec) → o.path ≡ path_of path.now → result ≡ object_is_misplaced self.now.lines.said o }
     {
         self.is_taken(path) || !self.has_directory(&path.parent())
     }
 
     fn lacks_room(&self, path: &MadePath<'a>, len: usize) -> bool
         requires told { DraftTold self.now }
-        ensures { (o : ObjSpec) → o.path ≡ path.now → length o.bytes ≡ len → result ≡ object_exceeds_limits self.now.lines o }
+        ensures { (o : ObjSpec) → o.path ≡ path.now → length o.bytes ≡ len → result ≡ object_exceeds_limits self.now.lines.said o }
     {
         let fss = self.header.fss.as_slice();
         let k = fs_of(fss, &path.path());
@@ -367,7 +367,7 @@ impl<'a> Draft<'a> {
     /// Whether there are too many: a 17th file system, a 65th lane or a 200,001st command, rule 26.
     pub fn is_one_too_many(&self, line: &Line<'a>) -> bool
         requires told { DraftTold self.now }
-        ensures { result ≡ is_one_too_many self.now.lines line.now }
+        ensures { result ≡ is_one_too_many self.now.lines.said line.now }
     {
         match line {
             Line::Fs { .. } => self.header.told >= 16,
@@ -382,7 +382,7 @@ impl<'a> Draft<'a> {
     /// Whether there is no policy for a `priv` or `login` line: rule 28.
     pub fn lacks_policy(&self, line: &Line<'a>) -> bool
         requires told { DraftTold self.now }
-        ensures { result ≡ lacks_policy self.now.lines line.now }
+        ensures { result ≡ lacks_policy self.now.lines.said line.now }
     {
         matches!(line, Line::Priv { .. } | Line::Login { .. }) && !self.header.policy
     }

@@ -56,9 +56,9 @@ fn seat_of(near: usize, name: &[u8], lanes: &[Name]) -> Option<usize>
 }
 
 /// The index behind the lines from one on that stand before the next that begins a phase or a lane's part of one.
-fn part_end(lines: &Lines, first: usize) -> usize
-    requires { first ≤ length lines.now }
-    ensures { result ≡ first + part_len (drop first lines.now) }
+fn part_end(lines: &Lines<'_>, first: usize) -> usize
+    requires { first ≤ length lines.now.said }
+    ensures { result ≡ first + part_len (drop first lines.now.said) }
 {
     'lines: for index in first..lines.len() {
         match lines.role(index).unwrap() {
@@ -74,19 +74,19 @@ fn part_end(lines: &Lines, first: usize) -> usize
 fn add_line(
     stretches: &mut Vec<List<Stretch>>,
     lanes: &[Name],
-    lines: &Lines,
+    lines: &Lines<'_>,
     index: usize,
     begun: u32,
     next: &mut usize,
 ) -> Result<u32, NoMemory>
-    requires few { length lines.now ≤ 16777216 }
-    requires within { index < length lines.now }
+    requires few { length lines.now.said ≤ 16777216 }
+    requires within { index < length lines.now.said }
     requires begun { begun ≤ index }
     requires lanes { length stretches.old.items ≡ length lanes.now }
     requires differ { SeatsDiffer lanes.now }
     ensures lanes { length stretches.new.items ≡ length lanes.now }
-    ensures begun { IfOk result (λ after. after ≡ begun_in begun index lines.now) }
-    ensures more { OnOk result ((seat : ℕ) → slice_index_or stretches.new.items seat [] ≡ slice_index_or stretches.old.items seat [] ++ stretch_in lanes.now seat begun index lines.now) }
+    ensures begun { IfOk result (λ after. after ≡ begun_in begun index lines.now.said) }
+    ensures more { OnOk result ((seat : ℕ) → slice_index_or stretches.new.items seat [] ≡ slice_index_or stretches.old.items seat [] ++ stretch_in lanes.now seat begun index lines.now.said) }
 {
     let role = lines.role(index).unwrap();
     if let Role::Phase = role {
@@ -112,10 +112,10 @@ fn add_line(
 
 impl Schedule {
     /// The schedule of lines, whose lanes have these names. `NoMemory` where there was none for it.
-    pub fn of(alloc: Global, lines: &Lines, lanes: &[Name]) -> Result<Schedule, NoMemory>
-        requires few { length lines.now ≤ 16777216 }
+    pub fn of(alloc: Global, lines: &Lines<'_>, lanes: &[Name]) -> Result<Schedule, NoMemory>
+        requires few { length lines.now.said ≤ 16777216 }
         requires differ { SeatsDiffer lanes.now }
-        ensures { IfOk result (λ s. IsSchedule s lines.now lanes.now) }
+        ensures { IfOk result (λ s. IsSchedule s lines.now.said lanes.now) }
     {
         let mut stretches = no_stretches(alloc, lanes.len())?;
         let mut begun = 0;

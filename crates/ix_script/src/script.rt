@@ -12,16 +12,16 @@ use ix_model::{Config, List, Name, NoMemory};
 use std::alloc::Global;
 use std::marker::Model;
 
-/// A session script: a list of lines, numbered from 1. Their texts are kept, and a line is made when it is asked for.
+/// A session script: a list of lines, numbered from 1. It borrows its text, and a line is made when it is asked for.
 #[derive(Drop)]
-pub struct Script {
-    lines: Lines,
+pub struct Script<'a> {
+    lines: Lines<'a>,
     /// The names of the lanes, in the order in which they first appear.
     lanes: List<Name>,
     schedule: Schedule,
 }
 
-impl Model for Script {
+impl<'a> Model for Script<'a> {
     ghost use Rattle.std.specs.{Prelude.{List}, Coded.{codes}};
     ghost use Rattle.ix_script.specs.{scripts.Held.{IsSchedule, IsScript}, declared.line.Line.{Line}};
     ghost use Rattle.ix_label.specs.contracts.label.Label as label_type;
@@ -30,21 +30,25 @@ impl Model for Script {
 
     ghost coded = { Prim.hlevel (codes, label_type.the_row.coded) };
 
-    ghost view = { λ s. s.lines };
+    ghost view = { λ s. s.lines.said };
 
-    ghost invariant = { λ s. IsScript s.lines s.lanes × IsSchedule s.schedule s.lines s.lanes };
+    ghost invariant = { λ s. IsScript s.lines.said s.lanes × IsSchedule s.schedule s.lines.said s.lanes };
 }
 
-impl Script {
+impl<'a> Script<'a> {
     /// The script of these lines, whose lanes have these names.
-    pub(crate) fn of(alloc: Global, lines: Lines, lanes: List<Name>) -> Result<Script, NoMemory>
-        requires named { lanes ≡ lanes_of lines }
-        requires valid { is_valid (config_of lines) ≡ true }
-        requires few { length lines ≤ 16777216 }
-        requires few_commands { commands lines ≤ 200000 }
-        requires few_lanes { length (lanes_of lines) ≤ 64 }
-        requires once { LanesOnce lines }
-        ensures { IfOk result (λ s. s ≡ lines) }
+    pub(crate) fn of(
+        alloc: Global,
+        lines: Lines<'a>,
+        lanes: List<Name>,
+    ) -> Result<Script<'a>, NoMemory>
+        requires named { lanes ≡ lanes_of lines.said }
+        requires valid { is_valid (config_of lines.said) ≡ true }
+        requires few { length lines.said ≤ 16777216 }
+        requires few_commands { commands lines.said ≤ 200000 }
+        requires few_lanes { length (lanes_of lines.said) ≤ 64 }
+        requires once { LanesOnce lines.said }
+        ensures { IfOk result (λ s. s ≡ lines.entry.said) }
     {
         let schedule = Schedule::of(alloc, &lines, lanes.as_slice())?;
         Ok(Script {
@@ -55,14 +59,14 @@ impl Script {
     }
 
     /// All lines, in order.
-    pub(crate) fn lines(&self) -> &Lines
-        ensures { result.now ≡ self.now }
+    pub(crate) fn lines(&self) -> &Lines<'a>
+        ensures { result.now.said ≡ self.now }
     {
         &self.lines
     }
 
     /// The line of a number from 1; `None` exactly where there is none. It takes no memory.
-    pub fn line(&self, number: u32) -> Option<Line<'_>>
+    pub fn line(&self, number: u32) -> Option<Line<'a>>
         ensures { result ≡ (if number == 0 then None else slice_get self.now (number - 1)) }
     {
         self.lines.get((number as usize).checked_sub(1)?)
@@ -131,7 +135,7 @@ impl Script {
     }
 
     /// The number of the policy's line and its text; `None` exactly where there is no policy.
-    pub fn policy(&self) -> Option<(u32, &[u8])>
+    pub fn policy(&self) -> Option<(u32, &'a [u8])>
         ensures { option_map (λ p. (p.0, p.1.now)) result ≡ policy_of self.now }
     {
         'lines: for index in 0..self.lines.len() {
@@ -149,7 +153,7 @@ impl Script {
 
 /// What the entries of a script's commands cost a journal, at the most: of a command that is one call the call's cost, of
 /// `copy` two entries and the bytes that it carries, of `priv` 656 and of `login` 1,168. It is at most 870,400,000.
-pub fn need(script: &Script) -> u64
+pub fn need(script: &Script<'_>) -> u64
     ensures { result ≡ need script.now }
 {
     script.lines.need()

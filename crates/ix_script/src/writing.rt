@@ -248,7 +248,7 @@ const PART: usize = 65_536;
 pub fn write_part(
     alloc: Global,
     out: &mut Vec<u8>,
-    script: &Script,
+    script: &Script<'_>,
     first: usize,
 ) -> Result<usize, NoMemory>
     requires { first ≤ length script.now }
@@ -271,7 +271,7 @@ pub fn write_part(
 }
 
 /// The canonical text of a script. It holds no more memory than a little besides that text.
-pub fn write(alloc: Global, script: &Script) -> Result<Vec<u8>, NoMemory>
+pub fn write(alloc: Global, script: &Script<'_>) -> Result<Vec<u8>, NoMemory>
     ensures { IfOk result (λ text. text.items ≡ canonical script.now) }
 {
     let mut text = Vec::with_capacity(alloc, script.lines().room())?;

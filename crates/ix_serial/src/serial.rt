@@ -45,7 +45,7 @@ fn step<W: Witness>(
 pub fn run_on<W: Witness>(
     alloc: Global,
     core: &mut Core,
-    script: &Script,
+    script: &Script<'_>,
     policy: Option<&Policy>,
     witness: &mut W,
 ) -> Result<(), NoMemory>
@@ -66,7 +66,7 @@ pub fn run_on<W: Witness>(
 /// witness has seen nothing.
 pub fn run_history<W: Witness>(
     alloc: Global,
-    script: &Script,
+    script: &Script<'_>,
     policy: Option<&Policy>,
     witness: &mut W,
 ) -> Result<Core, NoMemory>

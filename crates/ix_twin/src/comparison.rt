@@ -44,7 +44,7 @@ fn same_name(one: &[u8], two: &[u8]) -> bool
 }
 
 /// Whether the lanes of two scripts have the same names.
-fn same_lanes(one: &Script, two: &Script) -> bool
+fn same_lanes(one: &Script<'_>, two: &Script<'_>) -> bool
     ensures { result ≡ same_names (lanes_of one.now) (lanes_of two.now) }
 {
     if one.lanes() != two.lanes() {
@@ -63,7 +63,7 @@ fn same_lanes(one: &Script, two: &Script) -> bool
 
 /// Whether two scripts have one form and the same lanes.
 #[tactic(auto, unfolding(crate::specs::Lines::have_same_lanes))]
-fn have_same_lanes(one: &Script, two: &Script) -> bool
+fn have_same_lanes(one: &Script<'_>, two: &Script<'_>) -> bool
     ensures { result ≡ have_same_lanes one.now two.now }
 {
     same_form(one.form(), two.form()) && same_lanes(one, two)
@@ -126,9 +126,9 @@ fn run_both(
 fn run_scripts(
     alloc: Global,
     twin: &mut Twin,
-    one: &Script,
+    one: &Script<'_>,
     policy: Option<&Policy>,
-    two: &Script,
+    two: &Script<'_>,
     other_policy: Option<&Policy>,
 ) -> Result<Vec<u8>, NoMemory>
     requires first { option_map (λ p. p.now) policy ≡ rules_told one.now }
@@ -143,7 +143,7 @@ fn run_scripts(
 }
 
 /// The runs of two scripts, which are to be compared at a label, without entries.
-fn twin_of(alloc: Global, at: &Label, one: &Script, two: &Script) -> Result<Twin, NoMemory>
+fn twin_of(alloc: Global, at: &Label, one: &Script<'_>, two: &Script<'_>) -> Result<Twin, NoMemory>
     ensures { IfOk result (λ twin. twin ≡ record { at = at.now; first = record { config = config_of one.now; events = [] }; second = record { config = config_of two.now; events = [] } }) }
 {
     let first = one.config(alloc)?;
@@ -153,7 +153,7 @@ fn twin_of(alloc: Global, at: &Label, one: &Script, two: &Script) -> Result<Twin
 
 /// Whether two scripts begin alike at a label, whose runs have no entries yet.
 #[tactic(auto, unfolding(crate::specs::Lines::begin_alike))]
-fn begin_alike(twin: &Twin, one: &Script, two: &Script) -> bool
+fn begin_alike(twin: &Twin, one: &Script<'_>, two: &Script<'_>) -> bool
     requires first { twin.now.first.config ≡ config_of one.now }
     requires second { twin.now.second.config ≡ config_of two.now }
     ensures { result ≡ begin_alike twin.now.at one.now two.now }
@@ -165,9 +165,9 @@ fn begin_alike(twin: &Twin, one: &Script, two: &Script) -> bool
 fn compare_runs(
     alloc: Global,
     twin: &mut Twin,
-    one: &Script,
+    one: &Script<'_>,
     policy: Option<&Policy>,
-    two: &Script,
+    two: &Script<'_>,
     other_policy: Option<&Policy>,
 ) -> Result<Vec<u8>, NoMemory>
     requires first { option_map (λ p. p.now) policy ≡ rules_told one.now }
@@ -187,9 +187,9 @@ fn compare_runs(
 pub fn compare(
     alloc: Global,
     at: &Label,
-    one: &Script,
+    one: &Script<'_>,
     policy: Option<&Policy>,
-    two: &Script,
+    two: &Script<'_>,
     other_policy: Option<&Policy>,
 ) -> Result<Vec<u8>, NoMemory>
     requires first { option_map (λ p. p.now) policy ≡ rules_told one.now }

@@ -12,7 +12,7 @@ use std::alloc::Global;
 /// One of two runs: its script, and what that has still to ask for.
 #[derive(Drop)]
 pub struct Side<'a> {
-    pub script: &'a Script,
+    pub script: &'a Script<'a>,
     pub calls: SerialCalls<'a>,
 }
 
@@ -20,7 +20,7 @@ impl<'a> Side<'a> {
     /// The run of a script before its first call, by the script's policy, if it has one.
     pub fn new(
         alloc: Global,
-        script: &'a Script,
+        script: &'a Script<'a>,
         policy: Option<&'a Policy>,
     ) -> Result<Side<'a>, NoMemory>
         requires policy { option_map (λ p. p.now) policy ≡ rules_told script.now }

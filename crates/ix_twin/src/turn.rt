@@ -49,7 +49,7 @@ pub fn push(out: &mut Vec<u8>, bytes: &[u8]) -> Result<(), NoMemory>
 fn push_line(
     out: &mut Vec<u8>,
     number: &[u8],
-    script: &Script,
+    script: &Script<'_>,
     core: &Core,
     entry: &Entry<'_>,
     reply: &Reply,

@@ -24,7 +24,7 @@ use std::alloc::Global;
 /// What tells the report of a script while its entries are made.
 #[derive(Drop)]
 struct Teller<'a, K: Sink> {
-    script: &'a Script,
+    script: &'a Script<'a>,
     sink: &'a mut K,
     /// What was told and isn't written yet.
     waiting: &'a mut Vec<u8>,
@@ -42,7 +42,7 @@ fn begun(alloc: Global, form: Form) -> Result<Vec<u8>, NoMemory>
 
 impl<'a, K: Sink> Teller<'a, K> {
     /// One to which nothing has happened yet, of what waits to be written.
-    fn new(script: &'a Script, sink: &'a mut K, waiting: &'a mut Vec<u8>) -> Teller<'a, K>
+    fn new(script: &'a Script<'a>, sink: &'a mut K, waiting: &'a mut Vec<u8>) -> Teller<'a, K>
         ensures script { result.script.now ≡ script.now }
         ensures sink { (result.sink.ghost_name ≡ sink.entry.ghost_name) × (result.sink.now ≡ sink.old) }
         ensures waiting { (result.waiting.ghost_name ≡ waiting.entry.ghost_name) × (result.waiting.now.items ≡ waiting.old.items) }
@@ -140,7 +140,7 @@ impl<K: Sink> Witness for Teller<'_, K> {
 pub fn report_serial<K: Sink>(
     alloc: Global,
     sink: &mut K,
-    script: &Script,
+    script: &Script<'_>,
     policy: Option<&Policy>,
 ) -> Status
     requires policy { option_map (λ p. p.now) policy ≡ rules_told script.now }
@@ -154,7 +154,7 @@ pub fn report_serial<K: Sink>(
 }
 
 /// Writes the report of a history of a script, which is made once more for that.
-pub fn report<K: Sink>(alloc: Global, sink: &mut K, script: &Script, history: &Core) -> Status
+pub fn report<K: Sink>(alloc: Global, sink: &mut K, script: &Script<'_>, history: &Core) -> Status
     requires config { history.now.config ≡ config_of script.now }
     requires fits { cost_of_history history.now.events ≤ need script.now }
     ensures { Ends (outcome.Whole (report_of script.now history.now.events)) result (K.taken sink.old) (K.taken sink.new)

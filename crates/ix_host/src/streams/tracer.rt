@@ -52,7 +52,7 @@ impl<K: Sink> Tracer<'_, K> {
         &mut self,
         alloc: Global,
         core: &mut Core,
-        script: &Script,
+        script: &Script<'_>,
         policy: Option<&Policy>,
     ) -> Status
         requires begun { (self.old.failure ≡ None) × (self.old.waiting.now.items ≡ []) }

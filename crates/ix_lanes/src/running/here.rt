@@ -42,7 +42,7 @@ impl<'a> Here<'a> {
     }
 
     /// Goes on to the lane's next stretch, or to an end where none begins before it.
-    fn go_on(&mut self, script: &Script, lane: u32, end: u32)
+    fn go_on(&mut self, script: &Script<'_>, lane: u32, end: u32)
         requires behind { self.old.stretch.end ≤ self.old.at }
         requires within { (self.old.at < end) × (end ≤ length script.now) }
         requires among { IsAmong script.now lane self.old.at self.old.stretch self.old.come }
@@ -70,7 +70,7 @@ impl<'a> Here<'a> {
     /// and none of another lane is looked at.
     pub fn find(
         &mut self,
-        script: &'a Script,
+        script: &'a Script<'a>,
         lane: u32,
         policy: Option<&'a Policy>,
         header: &Bindings<u32>,

@@ -20,7 +20,7 @@ use std::alloc::Global;
 use std::marker::Model;
 
 /// Finds the names that the lines of a stretch give their places. Of the lines only those that may give names are made.
-fn add_stretch(places: &mut Places, script: &Script, stretch: Stretch) -> Result<(), NoMemory>
+fn add_stretch(places: &mut Places, script: &Script<'_>, stretch: Stretch) -> Result<(), NoMemory>
     ensures same { OnOk result (standing places.new ≡ standing places.old) }
     ensures keeps { OnOk result (KeepsPlaces places.old places.new) }
     ensures all { OnOk result (all_placed places.new (stretch_lines script.now stretch) ≡ true) }
@@ -34,7 +34,7 @@ fn add_stretch(places: &mut Places, script: &Script, stretch: Stretch) -> Result
 }
 
 /// The places of all names that the lines of a lane give. No line of another lane is looked at.
-pub(crate) fn places_of(alloc: Global, script: &Script, lane: u32) -> Result<Places, NoMemory>
+pub(crate) fn places_of(alloc: Global, script: &Script<'_>, lane: u32) -> Result<Places, NoMemory>
     ensures none { IfOk result (λ places. standing places ≡ no_names) }
     ensures all { IfOk result (λ places. all_placed places (lane_among script.now lane script.now) ≡ true) }
 {
@@ -53,7 +53,7 @@ pub(crate) fn places_of(alloc: Global, script: &Script, lane: u32) -> Result<Pla
 /// stand for, and what is left.
 #[derive(Drop)]
 pub struct LaneCalls<'a> {
-    script: &'a Script,
+    script: &'a Script<'a>,
     policy: Option<&'a Policy>,
     lane: u32,
     /// That of the script, which all its lanes share.
@@ -98,7 +98,7 @@ impl<'a> LaneCalls<'a> {
     /// all the memory that its calls need.
     pub fn new(
         alloc: Global,
-        script: &'a Script,
+        script: &'a Script<'a>,
         lane: u32,
         header: &'a Bindings<u32>,
         policy: Option<&'a Policy>,
@@ -138,7 +138,7 @@ impl<'a> LaneCalls<'a> {
     /// The lane of a number, which asks for all its lines. It takes all the memory that its calls need.
     pub fn whole(
         alloc: Global,
-        script: &'a Script,
+        script: &'a Script<'a>,
         lane: u32,
         header: &'a Bindings<u32>,
         policy: Option<&'a Policy>,

@@ -13,7 +13,7 @@ use std::marker::Model;
 /// phases it has done, whether it stands between two of them, and what each name after `as` stands for.
 #[derive(Drop)]
 pub struct LaneRun<'a> {
-    script: &'a Script,
+    script: &'a Script<'a>,
     calls: LaneCalls<'a>,
     done: u32,
     /// What its calls read.
@@ -46,7 +46,7 @@ impl<'a> LaneRun<'a> {
     /// that the run needs.
     pub fn new(
         alloc: Global,
-        script: &'a Script,
+        script: &'a Script<'a>,
         lane: u32,
         header: &'a Bindings<u32>,
         policy: Option<&'a Policy>,

@@ -27,7 +27,7 @@ use std::alloc::Global;
 use std::marker::Model;
 
 /// What the names of each lane of a script stand for, by seats: none yet, but each has its place.
-fn all_places(alloc: Global, script: &Script) -> Result<Vec<Places>, NoMemory>
+fn all_places(alloc: Global, script: &Script<'_>) -> Result<Vec<Places>, NoMemory>
     ensures placed { IfOk result (λ places. ArePlaced script.now places.items) }
     ensures names { IfOk result (λ places. map standing places.items ≡ first_names script.now) }
 {
@@ -66,7 +66,7 @@ fn seat_asking(seat: Option<u32>, role: Role) -> Option<u32>
 impl<'a> Place<'a> {
     /// Goes past the line.
     #[inline(always)]
-    fn pass(&mut self, script: &Script, role: Role)
+    fn pass(&mut self, script: &Script<'_>, role: Role)
         requires role { role ≡ role_of (line_in script.now self.old.at) }
         requires within { self.old.at < length script.now }
         ensures seat { self.new.seat ≡ seat_after (lanes_of script.now) self.old.seat (line_in script.now self.old.at) }
@@ -82,7 +82,7 @@ impl<'a> Place<'a> {
 
     /// Goes past a line that begins neither a phase nor a lane's part of one.
     #[inline(always)]
-    fn leave(&mut self, script: &Script)
+    fn leave(&mut self, script: &Script<'_>)
         requires within { self.old.at < length script.now }
         ensures seat { self.new.seat ≡ self.old.seat }
         ensures at { self.new.at ≡ self.old.at + 1 }
@@ -96,7 +96,7 @@ impl<'a> Place<'a> {
     #[inline(always)]
     fn find(
         &mut self,
-        script: &'a Script,
+        script: &'a Script<'a>,
         policy: Option<&'a Policy>,
         header: &Bindings<u32>,
         places: &mut [Places],
@@ -143,7 +143,7 @@ impl<'a> Place<'a> {
 /// the script, and the entries that are left.
 #[derive(Drop)]
 pub struct SerialCalls<'a> {
-    script: &'a Script,
+    script: &'a Script<'a>,
     policy: Option<&'a Policy>,
     header: Bindings<u32>,
     /// What the names of each lane stand for, by seats.
@@ -182,7 +182,7 @@ impl<'a> SerialCalls<'a> {
     /// The run of a script before its first call, by the script's policy, if it has one. It takes all the memory that its calls need.
     pub fn new(
         alloc: Global,
-        script: &'a Script,
+        script: &'a Script<'a>,
         policy: Option<&'a Policy>,
     ) -> Result<SerialCalls<'a>, NoMemory>
         requires policy { option_map (λ p. p.now) policy ≡ rules_told script.now }

@@ -25,7 +25,7 @@ impl Turns {
     }
 
     /// Whether the line at an index begins a stretch of the lane that is guessed.
-    fn is_next(&self, script: &Script, index: u32) -> bool
+    fn is_next(&self, script: &Script<'_>, index: u32) -> bool
         requires { index < length script.now }
         ensures { result ≡ true → (at : Option ℕ) → seat_after (lanes_of script.now) at (line_in script.now index) ≡ Some self.now.next }
     {
@@ -40,7 +40,7 @@ impl Turns {
     }
 
     /// Guesses again, once a lane has come to a stretch more.
-    fn pass(&mut self, script: &Script, seat: u32) {
+    fn pass(&mut self, script: &Script<'_>, seat: u32) {
         if let Some(come) = self.come.get_mut(seat as usize) {
             *come = come.saturating_add(1);
         }
@@ -52,7 +52,7 @@ impl Turns {
     #[inline(never)]
     pub fn seat_past(
         &mut self,
-        script: &Script,
+        script: &Script<'_>,
         seat: Option<u32>,
         index: u32,
         role: Role,

@@ -11,7 +11,7 @@ use ix_report::entry_line;
 use ix_script::Script;
 
 /// The name of a seat's lane.
-fn lane_name(script: &Script, seat: u32) -> &[u8]
+fn lane_name<'a>(script: &'a Script<'_>, seat: u32) -> &'a [u8]
     ensures { result.now ≡ lane_name (lanes_of script.now) seat }
 {
     match script.lane(seat) {
@@ -37,7 +37,7 @@ fn label_of(caller: &Option<ProcView>) -> Option<&Label>
 #[inline(always)]
 pub fn push_entry(
     out: &mut Vec<u8>,
-    script: &Script,
+    script: &Script<'_>,
     core: &Core,
     line: u32,
     pid: Pid,

@@ -66,7 +66,7 @@ fn replay_on<W: Witness, L: Ledger>(
 /// The same on a second core, with the looks at labels counted under a ledger.
 fn replay_anew<W: Witness, L: Ledger>(
     alloc: Global,
-    script: &Script,
+    script: &Script<'_>,
     history: &Core,
     witness: &mut W,
     blank: Blank,
@@ -89,7 +89,7 @@ fn replay_anew<W: Witness, L: Ledger>(
 /// the memory of a second core; after `NoMemory` the witness has seen nothing.
 pub fn replay<W: Witness>(
     alloc: Global,
-    script: &Script,
+    script: &Script<'_>,
     history: &Core,
     witness: &mut W,
 ) -> Result<(), NoMemory>

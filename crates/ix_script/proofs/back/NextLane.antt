@@ -75,17 +75,17 @@ next_known d text next =
     let n : ComesNext d.body.in_order d.body.others d.body.lanes (drop 5 text) = comes_next d.body.in_order d.body.others d.body.lanes (drop 5 text) next.next in
     rw (list_any_at (same_bytes (drop 5 text)) d.body.lanes d.body.in_order [] n.low n.same) refl
 
-pub next_right : (d : Draft) (text : List ℕ) → DraftTold d → text_fault text ≡ None → is_empty d.lines ≡ false → IsNextLane d text
-    → LineRight d.lines (line.Lane (drop 5 text)) (line_fault d.lines text) (line_of (form_told d.lines) text)
+pub next_right : (d : Draft) (text : List ℕ) → DraftTold d → text_fault text ≡ None → is_empty d.lines.said ≡ false → IsNextLane d text
+    → LineRight d.lines.said (line.Lane (drop 5 text)) (line_fault d.lines.said text) (line_of (form_told d.lines.said) text)
 next_right d text told printable later next =
     let name : List ℕ = drop 5 text in
     let whole : codes "lane " ++ name ≡ text = ap (λ (t : List ℕ). t ++ name) (sym next.begins) ∙ take-append-drop 5 text in
     let b : Body = d.body in
     let k : ℕ = b.in_order in
     let n : ComesNext k b.others b.lanes name = comes_next k b.others b.lanes name next.next in
-    let differ : SeatsDiffer b.lanes = subst (λ (ls : List (List ℕ)). SeatsDiffer ls) (sym told.body.lanes) (seats_differ d.lines) in
-    let lanes : take k b.lanes ≡ phase_lanes d.lines = sym (append-nil (take k b.lanes)) ∙ ap (λ (os : List (List ℕ)). take k b.lanes ++ os) (sym n.no_others) ∙ told.body.phase_lanes in
-    let new : is_known name (phase_lanes d.lines) ≡ false = sym (ap (is_known name) lanes) ∙ new_there 0 k name b.lanes (differ k name n.low n.same ∙ ap (λ (m : ℕ). Some m) (omega arith)) in
-    let known : is_known name (lanes_of d.lines) ≡ true = sym (ap (is_known name) told.body.lanes) ∙ list_any_at (same_bytes name) b.lanes k [] n.low n.same in
-    subst (λ (t : List ℕ). LineRight d.lines (line.Lane name) (line_fault d.lines t) (line_of (form_told d.lines) t)) whole
-    (lane_right d.lines name next.named (ap text_fault whole ∙ printable) later (sym told.body.started ∙ next.started) new known)
+    let differ : SeatsDiffer b.lanes = subst (λ (ls : List (List ℕ)). SeatsDiffer ls) (sym told.body.lanes) (seats_differ d.lines.said) in
+    let lanes : take k b.lanes ≡ phase_lanes d.lines.said = sym (append-nil (take k b.lanes)) ∙ ap (λ (os : List (List ℕ)). take k b.lanes ++ os) (sym n.no_others) ∙ told.body.phase_lanes in
+    let new : is_known name (phase_lanes d.lines.said) ≡ false = sym (ap (is_known name) lanes) ∙ new_there 0 k name b.lanes (differ k name n.low n.same ∙ ap (λ (m : ℕ). Some m) (omega arith)) in
+    let known : is_known name (lanes_of d.lines.said) ≡ true = sym (ap (is_known name) told.body.lanes) ∙ list_any_at (same_bytes name) b.lanes k [] n.low n.same in
+    subst (λ (t : List ℕ). LineRight d.lines.said (line.Lane name) (line_fault d.lines.said t) (line_of (form_told d.lines.said) t)) whole
+    (lane_right d.lines.said name next.named (ap text_fault whole ∙ printable) later (sym told.body.started ∙ next.started) new known)

@@ -1,40 +1,32 @@
 -- Lines that are held as their texts.
 use Rattle.std.proofs.Common.{◌≡◌, ℕ, zero, suc, ◌+◌, ◌-◌, ◌<◌, ◌≤◌, List, [], ◌∷◌, ◌++◌, length, take, drop, get_or, Some, None, false, true≢false, refl, sym}
-use Rattle.std.proofs.Common.{ap, ◌∙◌, subst, arith, length-append, length-drop}
+use Rattle.std.proofs.Common.{ap, ◌∙◌, subst, arith, drop-drop, length-drop, length-take}
 use Rattle.std.specs.{List.slice_get, Prelude.unwrap_or, Option.option_map_or}
-use Rattle.std.proofs.{Math.Seq.{take-length, drop-append_seam}, lemmas.{List.{take-append-le, drop-append-le}, Option.{none-some, same_Some}}}
+use Rattle.std.proofs.lemmas.Option.{none-some, same_Some}
 use Rattle.ix_label.specs.declared.form.Form as spelled
 use Rattle.ix_label.specs.declared.form.Form.TheVariants.{One}
 use Rattle.ix_script.specs.{texts.Cutting.{word_at, words_of, is_skipped, is_policy_line}, lines.Before.{form_by, form_told}, lines.Said.{version_of, line_of}}
 use Rattle.ix_script.specs.{lines.Kinds.places_fault, lines.Forms.{form_of, places}, reader.Readers.LineRight, declared.line.Line.Line}
 use Rattle.ix_script.specs.lines.Faults.{text_fault, words_fault, stand_fault, form_fault, command_fault, body_fault, line_fault}
-use Rattle.ix_script.specs.scripts.Packed.{IsLine, IsSaid, line_in, begin_at, between, held, AreLines}
+use Rattle.ix_script.specs.scripts.Packed.{FrontOf, IsLine, IsNext, IsSaid, line_in, begin_at, between, held, AreLines}
 use Rattle.ix_text.specs.Bytes.{is_empty}
 use Rattle.ix_script.proofs.{lines.Deciding.{first_version, first_faultless, version_said}, reader.Told.neither}
 use Rattle.ix_script.specs.declared.line.Line.TheVariants as line
 
-between-append : (from end : ℕ) (text more : List ℕ) → from ≤ end → end ≤ length text → between from end (text ++ more) ≡ between from end text
-between-append from end text more low high =
-    ap (take (end - from)) (drop-append-le from text more (omega arith)) ∙ take-append-le (end - from) (drop from text) more (omega (arith, length-drop from text))
-
-between-rest : (text more : List ℕ) → between (length text) (length (text ++ more)) (text ++ more) ≡ more
-between-rest text more =
-    let n : length (text ++ more) - length text ≡ length more = omega (arith, length-append text more) in
-    (λ i. take (n i) (drop-append_seam text more i)) ∙ take-length more
-
 -- ---- one line more
-pub pushed : (labels : spelled.Form) (from : ℕ) (text more ends : List ℕ) → AreLines labels from text ends
-    → held labels from (text ++ more) (ends ++ length (text ++ more) ∷ []) ≡ held labels from text ends ++ line_in labels more ∷ []
-pushed labels from text more [] h = ap (λ (t : List ℕ). line_in labels t ∷ []) (ap (λ n. between n (length (text ++ more)) (text ++ more)) h ∙ between-rest text more)
-pushed labels from text more (end ∷ ends) h =
-    λ i. line_in labels (between-append from end text more h.0 h.1 i) ∷ pushed labels end text more ends h.3 i
+pushed : (labels : spelled.Form) (from : ℕ) (text ends : List ℕ) (end : ℕ)
+    → held labels from text (ends ++ end ∷ []) ≡ held labels from text ends ++ line_in labels (between (begin_at from ends (length ends)) end text) ∷ []
+pushed labels from text [] end = refl
+pushed labels from text (e ∷ ends) end = ap (λ ls. line_in labels (between from e text) ∷ ls) (pushed labels (suc e) text ends end)
 
-pub stay_lines : (labels : spelled.Form) (from : ℕ) (text more ends : List ℕ) → AreLines labels from text ends → IsLine labels more
-    → AreLines labels from (text ++ more) (ends ++ length (text ++ more) ∷ [])
-stay_lines labels from text more [] h l =
-    (omega (arith, length-append text more), omega arith, subst (IsLine labels) (sym (ap (λ n. between n (length (text ++ more)) (text ++ more)) h ∙ between-rest text more)) l, refl)
-stay_lines labels from text more (end ∷ ends) h l =
-    (h.0, omega (arith, length-append text more, h.1), subst (IsLine labels) (sym (between-append from end text more h.0 h.1)) h.2, stay_lines labels end text more ends h.3 l)
+stay_lines : (labels : spelled.Form) (from : ℕ) (text ends : List ℕ) (end : ℕ) → begin_at from ends (length ends) ≤ end → end ≤ length text
+    → IsLine labels (between (begin_at from ends (length ends)) end text) → AreLines labels from text ends → AreLines labels from text (ends ++ end ∷ [])
+stay_lines labels from text [] end low high l h = (low, high, l, tt)
+stay_lines labels from text (e ∷ ends) end low high l h = (h.0, h.1, h.2, stay_lines labels (suc e) text ends end low high l h.3)
+
+begin_next : (from : ℕ) (ends : List ℕ) (end : ℕ) → begin_at from (ends ++ end ∷ []) (length (ends ++ end ∷ [])) ≡ suc end
+begin_next from [] end = refl
+begin_next from (e ∷ ends) end = begin_next (suc e) ends end
 
 -- the first line tells the form, and no later one
 pub form_stays : (old new : spelled.Form) (text ends : List ℕ) (l : Line) → old ≡ form_told (held old 0 text ends) → new ≡ form_told (held old 0 text ends ++ l ∷ []) → AreLines old 0 text ends
@@ -44,19 +36,32 @@ form_stays old new text (end ∷ ends) l was is h =
     let same : old ≡ new = was ∙ sym is in
     (subst (λ f. AreLines f 0 text (end ∷ ends)) same h, ap (λ f. held f 0 text (end ∷ ends)) (sym same))
 
-module _ (old labels : spelled.Form) (l : Line) (text more ends text2 ends2 : List ℕ) (end : ℕ) (t : text2 ≡ text ++ more) (e : ends2 ≡ ends ++ end ∷ []) (n : end ≡ length text + length more)
-    (told : old ≡ form_told (held old 0 text ends)) (is : labels ≡ form_told (held old 0 text ends ++ l ∷ [])) (lines : AreLines old 0 text ends) where
-  long : end ≡ length (text ++ more)
-  long = omega (arith, length-append text more)
+module _ (old labels : spelled.Form) (l : Line) (text more ends ends2 : List ℕ) (at end : ℕ) (e : ends2 ≡ ends ++ end ∷ []) (begins : at ≡ begin_at 0 ends (length ends))
+    (n : end ≡ at + length more) (next : IsNext (record { text = text; said = held old 0 text ends; at = at }) more) (told : old ≡ form_told (held old 0 text ends))
+    (is : labels ≡ form_told (held old 0 text ends ++ l ∷ [])) (lines : AreLines old 0 text ends) where
+  stays : (AreLines labels 0 text ends) × (held labels 0 text ends ≡ held old 0 text ends)
+  stays = form_stays old labels text ends l told is lines
 
-  was : AreLines labels 0 text ends
-  was = (form_stays old labels text ends l told is lines).0
+  here : between (begin_at 0 ends (length ends)) end text ≡ more
+  here = (λ i. between (sym begins i) (n i) text) ∙ next.here
 
-  pub lines_after : IsLine labels more → AreLines labels 0 text2 ends2
-  lines_after line = rw (t, e, long) (stay_lines labels 0 text more ends was line)
+  pub lines_after : IsLine labels more → AreLines labels 0 text ends2
+  lines_after line = rw e (stay_lines labels 0 text ends end (omega (arith, begins, n)) (omega (arith, n, next.within)) (subst (IsLine labels) (sym here) line) stays.0)
 
-  pub held_after : held labels 0 text2 ends2 ≡ held old 0 text ends ++ line_in labels more ∷ []
-  held_after = rw (t, e, long) (pushed labels 0 text more ends was) ∙ ap (λ ls. ls ++ line_in labels more ∷ []) (form_stays old labels text ends l told is lines).1
+  pub held_after : held labels 0 text ends2 ≡ held old 0 text ends ++ line_in labels more ∷ []
+  held_after = rw e (pushed labels 0 text ends end) ∙ (λ i. stays.1 i ++ line_in labels (here i) ∷ [])
+
+  pub begin_after : suc end ≡ begin_at 0 ends2 (length ends2)
+  begin_after = rw e (sym (begin_next 0 ends end))
+
+-- the first line of what is left comes next
+pub comes_next : (f : FrontOf) (bytes rest text : List ℕ) → f.text ≡ bytes → rest ≡ drop f.at bytes → 0 < length rest → text ≡ take (length text) rest → IsNext f text
+comes_next f bytes rest text is at some front =
+    let n : f.at + length text - f.at ≡ length text = omega arith in
+    record {
+      within = omega (arith, some, ap length at, length-drop f.at bytes, ap length front, length-take (length text) rest, ap length is);
+      here = ap (λ k. take k (drop f.at f.text)) n ∙ ap (λ b. take (length text) (drop f.at b)) is ∙ ap (take (length text)) (sym at) ∙ sym front;
+    }
 
 -- a line that is read breaks no rule, and means what was read, in the form that the lines tell with it
 is_said : (labels : spelled.Form) (text : List ℕ) (l : Line) → line_of labels text ≡ Some l → (line_of labels text ≡ Some (line_in labels text)) × (line_in labels text ≡ l)
@@ -76,12 +81,12 @@ right_line (b ∷ before) l text right =
 -- ---- a line by its number
 pub length-held : (labels : spelled.Form) (from : ℕ) (text ends : List ℕ) → length (held labels from text ends) ≡ length ends
 length-held labels from text [] = refl
-length-held labels from text (end ∷ ends) = ap suc (length-held labels end text ends)
+length-held labels from text (end ∷ ends) = ap suc (length-held labels (suc end) text ends)
 
-pub begin_later : (from : ℕ) (ends : List ℕ) (i : ℕ) → i < length ends → begin_at from ends (suc i) ≡ get_or ends i 0
+pub begin_later : (from : ℕ) (ends : List ℕ) (i : ℕ) → i < length ends → begin_at from ends (suc i) ≡ suc (get_or ends i 0)
 begin_later from [] i h = absurd (omega arith)
 begin_later from (end ∷ ends) zero h = refl
-begin_later from (end ∷ ends) (suc i) h = begin_later end ends i (omega arith)
+begin_later from (end ∷ ends) (suc i) h = begin_later (suc end) ends i (omega arith)
 
 pub record LineAt (labels : spelled.Form) (from : ℕ) (text ends : List ℕ) (i : ℕ) : Type 0 where
   pub low : begin_at from ends i ≤ get_or ends i 0
@@ -93,7 +98,7 @@ pub line_at : (labels : spelled.Form) (from : ℕ) (text ends : List ℕ) (i : �
 line_at labels from text [] i h few = absurd (omega arith)
 line_at labels from text (end ∷ ends) zero h few = record { low = h.0; high = h.1; line = h.2; is = refl }
 line_at labels from text (end ∷ ends) (suc i) h few =
-    let l = line_at labels end text ends i h.3 (omega arith) in
+    let l = line_at labels (suc end) text ends i h.3 (omega arith) in
     record { low = l.low; high = l.high; line = l.line; is = l.is }
 
 -- ---- what the words of a line say
@@ -118,3 +123,7 @@ of_body labels (l ∷ before) text told h skipped policy version = subst (λ f. 
 pub said_words : (labels : spelled.Form) (text : List ℕ) → IsLine labels text → is_skipped text ≡ false → is_policy_line text ≡ false → version_of text ≡ None → IsSaid labels (words_of text)
 unfolding line_fault
 said_words labels text l skipped policy version = of_body labels l.before text l.told (neither (text_fault text) (body_fault l.before text) l.faultless).1 skipped policy version
+
+-- what is left behind a line and its line feed
+pub later_rest : (at n : ℕ) (bytes : List ℕ) → drop (n + 1) (drop at bytes) ≡ drop (at + n + 1) bytes
+later_rest at n bytes = drop-drop (n + 1) at bytes ∙ ap (λ k. drop k bytes) (omega arith)

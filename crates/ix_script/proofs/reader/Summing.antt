@@ -1,5 +1,5 @@
 -- What is kept beside the lines: what each is for, and what they cost together.
-use Rattle.std.proofs.Common.{◌≡◌, ℕ, ◌+◌, ◌*◌, ◌≤◌, Bool, true, false, cond, List, [], ◌∷◌, ◌++◌, length, map, refl, sym, ap, ◌∙◌, arith}
+use Rattle.std.proofs.Common.{◌≡◌, ℕ, suc, ◌+◌, ◌*◌, ◌≤◌, Bool, true, false, cond, List, [], ◌∷◌, ◌++◌, length, map, refl, sym, ap, ◌∙◌, arith}
 use Rattle.std.proofs.lemmas.List.{map-append}
 use Rattle.ix_label.specs.declared.form.Form.{Form}
 use Rattle.ix_script.specs.{lines.{Before.is_command, Roles.role_of}, declared.{line.Line.Line, role.Role.Role}}
@@ -17,7 +17,7 @@ costs_little labels text l = at_most (is_command (line_in labels text)) (cost_of
 pub need_little : (labels : Form) (from : ℕ) (text ends : List ℕ) → AreLines labels from text ends → need (held labels from text ends) ≤ 4352 * length ends
 need_little labels from text [] h = omega (arith, need_none)
 need_little labels from text (end ∷ ends) h =
-    omega (arith, need_next (line_in labels (between from end text)) (held labels end text ends), costs_little labels (between from end text) h.2, need_little labels end text ends h.3)
+    omega (arith, need_next (line_in labels (between from end text)) (held labels (suc end) text ends), costs_little labels (between from end text) h.2, need_little labels (suc end) text ends h.3)
 
 -- ---- line after line
 pub summed_none : AreSummed [] [] 0

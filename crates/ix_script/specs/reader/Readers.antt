@@ -7,6 +7,7 @@ use Rattle.ix_script.specs.texts.Cutting.{word_at, is_skipped, is_policy_line}
 use Rattle.ix_script.specs.lines.Forms.{form_of, places}
 use Rattle.ix_script.specs.lines.Said.{said}
 use Rattle.ix_script.specs.lines.Roles.{role_of}
+use Rattle.ix_script.specs.scripts.Packed.{FrontOf, with_line}
 use Rattle.ix_script.specs.scripts.Need.{cost_of_line}
 use Rattle.ix_script.specs.declared.role.Role.TheVariants as role
 use Rattle.ix_script.specs.declared.form.Form.{Form}
@@ -78,10 +79,10 @@ pub record IsPlain (before : List Line) (text : List ℕ) (cost : ℕ) : Type 0 
   pub costs : cost_of_line line ≡ cost
 
 -- a line more, which the text says
-pub record LineMore (before after : List Line) (text : List ℕ) : Type 0 where
+pub record LineMore (before after : FrontOf) (text : List ℕ) : Type 0 where
   pub line : Line
-  pub right : LineRight before line (line_fault before text) (line_of (form_told before) text)
-  pub added : after ≡ before ++ line ∷ []
+  pub right : LineRight before.said line (line_fault before.said text) (line_of (form_told before.said) text)
+  pub added : after ≡ with_line before line text
 
 abbrev pub Tells : List Line → Result Line Rule → Option ℕ → Option Line → Type 0
 Tells before (Ok l) fault meaning = LineRight before l fault meaning

@@ -11,6 +11,7 @@ use Rattle.ix_model.specs.declared.config.FsSpec.{FsSpec}
 use Rattle.ix_model.specs.declared.config.ObjSpec.{ObjSpec}
 use Rattle.ix_script.specs.lines.Before.{default_fs, fss_told, fss_of, limits_of, whats_told, proc_names, objects_of, group, has_policy, in_body}
 use Rattle.ix_script.specs.lines.Before.{lane_now, phase_lanes, lanes_of, fds_given, procs_given, commands}
+use Rattle.ix_script.specs.scripts.Packed.{IsNext}
 use Rattle.ix_script.specs.scripts.Scripts.{config_of}
 use Rattle.ix_label.specs.declared.form.Form.{Form}
 use Rattle.ix_script.specs.declared.line.Line.{Line}
@@ -87,14 +88,15 @@ fss_after first told fss form (fs ∷ more) = if told == 0 then fs ∷ [] else f
 
 -- all that is kept
 pub record DraftTold (d : Draft) : Type 0 where
-  pub header : HeaderTold d.header d.lines
-  pub body : BodyTold d.body d.lines
+  pub header : HeaderTold d.header d.lines.said
+  pub body : BodyTold d.body d.lines.said
 
--- a line more may be added: what the draft tells is right, what its lines say of a machine is valid, and they can be counted
-pub record CanGrow (d : Draft) : Type 0 where
+-- a line of that text may be added: it comes next, what the draft tells is right, what its lines say of a machine is valid, and they can be counted
+pub record CanGrow (d : Draft) (text : List ℕ) : Type 0 where
+  pub next : IsNext d.lines text
   pub told : DraftTold d
-  pub valid : is_valid (config_of d.lines) ≡ true
-  pub few : length d.lines + 1 < 2 ^ 32
+  pub valid : is_valid (config_of d.lines.said) ≡ true
+  pub few : length d.lines.said + 1 < 2 ^ 32
 
 -- the text is the line of the next lane
 pub record IsNextLane (d : Draft) (text : List ℕ) : Type 0 where

@@ -8,7 +8,7 @@ const SESSION: &[u8] =
     b"ix 1\n# two lanes\nlimit procs 3\nfs root * 64 16\nfs far 3 8 8\nproc srv - * P DPCTL\ndir /mail - frozen\nfile /far/x 3 free D - \"a\\x41\\n\"\npolicy  {}\nphase\nlane one\nopen srv /mail/x rw as f\nfork srv none as q\nexit q 255\nlane two\npipe srv as f g\nlogin srv f g as q\nphase\nlane one\nread srv f 9\nlink q a/b /c\n";
 
 /// Whether the lines, the lanes and the policy are found where they stand.
-fn has_places(script: &Script) -> bool {
+fn has_places(script: &Script<'_>) -> bool {
     script.len() == 21
         && matches!(script.lane(0), Some(name) if name == b"one".as_slice())
         && matches!(script.lane(1), Some(name) if name == b"two".as_slice())
@@ -19,7 +19,7 @@ fn has_places(script: &Script) -> bool {
 }
 
 /// Whether lines are made anew from their words.
-fn has_lines(script: &Script) -> bool {
+fn has_lines(script: &Script<'_>) -> bool {
     matches!(script.line(2), Some(Line::Skipped))
         && matches!(script.line(10), Some(Line::Phase))
         && matches!(script.line(14), Some(Line::Exit { status: 255, .. }))
@@ -34,7 +34,7 @@ fn has_lines(script: &Script) -> bool {
 }
 
 /// Whether the file has its bytes and its capabilities.
-fn has_file(script: &Script) -> bool {
+fn has_file(script: &Script<'_>) -> bool {
     match script.line(8) {
         Some(Line::File { bytes, cap, .. }) if bytes.len() == 3 => {
             let mut buf = [0; 3];
@@ -46,7 +46,7 @@ fn has_file(script: &Script) -> bool {
 }
 
 /// Whether the config is the one that the header describes, with the journal that the commands need.
-fn has_config(alloc: Global, script: &Script) -> bool {
+fn has_config(alloc: Global, script: &Script<'_>) -> bool {
     match script.config(alloc) {
         Ok(config) => {
             config.fss.len() == 2

@@ -40,8 +40,8 @@ unfolding script_refusal
 returns-in-Save-clause-leads g c = λ beside history.
     ends_as (outcome_refused c.args.command c.args.script c.args.line 27 beside history (ap (λ k. script_refusal k c.args.script beside) c.in-Save.is ∙ c.requires.refusal)) c.refuse-in-Save.ensures
 
-pub returns-in-Twin-clause-leads : goal.returns-in-Twin-clause-leads
+pub returns-clause-leads : goal.returns-clause-leads
 unfolding script_refusal
-returns-in-Twin-clause-leads g c = λ beside history.
+returns-clause-leads g c = λ beside history.
     ends_as (outcome_refused c.args.command c.args.script c.args.line 27 beside history (ap (λ k. script_refusal k c.args.script beside) c.in-Twin.is
     ∙ ap (λ o. option_or o (second_refusal beside)) c.requires.refusal)) c.refuse-in-Twin.ensures

@@ -16,5 +16,5 @@ returns-in_err-add_lines-clause-fail g c =
 
 pub returns-clause-script : goal.returns-clause-script
 returns-clause-script g c =
-    script_is c.args.bytes.now c.add_lines.new.self.lines c.if-bytes-gt16777216.false c.in_ok-add_lines.ensures.faultless c.in_ok-add_lines.ensures.said
+    script_is c.args.bytes.now c.add_lines.new.self.lines.said c.if-bytes-gt16777216.false c.in_ok-add_lines.ensures.faultless c.in_ok-add_lines.ensures.said
     ∙ ap (λ (ls : List Line). Some ls) (sym c.in_ok-script.ensures)

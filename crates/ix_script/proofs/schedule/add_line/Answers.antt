@@ -9,45 +9,45 @@ use Rattle.ix_script.proofs.schedule.add_line.Goals as goal
 
 pub returns-in-Phase-clause-begun : goal.returns-in-Phase-clause-begun
 returns-in-Phase-clause-begun c =
-    sym (begun_here c.args.begun c.args.index c.args.lines.now c.unwrap-role.result (sym c.unwrap-role.ensures ∙ c.role.ensures)
+    sym (begun_here c.args.begun c.args.index c.args.lines.now.said c.unwrap-role.result (sym c.unwrap-role.ensures ∙ c.role.ensures)
     ∙ ap (λ (r : Role). cond (phase_role r) (c.args.begun + 1) c.args.begun) c.in-Phase.is)
 
 pub returns-in-Phase-clause-more : goal.returns-in-Phase-clause-more
 returns-in-Phase-clause-more c =
-    λ seat. none_here c.args.lanes.now seat c.args.begun c.args.index c.args.lines.now c.unwrap-role.result _ (sym c.unwrap-role.ensures ∙ c.role.ensures) (ap lane_role c.in-Phase.is)
+    λ seat. none_here c.args.lanes.now seat c.args.begun c.args.index c.args.lines.now.said c.unwrap-role.result _ (sym c.unwrap-role.ensures ∙ c.role.ensures) (ap lane_role c.in-Phase.is)
 
 pub returns-in_default-role : goal.returns-in_default-role
 returns-in_default-role c =
     let some = sym c.unwrap-role.ensures ∙ c.role.ensures in
     record {
       lanes = c.requires.lanes;
-      begun = sym (begun_here c.args.begun c.args.index c.args.lines.now c.unwrap-role.result some ∙ ap (λ (b : Bool). cond b (c.args.begun + 1) c.args.begun) (other_phase c.unwrap-role.result
+      begun = sym (begun_here c.args.begun c.args.index c.args.lines.now.said c.unwrap-role.result some ∙ ap (λ (b : Bool). cond b (c.args.begun + 1) c.args.begun) (other_phase c.unwrap-role.result
           c.in_default.not-Phase));
-      more = λ seat. none_here c.args.lanes.now seat c.args.begun c.args.index c.args.lines.now c.unwrap-role.result _ some (other_lane c.unwrap-role.result c.in_default-role.not-Lane);
+      more = λ seat. none_here c.args.lanes.now seat c.args.begun c.args.index c.args.lines.now.said c.unwrap-role.result _ some (other_lane c.unwrap-role.result c.in_default-role.not-Lane);
     }
 
 pub returns-in_default-seat_of-clause-begun : goal.returns-in_default-seat_of-clause-begun
 returns-in_default-seat_of-clause-begun c =
-    sym (begun_here c.args.begun c.args.index c.args.lines.now c.unwrap-role.result (sym c.unwrap-role.ensures ∙ c.role.ensures)
+    sym (begun_here c.args.begun c.args.index c.args.lines.now.said c.unwrap-role.result (sym c.unwrap-role.ensures ∙ c.role.ensures)
     ∙ ap (λ (r : Role). cond (phase_role r) (c.args.begun + 1) c.args.begun) c.in-Lane.is)
 
 pub slice_bounds-seat_of-count : goal.slice_bounds-seat_of-count
 slice_bounds-seat_of-count c =
-    let lane = lane_at (form_told c.args.lines.now) c.args.lines.now c.args.index c.unwrap-text.result.now c.unwrap-role.result (rw c.unwrap-text.ensures at c.text_at.ensures).0 (rw c.unwrap-text.ensures at c.text_at.ensures).1
+    let lane = lane_at (form_told c.args.lines.now.said) c.args.lines.now.said c.args.index c.unwrap-text.result.now c.unwrap-role.result (rw c.unwrap-text.ensures at c.text_at.ensures).0 (rw c.unwrap-text.ensures at c.text_at.ensures).1
     (sym c.unwrap-role.ensures ∙ c.role.ensures) c.in-Lane.is in
     lane.long
 
 pub slice_bounds-seat_of-start : goal.slice_bounds-seat_of-start
 slice_bounds-seat_of-start c =
-    let lane = lane_at (form_told c.args.lines.now) c.args.lines.now c.args.index c.unwrap-text.result.now c.unwrap-role.result (rw c.unwrap-text.ensures at c.text_at.ensures).0 (rw c.unwrap-text.ensures at c.text_at.ensures).1
+    let lane = lane_at (form_told c.args.lines.now.said) c.args.lines.now.said c.args.index c.unwrap-text.result.now c.unwrap-role.result (rw c.unwrap-text.ensures at c.text_at.ensures).0 (rw c.unwrap-text.ensures at c.text_at.ensures).1
     (sym c.unwrap-role.ensures ∙ c.role.ensures) c.in-Lane.is in
     lane.long
 
 pub returns-in_default-seat_of-clause-more : goal.returns-in_default-seat_of-clause-more
 returns-in_default-seat_of-clause-more c =
-    let lane = lane_at (form_told c.args.lines.now) c.args.lines.now c.args.index c.unwrap-text.result.now c.unwrap-role.result (rw c.unwrap-text.ensures at c.text_at.ensures).0 (rw c.unwrap-text.ensures at c.text_at.ensures).1
+    let lane = lane_at (form_told c.args.lines.now.said) c.args.lines.now.said c.args.index c.unwrap-text.result.now c.unwrap-role.result (rw c.unwrap-text.ensures at c.text_at.ensures).0 (rw c.unwrap-text.ensures at c.text_at.ensures).1
     (sym c.unwrap-role.ensures ∙ c.role.ensures) c.in-Lane.is in
-    λ seat. unseated c.args.lanes.now seat c.args.begun c.args.index c.args.lines.now (drop 5 c.unwrap-text.result.now) _ ((rw c.unwrap-text.ensures at c.text_at.ensures).1
+    λ seat. unseated c.args.lanes.now seat c.args.begun c.args.index c.args.lines.now.said (drop 5 c.unwrap-text.result.now) _ ((rw c.unwrap-text.ensures at c.text_at.ensures).1
     ∙ ap (λ (l : Line). Some l) lane.says) (sym (c.seat_of.ensures ∙ ap (λ n. seat_from 0 n c.args.lanes.now) (take_rest c.unwrap-text.result.now 5)) ∙ c.in_default-seat_of.is)
 
 pub index_mut-requires : goal.index_mut-requires
@@ -58,11 +58,11 @@ index_mut-requires c =
     omega (arith, seat_low 0 name c.args.lanes.now c.in-Some.seat place, c.requires.lanes)
 
 pub overflow_cast-part_end : goal.overflow_cast-part_end
-overflow_cast-part_end c = omega (arith, c.part_end.ensures, c.requires.few, part_within c.args.lines.now (c.args.index + 1) (omega (arith, c.requires.within)))
+overflow_cast-part_end c = omega (arith, c.part_end.ensures, c.requires.few, part_within c.args.lines.now.said (c.args.index + 1) (omega (arith, c.requires.within)))
 
 pub returns-clause-begun : goal.returns-clause-begun
 returns-clause-begun c =
-    sym (begun_here c.args.begun c.args.index c.args.lines.now c.unwrap-role.result (sym c.unwrap-role.ensures ∙ c.role.ensures)
+    sym (begun_here c.args.begun c.args.index c.args.lines.now.said c.unwrap-role.result (sym c.unwrap-role.ensures ∙ c.role.ensures)
     ∙ ap (λ (r : Role). cond (phase_role r) (c.args.begun + 1) c.args.begun) c.in-Lane.is)
 
 pub returns-clause-more : goal.returns-clause-more
@@ -71,15 +71,15 @@ returns-clause-more c =
     let at : ℕ = c.in-Some.seat in
     let own : List Stretch = c.index_mut.result.now in
     let stretch : Stretch = record { phase = c.saturating_sub.result; first = c.args.index + 1; end = c.part_end.result } in
-    let lane = lane_at (form_told c.args.lines.now) c.args.lines.now c.args.index c.unwrap-text.result.now c.unwrap-role.result (rw c.unwrap-text.ensures at c.text_at.ensures).0 (rw c.unwrap-text.ensures at c.text_at.ensures).1
+    let lane = lane_at (form_told c.args.lines.now.said) c.args.lines.now.said c.args.index c.unwrap-text.result.now c.unwrap-role.result (rw c.unwrap-text.ensures at c.text_at.ensures).0 (rw c.unwrap-text.ensures at c.text_at.ensures).1
     (sym c.unwrap-role.ensures ∙ c.role.ensures) c.in-Lane.is in
     let name : List ℕ = drop 5 c.unwrap-text.result.now in
     let place : seat_from 0 name c.args.lanes.now ≡ Some at =
     sym (c.seat_of.ensures ∙ ap (λ n. seat_from 0 n c.args.lanes.now) (take_rest c.unwrap-text.result.now 5)) ∙ c.in-Some.is in
     let low : at < length items = omega (arith, seat_low 0 name c.args.lanes.now at place, c.requires.lanes) in
-    let is : slice_get c.args.lines.now c.args.index ≡ Some (line.Lane name) = (rw c.unwrap-text.ensures at c.text_at.ensures).1 ∙ ap (λ (l : Line). Some l) lane.says in
+    let is : slice_get c.args.lines.now.said c.args.index ≡ Some (line.Lane name) = (rw c.unwrap-text.ensures at c.text_at.ensures).1 ∙ ap (λ (l : Line). Some l) lane.says in
     let before : own ≡ get_or items at [] = c.index_mut.ensures.value ∙ get_or_default items at own [] low in
     λ seat.
     added items at seat stretch c.push.new.self low (c.in_ok-push.ensures.ok ∙ ap (λ (ts : List Stretch). ts ++ stretch ∷ []) before)
-    ∙ ap (λ (ts : List Stretch). get_or items seat [] ++ ts) (stretch_here c.args.lanes.now seat c.args.begun c.args.index at _ _ c.args.lines.now name is place
+    ∙ ap (λ (ts : List Stretch). get_or items seat [] ++ ts) (stretch_here c.args.lanes.now seat c.args.begun c.args.index at _ _ c.args.lines.now.said name is place
     c.saturating_sub.ensures c.part_end.ensures)

@@ -6,7 +6,7 @@ use Rattle.ix_serial.proofs.serial.run_on.Given as goal
 
 abbrev pub invariant-entries : goal.invariant-entries
 invariant-entries g l = record {
-  script : l.calls.script ≡ l.script;
+  script : l.calls.script ≡ l.fn.script;
   stands : Stands l.core l.calls;
   seen : KnowsOn g.W.Witness.knows l.fn.core l.fn.witness l.core l.witness;
 }

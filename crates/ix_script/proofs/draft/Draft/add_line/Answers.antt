@@ -7,11 +7,11 @@ use Rattle.ix_script.proofs.{lines.Deciding.{some_lines, text_broken, by_words, 
 use Rattle.ix_script.proofs.draft.Draft.add_line.Goals as goal
 
 pub returns-in-Err-clause-fail : goal.returns-in-Err-clause-fail
-returns-in-Err-clause-fail g c = rw (text_broken c.args.self.now.lines c.args.text.now _ c.in-Err.ensures) c.fault.ensures
+returns-in-Err-clause-fail g c = rw (text_broken c.args.self.now.lines.said c.args.text.now _ c.in-Err.ensures) c.fault.ensures
 
 pub add_command-requires-clause-plain : goal.add_command-requires-clause-plain
 add_command-requires-clause-plain g c =
-    let before = c.args.self.now.lines in
+    let before = c.args.self.now.lines.said in
     let text = c.args.text.now in
     let some : is_empty before ≡ false = some_lines before c.len.result c.len.ensures c.if-len-eq0.false in
     let not_skipped : is_skipped text ≡ false = sym c.is_skipped.ensures ∙ c.if-is_skipped.false in
@@ -28,7 +28,7 @@ add_command-requires-clause-plain g c =
 
 pub returns-in-Err-form_by_words-clause-fail : goal.returns-in-Err-form_by_words-clause-fail
 returns-in-Err-form_by_words-clause-fail g c =
-    let before = c.args.self.now.lines in
+    let before = c.args.self.now.lines.said in
     let text = c.args.text.now in
     let some : is_empty before ≡ false = some_lines before c.len.result c.len.ensures c.if-len-eq0.false in
     let broken : command_fault before (words_of text) ≡ Some c.in-Err-form_by_words.rule.0 = rw c.cut.ensures at c.in-Err-form_by_words.ensures in
@@ -37,7 +37,7 @@ returns-in-Err-form_by_words-clause-fail g c =
 
 pub add_formed-requires-clause-formed : goal.add_formed-requires-clause-formed
 add_formed-requires-clause-formed g c =
-    let before : List Line = c.args.self.now.lines in
+    let before : List Line = c.args.self.now.lines.said in
     let text : List ℕ = c.args.text.now in
     let form : Form = c.in-Ok.form in
     let some : is_empty before ≡ false = some_lines before c.len.result c.len.ensures c.if-len-eq0.false in

@@ -1,19 +1,28 @@
-use Rattle.std.proofs.{Common.{◌≡◌, ℕ, List, [], length, sym, ◌∙◌, ap, arith, subst}, lemmas.{Bool.eqb-true, List.nil_from_length, Result.err_from_is_err_and}}
+use Rattle.std.proofs.{Common.{◌≡◌, ℕ, List, [], length, drop, sym, ◌∙◌, ap, arith, subst}, lemmas.{Bool.eqb-true, List.nil_from_length, Result.err_from_is_err_and}}
 use Rattle.ix_script.specs.{texts.Lines.cut, lines.Faults.fault_from, scripts.Scripts.{form_in, lines_said}}
 use Rattle.ix_script.proofs.reader.{Progress.{Reading, start, goes_on, stops, faultless, all_said, lines_cut}, Staying.valid_none}
+use Rattle.ix_script.{specs.scripts.Packed.FrontOf, proofs.reader.Packing.{comes_next, later_rest}}
 use Rattle.ix_script.proofs.texts.Feeds.{cut_printable, first_printable}
 use Rattle.ix_script.proofs.draft.Draft.add_lines.Goals as goal
 
 pub lines-init : goal.lines-init
 lines-init g c = record {
-  reading = start c.args.bytes.now c.args.self.now c.requires.told c.requires.none valid_none;
+  reading = start c.args.bytes.now c.args.self.now c.requires.told (ap (λ (f : FrontOf). f.said) c.requires.none) valid_none;
+  text = ap (λ (f : FrontOf). f.text) c.requires.none;
+  rest = sym (ap (λ (f : FrontOf). drop f.at c.args.bytes.now) c.requires.none);
   printable = λ all. cut_printable c.args.bytes.now (sym c.all_printable_lines-printable.ensures ∙ all);
 }
 
 pub add_line-requires-clause-grows : goal.add_line-requires-clause-grows
 add_line-requires-clause-grows g c =
     let reading = c.lines.invariant.reading in
-    record { told = reading.told; valid = reading.valid; few = omega (arith, reading.short, c.requires.few) }
+    record {
+      next = comes_next c.lines.self.lines c.args.bytes.now c.lines.rest.now c.first_line.result.0.now c.lines.invariant.text c.lines.invariant.rest
+          (omega (arith, c.first_line.ensures.fewer)) c.first_line.ensures.line;
+      told = reading.told;
+      valid = reading.valid;
+      few = omega (arith, reading.short, c.requires.few);
+    }
 
 pub add_line-requires-clause-printable : goal.add_line-requires-clause-printable
 add_line-requires-clause-printable g c = λ all. (first_printable c.lines.rest.now c.first_line.result.0.now
@@ -25,7 +34,9 @@ lines-preserved g c =
     record {
       reading = goes_on (cut c.args.bytes.now) (length c.args.bytes.now)
           c.lines.rest.now c.lines.self c.add_line.new.self c.first_line.result.0.now c.first_line.result.1.now more.line c.lines.invariant.reading
-          c.first_line.ensures.lines c.first_line.ensures.fewer more.right c.in_ok-add_line.ensures.told more.added;
+          c.first_line.ensures.lines c.first_line.ensures.fewer more.right c.in_ok-add_line.ensures.told (ap (λ (f : FrontOf). f.said) more.added);
+      text = ap (λ (f : FrontOf). f.text) more.added ∙ c.lines.invariant.text;
+      rest = rw (c.first_line.ensures.rest, c.lines.invariant.rest, more.added) (later_rest c.lines.self.lines.at (length c.first_line.result.0.now) c.args.bytes.now);
       printable = λ all. (first_printable c.lines.rest.now c.first_line.result.0.now (cut c.first_line.result.1.now) c.first_line.ensures.lines (c.lines.invariant.printable all)).1;
     }
 

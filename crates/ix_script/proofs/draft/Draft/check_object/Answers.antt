@@ -4,13 +4,13 @@ use Rattle.ix_script.proofs.draft.Draft.check_object.Goals as goal
 
 pub returns-then-is_above : goal.returns-then-is_above
 returns-then-is_above g c = λ o path label len.
-    let before = c.args.self.now.lines in
+    let before = c.args.self.now.lines.said in
     broken 22 (object_above before o) ((23, object_is_misplaced before o) ∷ (24, object_exceeds_limits before o) ∷ [])
     (sym (c.is_above.ensures o path label) ∙ c.if-is_above.true)
 
 pub returns-then-is_misplaced : goal.returns-then-is_misplaced
 returns-then-is_misplaced g c = λ o path label len.
-    let before = c.args.self.now.lines in
+    let before = c.args.self.now.lines.said in
     let below = kept 22 (object_above before o) ((23, object_is_misplaced before o) ∷ (24, object_exceeds_limits before o) ∷ [])
     (sym (c.is_above.ensures o path label) ∙ c.if-is_above.false) in
     below ∙ broken 23 (object_is_misplaced before o) ((24, object_exceeds_limits before o) ∷ [])
@@ -18,7 +18,7 @@ returns-then-is_misplaced g c = λ o path label len.
 
 pub returns-then-lacks_room : goal.returns-then-lacks_room
 returns-then-lacks_room g c = λ o path label len.
-    let before = c.args.self.now.lines in
+    let before = c.args.self.now.lines.said in
     let below = kept 22 (object_above before o) ((23, object_is_misplaced before o) ∷ (24, object_exceeds_limits before o) ∷ [])
     (sym (c.is_above.ensures o path label) ∙ c.if-is_above.false) in
     let placed = kept 23 (object_is_misplaced before o) ((24, object_exceeds_limits before o) ∷ [])
@@ -27,7 +27,7 @@ returns-then-lacks_room g c = λ o path label len.
 
 pub returns : goal.returns
 returns g c = λ o path label len.
-    let before = c.args.self.now.lines in
+    let before = c.args.self.now.lines.said in
     let below = kept 22 (object_above before o) ((23, object_is_misplaced before o) ∷ (24, object_exceeds_limits before o) ∷ [])
     (sym (c.is_above.ensures o path label) ∙ c.if-is_above.false) in
     let placed = kept 23 (object_is_misplaced before o) ((24, object_exceeds_limits before o) ∷ [])

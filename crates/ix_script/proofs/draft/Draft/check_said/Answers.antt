@@ -14,14 +14,14 @@ returns-in-File g c =
 
 pub returns-then-is_one_too_many : goal.returns-then-is_one_too_many
 returns-then-is_one_too_many g c =
-    let before = c.args.self.now.lines in
+    let before = c.args.self.now.lines.said in
     let l = c.args.line.now in
     let other = other_said before l c.in_default.not-Proc c.in_default.not-Dir c.in_default.not-File c.in_default.not-Limit c.in_default.not-Fs in
     other ∙ broken 26 (is_one_too_many before l) ((28, lacks_policy before l) ∷ []) (sym c.is_one_too_many.ensures ∙ c.if-is_one_too_many.true)
 
 pub returns-then-lacks_policy : goal.returns-then-lacks_policy
 returns-then-lacks_policy g c =
-    let before = c.args.self.now.lines in
+    let before = c.args.self.now.lines.said in
     let l = c.args.line.now in
     let other = other_said before l c.in_default.not-Proc c.in_default.not-Dir c.in_default.not-File c.in_default.not-Limit c.in_default.not-Fs in
     let few = kept 26 (is_one_too_many before l) ((28, lacks_policy before l) ∷ []) (sym c.is_one_too_many.ensures ∙ c.if-is_one_too_many.false) in
@@ -29,7 +29,7 @@ returns-then-lacks_policy g c =
 
 pub returns-else-lacks_policy : goal.returns-else-lacks_policy
 returns-else-lacks_policy g c =
-    let before = c.args.self.now.lines in
+    let before = c.args.self.now.lines.said in
     let l = c.args.line.now in
     let other = other_said before l c.in_default.not-Proc c.in_default.not-Dir c.in_default.not-File c.in_default.not-Limit c.in_default.not-Fs in
     let few = kept 26 (is_one_too_many before l) ((28, lacks_policy before l) ∷ []) (sym c.is_one_too_many.ensures ∙ c.if-is_one_too_many.false) in

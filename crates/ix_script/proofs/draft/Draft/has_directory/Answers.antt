@@ -9,4 +9,4 @@ returns-else-is_mount c =
     rw (
       not_root (path_of c.args.path.now).names (λ none. c.if-len-eq0.false (c.len.ensures.len ∙ none)),
       not_mount c.is_mount.result _ _ (path_of c.args.path.now).names c.is_mount.ensures c.if-is_mount.false fss,
-    ) (c.has_dir.ensures (objects_of c.args.self.now.lines) c.requires.told.header.made)
+    ) (c.has_dir.ensures (objects_of c.args.self.now.lines.said) c.requires.told.header.made)

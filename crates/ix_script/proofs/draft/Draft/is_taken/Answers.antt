@@ -7,4 +7,4 @@ pub returns-else-is_mount : goal.returns-else-is_mount
 returns-else-is_mount c =
     let fss = c.as_slice.ensures ∙ c.requires.told.header.fss in
     rw (not_mount c.is_mount.result _ _ (path_of c.args.path.now).names c.is_mount.ensures c.if-is_mount.false fss)
-    (c.has.ensures (objects_of c.args.self.now.lines) c.requires.told.header.made)
+    (c.has.ensures (objects_of c.args.self.now.lines.said) c.requires.told.header.made)

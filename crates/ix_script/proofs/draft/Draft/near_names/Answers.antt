@@ -15,7 +15,7 @@ returns-in_default-2-clause-right c = none_broken
 
 pub returns-in-OnFd-clause-right : goal.returns-in-OnFd-clause-right
 returns-in-OnFd-clause-right c =
-    let lines = c.args.self.now.lines in
+    let lines = c.args.self.now.lines.said in
     let proc : is_script_name (word_at c.args.words.now 1) ≡ true = rw c.get.ensures at (c.if-not-has_near.ensures.name (proc_names lines) c.requires.told.header.procs refl) in
     let fd : is_script_name (word_at c.args.words.now 2) ≡ true = rw c.get-fd.ensures at (c.if-has_near.ensures.name (fds_given lines) c.requires.told.body.fds refl) in
     let right = both_right _ _ proc fd in
@@ -28,7 +28,7 @@ returns-in-OnFd-clause-right c =
 
 pub returns-in-Plain-clause-right : goal.returns-in-Plain-clause-right
 returns-in-Plain-clause-right c =
-    let proc : is_script_name (word_at c.args.words.now 1) ≡ true = rw c.get.ensures at (c.if-not-has_near.ensures.name (proc_names c.args.self.now.lines) c.requires.told.header.procs refl) in
+    let proc : is_script_name (word_at c.args.words.now 1) ≡ true = rw c.get.ensures at (c.if-not-has_near.ensures.name (proc_names c.args.self.now.lines.said) c.requires.told.header.procs refl) in
     let right = proc_right _ proc in
     elim c.in-Plain.is [
       | inl e ↦ rw e.1 right
@@ -40,7 +40,7 @@ returns-in-Plain-clause-right c =
 
 pub returns-in-List-clause-right : goal.returns-in-List-clause-right
 returns-in-List-clause-right c =
-    let proc : is_script_name (word_at c.args.words.now 1) ≡ true = rw c.get.ensures at (c.if-not-has_near.ensures.name (proc_names c.args.self.now.lines) c.requires.told.header.procs refl) in
+    let proc : is_script_name (word_at c.args.words.now 1) ≡ true = rw c.get.ensures at (c.if-not-has_near.ensures.name (proc_names c.args.self.now.lines.said) c.requires.told.header.procs refl) in
     let right = proc_right _ proc in
     elim c.in-List.is [
       | inl e ↦ rw e right

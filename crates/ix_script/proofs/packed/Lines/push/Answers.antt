@@ -1,21 +1,28 @@
-use Rattle.std.proofs.Common.{◌≡◌, ℕ, ◌+◌, ◌++◌, ◌∷◌, [], List, length, refl, sym, ap, ◌∙◌, arith}
+use Rattle.std.proofs.Common.{◌≡◌, ℕ, ◌+◌, ◌++◌, ◌∷◌, [], List, length, refl, sym, ap, ◌∙◌, subst, arith}
 use Rattle.ix_label.specs.declared.form.Form.{Form}
-use Rattle.ix_script.specs.{lines.{Before.form_told, Roles.role_of}, scripts.Packed.{held, line_in}, declared.line.Line.Line}
-use Rattle.ix_script.proofs.reader.{Packing.{lines_after, held_after, length-held}, Summing.{costs_little, need_little, summed_after}}
+use Rattle.ix_script.specs.{lines.{Before.form_told, Roles.role_of}, scripts.Packed.{FrontOf, IsNext, held, line_in}, declared.line.Line.Line}
+use Rattle.ix_script.proofs.reader.{Packing.{begin_after, lines_after, held_after, length-held}, Summing.{costs_little, need_little, summed_after}}
 use Rattle.ix_script.proofs.packed.Lines.push.Goals as goal
+
+pub overflow_add-end : goal.overflow_add-end
+overflow_add-end c =
+    let next = subst (λ (f : FrontOf). IsNext f c.args.text.now) (sym c.self.view_is) c.requires.next in omega (arith, next.within, c.self.invariant.2)
+
+pub overflow_cast-end : goal.overflow_cast-end
+overflow_cast-end c =
+    let next = subst (λ (f : FrontOf). IsNext f c.args.text.now) (sym c.self.view_is) c.requires.next in omega (arith, next.within, c.self.invariant.2)
 
 pub overflow_add-self : goal.overflow_add-self
 overflow_add-self c =
     let old : Form = c.self.inside.form in
-    let text : List ℕ = c.self.inside.text.items in
+    let text : List ℕ = c.self.inside.text.now in
     let ends : List ℕ = c.self.inside.ends.items in
     omega (
       arith,
-      c.self.invariant.1.total,
-      need_little old 0 text ends c.self.invariant.0,
+      c.self.invariant.0.1.total,
+      need_little old 0 text ends c.self.invariant.0.0,
       length-held old 0 text ends,
-      ap length
-          c.self.view_is,
+      ap (λ (f : FrontOf). length f.said) c.self.view_is,
       c.requires.few,
       costs_little c.args.form c.args.text.now c.requires.faultless,
       c.requires.cost,
@@ -26,18 +33,25 @@ invariant_of-self-2 c =
     let old : Form = c.self.inside.form in
     let form : Form = c.args.form in
     let line : Line = line_in form c.args.text.now in
-    let text : List ℕ = c.self.inside.text.items in
+    let text : List ℕ = c.self.inside.text.now in
     let ends : List ℕ = c.self.inside.ends.items in
-    let long : c.in-Ok.end ≡ length text + length c.args.text.now = omega (arith, c.in-Ok.ensures, ap length c.as_slice.ensures.value) in
-    let is : form ≡ form_told (held old 0 text ends ++ line ∷ []) = sym c.requires.form ∙ ap (λ (ls : List Line). form_told (ls ++ line ∷ [])) (sym c.self.view_is) in
-    let more : held form 0 c.extend_from_slice.new.self.items c.push.new.self.items ≡ held old 0 text ends ++ line ∷ [] =
-    held_after old form line text c.args.text.now ends c.extend_from_slice.new.self.items c.push.new.self.items c.in-Ok.end
-    c.in-Ok-extend_from_slice.ensures.items c.in_ok-push.ensures.items long c.self.invariant.2 is c.self.invariant.0 in
-    let role : c.push-2.new.self.items ≡ c.self.inside.roles.items ++ role_of line ∷ [] = rw (c.in-Ok-push.ensures.items, c.requires.role) refl in (
-      lines_after old form line text c.args.text.now ends c.extend_from_slice.new.self.items c.push.new.self.items c.in-Ok.end
-          c.in-Ok-extend_from_slice.ensures.items c.in_ok-push.ensures.items long c.self.invariant.2 is c.self.invariant.0 c.requires.faultless,
-      summed_after (held old 0 text ends) _ line c.self.inside.roles.items _ c.self.inside.need _ more role (ap (λ (n : ℕ). c.self.inside.need + n) (sym c.requires.cost)) c.self.invariant.1,
-      is ∙ ap form_told (sym more),
+    let next = subst (λ (f : FrontOf). IsNext f c.args.text.now) (sym c.self.view_is) c.requires.next in
+    let is : form ≡ form_told (held old 0 text ends ++ line ∷ []) = sym c.requires.form ∙ ap (λ (f : FrontOf). form_told (f.said ++ line ∷ [])) (sym c.self.view_is) in
+    let more = held_after old form line text c.args.text.now ends c.push.new.self.items c.self.inside.at (c.self.inside.at + length c.args.text.now) c.in_ok-push.ensures.items
+    c.self.invariant.1 refl next c.self.invariant.0.2 is c.self.invariant.0.0 in
+    let role : c.push-2.new.self.items ≡ c.self.inside.roles.items ++ role_of line ∷ [] = rw (c.in-Ok.ensures.items, c.requires.role) refl in (
+      (
+        lines_after old form line text c.args.text.now ends c.push.new.self.items c.self.inside.at (c.self.inside.at + length c.args.text.now) c.in_ok-push.ensures.items
+            c.self.invariant.1 refl next c.self.invariant.0.2 is c.self.invariant.0.0 c.requires.faultless,
+        summed_after (held old 0 text ends) _ line c.self.inside.roles.items _ c.self.inside.need _ more role (ap (λ (n : ℕ). c.self.inside.need + n) (sym c.requires.cost)) c.self.invariant.0.1,
+        is ∙ ap form_told (sym more),
+      ),
+      omega (
+        arith,
+        begin_after old form line text c.args.text.now ends c.push.new.self.items c.self.inside.at (c.self.inside.at + length c.args.text.now) c.in_ok-push.ensures.items
+            c.self.invariant.1 refl next c.self.invariant.0.2 is c.self.invariant.0.0,
+      ),
+      c.self.invariant.2,
     )
 
 pub returns : goal.returns
@@ -45,10 +59,10 @@ returns c =
     let old : Form = c.self.inside.form in
     let form : Form = c.args.form in
     let line : Line = line_in form c.args.text.now in
-    let text : List ℕ = c.self.inside.text.items in
+    let text : List ℕ = c.self.inside.text.now in
     let ends : List ℕ = c.self.inside.ends.items in
-    let long : c.in-Ok.end ≡ length text + length c.args.text.now = omega (arith, c.in-Ok.ensures, ap length c.as_slice.ensures.value) in
-    let is : form ≡ form_told (held old 0 text ends ++ line ∷ []) = sym c.requires.form ∙ ap (λ (ls : List Line). form_told (ls ++ line ∷ [])) (sym c.self.view_is) in
-    held_after old form line text c.args.text.now ends c.extend_from_slice.new.self.items c.push.new.self.items c.in-Ok.end
-    c.in-Ok-extend_from_slice.ensures.items c.in_ok-push.ensures.items long c.self.invariant.2 is c.self.invariant.0
-    ∙ ap (λ (ls : List Line). ls ++ line ∷ []) c.self.view_is
+    let next = subst (λ (f : FrontOf). IsNext f c.args.text.now) (sym c.self.view_is) c.requires.next in
+    let is : form ≡ form_told (held old 0 text ends ++ line ∷ []) = sym c.requires.form ∙ ap (λ (f : FrontOf). form_told (f.said ++ line ∷ [])) (sym c.self.view_is) in
+    let said = held_after old form line text c.args.text.now ends c.push.new.self.items c.self.inside.at (c.self.inside.at + length c.args.text.now) c.in_ok-push.ensures.items
+    c.self.invariant.1 refl next c.self.invariant.0.2 is c.self.invariant.0.0 ∙ ap (λ (f : FrontOf). f.said ++ line ∷ []) c.self.view_is in
+    λ i. record { text = (c.self.view_is i).text; said = said i; at = (c.self.view_is i).at + length c.args.text.now + 1 }

@@ -4,13 +4,13 @@ use Rattle.ix_script.proofs.plan.Plan.of.Goals as goal
 
 pub lines-preserved : goal.lines-preserved
 lines-preserved c =
-    let low : c.lines.index < length c.args.lines.now = omega (arith, c.lines-test.true, c.len-index-end.ensures) in
+    let low : c.lines.index < length c.args.lines.now.said = omega (arith, c.lines-test.true, c.len-index-end.ensures) in
     elim c.match-header_line.branch [
       | in-Some+in_ok-add w ↦
-          rw w.plan-is (plan_more c.args.lines.now c.lines.index w.in-Some.line w.add.new.self low (in_it _ w.in-Some.line (sym c.header_line.ensures ∙ w.in-Some.is))
-          (w.in_ok-add.ensures (take c.lines.index c.args.lines.now) c.lines.invariant))
-      | in_default w ↦ rw w.plan-is (plan_same c.args.lines.now c.lines.index c.lines.plan low (sym c.header_line.ensures ∙ w.in_default.is) c.lines.invariant)
+          rw w.plan-is (plan_more c.args.lines.now.said c.lines.index w.in-Some.line w.add.new.self low (in_it _ w.in-Some.line (sym c.header_line.ensures ∙ w.in-Some.is))
+          (w.in_ok-add.ensures (take c.lines.index c.args.lines.now.said) c.lines.invariant))
+      | in_default w ↦ rw w.plan-is (plan_same c.args.lines.now.said c.lines.index c.lines.plan low (sym c.header_line.ensures ∙ w.in_default.is) c.lines.invariant)
     ]
 
 pub returns : goal.returns
-returns c = plan_all c.args.lines.now c.lines.index c.lines.plan (omega (arith, c.lines-test.false, c.len-index-end.ensures)) c.lines.invariant
+returns c = plan_all c.args.lines.now.said c.lines.index c.lines.plan (omega (arith, c.lines-test.false, c.len-index-end.ensures)) c.lines.invariant
