@@ -1,17 +1,16 @@
 -- A closing line, looked at.
-use Rattle.std.proofs.Common.{◌≡◌, ℕ, suc, ◌+◌, ◌-◌, Bool, true, false, List, [], ◌∷◌, ◌++◌, length, drop, refl, sym, ap, ◌∙◌, arith, inl, inr, ◌⊎◌, add-one}
-use Rattle.std.proofs.Common.{if◌then◌else◌}
-use Rattle.std.{specs.{Prelude.codes, List.{flat_map, list_all}}, proofs.lemmas.{Bool.and_parts, List.append_cancel_left}}
+use Rattle.std.proofs.Common.{◌≡◌, ℕ, suc, ◌+◌, ◌-◌, true, false, List, [], ◌∷◌, ◌++◌, length, drop, refl, sym, ap, ◌∙◌, arith, inl, inr, ◌⊎◌, add-one, if◌then◌else◌}
+use Rattle.std.{proofs.lemmas.{Bool.and_parts, List.append_cancel_left}, specs.{List.{flat_map, list_all}, Prelude.codes}}
 use Rattle.ix_label.specs.declared.form.Form.{Form}
 use Rattle.ix_model.specs.{history.History.{History, world_of}, world.Naming.same_bytes}
-use Rattle.ix_script.specs.{lines.Before.form_told, declared.line.Line.Line}
+use Rattle.ix_script.specs.{declared.line.Line.Line, lines.Before.form_told}
 use Rattle.ix_report.specs.{Feeds.EndsOnce, LineText.{audit_line, tail_line}}
-use Rattle.ix_replay.specs.{report.Report.{object_text, process_text, texts_from}, declared.reporting.closing.Next.Next}
-use Rattle.ix_replay.specs.report.Telling.{HasTold, TellsLine, left_of, objects_left, pieces_of, processes_left, text_left, pieces_left}
+use Rattle.ix_replay.specs.{declared.reporting.closing.Next.Next, report.{Report.{object_text, process_text, texts_from}, Telling.{HasTold, TellsLine, left_of, objects_left, pieces_of}}}
+use Rattle.ix_replay.specs.report.Telling.{processes_left, text_left, pieces_left}
+use Rattle.ix_judging.{specs.{Bytes.{is_line, joined, split}, Walk.{Closing, Fails, closes}}, proofs.Split.split-line}
+use Rattle.ix_check.{specs.{Judging.{AreLeft, IsClosing}, Plans.judged_plan}, proofs.Printed.once_line}
 use Rattle.ix_replay.specs.declared.reporting.closing.Closing as telling
 use Rattle.ix_replay.specs.declared.reporting.closing.Next.TheVariants as next
-use Rattle.ix_judging.{specs.{Bytes.{is_line, joined, split}, Judge.Text, Walk.{Closing, Fails, closes}}, proofs.Split.split-line}
-use Rattle.ix_check.{specs.{Judging.{AreLeft, IsClosing}, Plans.judged_plan}, proofs.Printed.once_line}
 
 -- ---- what is left goes by the form, the history and what comes next
 -- the lines of the log from an index on, and the last line
@@ -59,35 +58,35 @@ pieces_is c next.End = refl
 module _ (s : List Line) (h : History) where
   pub left_is : (after : Next) (c : telling.Closing) → IsClosing s h after c → left_of c ≡ text_at (form_told s) h after
   unfolding left_of
-  left_is after c is = text_is c c.next ∙ (λ i. text_at (is.form i) (is.history i) (is.stage i))
+  left_is after c is = text_is c _ ∙ (λ i. text_at (is.form i) (is.history i) (is.stage i))
 
   pub count_is : (after : Next) (c : telling.Closing) → IsClosing s h after c → pieces_of c ≡ pieces_at h after
   unfolding pieces_of
-  count_is after c is = pieces_is c c.next ∙ (λ i. pieces_at (is.history i) (is.stage i))
+  count_is after c is = pieces_is c _ ∙ (λ i. pieces_at (is.history i) (is.stage i))
 
 -- ---- lines
 -- a line isn't empty
 line_there : (l : List ℕ) → is_line l ≡ true → l ≡ [] → ⊥
-line_there [] is none = let odd : false ≡ true = is in cc
-line_there (b ∷ l) is none = let odd : b ∷ l ≡ [] = none in cc
+line_there [] is none = cc
+line_there (b ∷ l) is none = cc
 
 -- texts that are the same begin with the same line
 first_same : (x y u v : List ℕ) → is_line x ≡ true → is_line y ≡ true → x ++ u ≡ y ++ v → (x ≡ y) × (u ≡ v)
 first_same x y u v one two same =
-    let lines : x ∷ (split u).lines ≡ y ∷ (split v).lines =
-    ap (λ (t : Text (List ℕ)). t.lines) (sym (split-line x u one) ∙ ap split same ∙ split-line y v two) in
+    let lines =
+    ap (λ t. t.lines) (sym (split-line x u one) ∙ ap split same ∙ split-line y v two) in
     let line : x ≡ y = cc in
-    (line, append_cancel_left x u v (same ∙ ap (λ (t : List ℕ). t ++ v) (sym line)))
+    (line, append_cancel_left x u v (same ∙ ap (λ t. t ++ v) (sym line)))
 
 -- nothing in front and behind
 front_none : (x y : List ℕ) → x ++ y ≡ [] → x ≡ []
 front_none [] y is = refl
-front_none (b ∷ x) y is = let odd : b ∷ (x ++ y) ≡ [] = is in cc
+front_none (b ∷ x) y is = cc
 
 pub none_joined : (left : List (List ℕ)) → list_all is_line left ≡ true → joined left ≡ [] → left ≡ []
 none_joined [] lines none = refl
 none_joined (c ∷ left) lines none =
-    absurd (line_there c (and_parts (is_line c) (list_all is_line left) lines).0 (front_none c (joined left) none))
+    absurd (line_there c (and_parts _ _ lines).0 (front_none c _ none))
 
 -- ---- one line looked at
 module _ (s : List Line) (h : History) (after : Next) (n : ℕ) (left : List (List ℕ)) (are : AreLeft s h after n left) (old new : telling.Closing)
@@ -107,8 +106,7 @@ module _ (s : List Line) (h : History) (after : Next) (n : ℕ) (left : List (Li
   -- nothing is left
   pub none_left : (count : ℕ) → printed ≡ [] → closes (judged_plan s) n count left line ≡ Fails n
   none_left count none =
-      let empty : left ≡ [] = none_joined left are.lines (sym (are.text old is) ∙ tells.2 (sym printed_told ∙ none)) in
-      ap (λ (ls : List (List ℕ)). closes (judged_plan s) n count ls line) empty
+      ap (λ ls. closes (judged_plan s) n count ls line) (none_joined left are.lines (sym (are.text old is) ∙ tells.2 (sym printed_told ∙ none)))
 
   -- something is left: what was printed is the next line
   abbrev IsNext : List (List ℕ) → Type 0
@@ -122,45 +120,43 @@ module _ (s : List Line) (h : History) (after : Next) (n : ℕ) (left : List (Li
 
   next_is : (ls : List (List ℕ)) → left ≡ ls → (printed ≡ [] → ⊥) → (closing : List (List ℕ)) × IsNext closing
   next_is [] empty some =
-      let none : told ≡ [] = front_none told (left_of new) (left_text ∙ ap joined empty) in absurd (some (printed_told ∙ none))
+      absurd (some (printed_told ∙ (front_none told (left_of _) (left_text ∙ ap joined empty))))
   next_is (c ∷ closing) those some =
-      let lines : list_all is_line (c ∷ closing) ≡ true = ap (list_all is_line) (sym those) ∙ are.lines in
-      let parts = and_parts (is_line c) (list_all is_line closing) lines in
-      let first = first_same told c (left_of new) (joined closing) (once_line told (its_end some)) parts.0 (left_text ∙ ap joined those) in
-      (closing, (those ∙ ap (λ (x : List ℕ). x ∷ closing) (sym first.0 ∙ sym printed_told), parts.1, first.1))
+      let parts = and_parts _ _ (ap (list_all is_line) (sym those) ∙ are.lines) in
+      let first = first_same _ c _ _ (once_line _ (its_end some)) parts.0 (left_text ∙ ap joined those) in
+      (closing, (those ∙ ap (λ x. x ∷ closing) (sym first.0 ∙ sym printed_told), parts.1, first.1))
 
   pub wrong_line : (count : ℕ) → (printed ≡ [] → ⊥) → same_bytes printed line ≡ false → closes (judged_plan s) n count left line ≡ Fails n
   wrong_line count some other =
-      let next = next_is left refl some in
-      ap (λ (ls : List (List ℕ)). closes (judged_plan s) n count ls line) next.1.0
-      ∙ ap (λ (b : Bool). if b then Closing (suc n) count next.0 else Fails n) other
+      let next = next_is _ refl some in
+      ap (λ ls. closes (judged_plan s) n count ls line) next.1.0
+      ∙ ap (λ b. if b then Closing (suc n) count next.0 else Fails n) other
 
   -- a line that isn't what was printed, or nothing was
   pub wrong_or_none : (count : ℕ) → (printed ≡ []) ⊎ (same_bytes printed line ≡ false) → closes (judged_plan s) n count left line ≡ Fails n
-  wrong_or_none count (inl none) = none_left count none
-  wrong_or_none count (inr other) = go printed refl
+  wrong_or_none count (inl none) = none_left _ none
+  wrong_or_none count (inr other) = go _ refl
     where
       go : (t : List ℕ) → printed ≡ t → closes (judged_plan s) n count left line ≡ Fails n
-      go [] is = none_left count is
-      go (b ∷ t) is = wrong_line count (λ none. let odd : b ∷ t ≡ [] = sym is ∙ none in cc) other
+      go [] is = none_left _ is
+      go (b ∷ t) is = wrong_line _ (λ none. cc) other
 
   pub right_line : (count : ℕ) → (printed ≡ [] → ⊥) → same_bytes printed line ≡ true → (closing : List (List ℕ))
       × (closes (judged_plan s) n count left line ≡ Closing (n + 1) count closing) × AreLeft s h new.next (n + 1) closing
   right_line count some same =
-      let next = next_is left refl some in
+      let next = next_is _ refl some in
       let new_is : IsClosing s h new.next new =
       record { form = begun.same.form ∙ is.form; history = begun.same.history ∙ is.history; stage = refl } in (
         next.0,
-        ap (λ (ls : List (List ℕ)). closes (judged_plan s) n count ls line) next.1.0
-            ∙ ap (λ (b : Bool). if b then Closing (suc n) count next.0 else Fails n) same
+        ap (λ ls. closes (judged_plan s) n count ls line) next.1.0
+            ∙ ap (λ b. if b then Closing (suc n) count next.0 else Fails n) same
             ∙ ap (λ m. Closing m count next.0) (sym (add-one n)),
         record {
           lines = next.1.1;
           text = λ c c_is. left_is s h new.next c c_is ∙ sym (left_is s h new.next new new_is) ∙ next.1.2;
           few = λ c c_is.
-              let fewer = begun.some (its_end some) in
               let few = are.few old is in
               let pieces = count_is s h new.next c c_is in
-              let pieces' = count_is s h new.next new new_is in omega (arith, fewer, few, pieces, pieces');
+              let pieces' = count_is s h new.next new new_is in omega (arith, begun.some (its_end some), few, pieces, pieces');
         },
       )

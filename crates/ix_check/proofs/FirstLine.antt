@@ -1,6 +1,6 @@
 -- The first line of a text, by the place of its line feed.
 use Rattle.std.proofs.Common.{◌≡◌, ℕ, zero, suc, ◌<◌, ◌==◌, Bool, true, false, List, [], ◌∷◌, length, take, refl, ap, arith, slice_index}
-use Rattle.ix_judging.specs.{Bytes.{is_empty, is_line, split, with_byte}, Judge.Text}
+use Rattle.ix_judging.specs.Bytes.{is_empty, is_line, split, with_byte}
 
 -- whether a place of a text has a line feed
 abbrev pub HasFeed : List ℕ → ℕ → Type 0
@@ -12,8 +12,7 @@ pub is_first : (text : List ℕ) (i : ℕ) → i < length text → HasFeed text 
 is_first [] i within feed none = absurd (omega (arith, within))
 is_first (b ∷ text) zero within feed none = rw feed refl
 is_first (b ∷ text) (suc i) within feed none =
-    let other : (b == 10) ≡ false = not_feed (b == 10) (none 0 (omega arith)) in
-    rw other (is_first text i (omega (arith, within)) feed (λ j below has. none (suc j) (omega (arith, below)) has))
+    rw (not_feed _ (none 0 (omega arith))) (is_first text i (omega (arith, within)) feed (λ j below has. none (suc j) (omega (arith, below)) has))
   where
     not_feed : (t : Bool) → (t ≡ true → ⊥) → t ≡ false
     not_feed true never = absurd (never refl)
@@ -24,9 +23,8 @@ pub no_lines : (text : List ℕ) → ((j : ℕ) → j < length text → HasFeed 
     → split text ≡ record { lines = []; whole = is_empty text }
 no_lines [] none = refl
 no_lines (b ∷ text) none =
-    let other : (b == 10) ≡ false = not_feed (b == 10) (none 0 (omega arith)) in
     let rest = no_lines text (λ j below has. none (suc j) (omega (arith, below)) has) in
-    rw other (ap (λ (t : Text (List ℕ)). with_byte b t.lines t.whole) rest)
+    rw (not_feed _ (none 0 (omega arith))) (ap (λ t. with_byte b t.lines t.whole) rest)
   where
     not_feed : (t : Bool) → (t ≡ true → ⊥) → t ≡ false
     not_feed true never = absurd (never refl)

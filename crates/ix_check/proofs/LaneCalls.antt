@@ -1,17 +1,14 @@
 -- What the lane of a script asks for is what a lane of the theory asks for. All that goes by how a line asks for its calls stands here.
-use Rattle.std.proofs.Common.{◌≡◌, ℕ, zero, suc, ◌*◌, ◌≤◌, Bool, true, false, List, [], ◌∷◌, ◌++◌, length, take, Option, None, refl, sym, ap, subst, arith}
-use Rattle.std.proofs.Common.{cond, if◌then◌else◌}
-use Rattle.std.{specs.List.sum_by, proofs.lemmas.List.Sums.sum_by-take-le}
+use Rattle.std.proofs.Common.{◌≡◌, ℕ, zero, suc, ◌≤◌, Bool, true, false, List, [], ◌∷◌, ◌++◌, length, take, Option, None, refl, sym, ap, subst, arith, cond, if◌then◌else◌}
+use Rattle.std.{proofs.lemmas.List.Sums.sum_by-take-le, specs.List.sum_by}
 use Rattle.ix_model.specs.history.Events.{Event}
-use Rattle.ix_asking.specs.{Asking.{Answered, Asking, Done, Ask, all_heard, first, followed, heard}, Lines.{calls_then, no_calls}, Runs.entry_of}
-use Rattle.ix_asking.proofs.{Every.AllOf, Few.Few}
-use Rattle.ix_script.specs.{lines.Before.{lanes_of, is_phase}, declared.line.Line.Line, scripts.Schedule.{Numbered, is_seat, seat_after}}
-use Rattle.ix_lanes.specs.{declared.asking.handed.Handed.Handed, histories.{History.phase_of, Lanes.{calls_of, lane_asks, lines_of_seat}, Serial.header_of}}
+use Rattle.ix_asking.{specs.{Asking.{Answered, Asking, Done, Ask, all_heard, first, followed, heard}, Lines.{calls_then, no_calls}, Runs.entry_of}, proofs.{Every.AllOf, Few.Few}}
+use Rattle.ix_script.specs.{declared.line.Line.Line, lines.Before.{lanes_of, is_phase}, scripts.Schedule.{Numbered, is_seat, seat_after}}
 use Rattle.ix_lanes.specs.asking.{Asked.{Names, named, no_names}, LineAsks.{OfLine, line_asks, lines_ask}, Ruled.rules_told}
-use Rattle.ix_lanes.proofs.serially.{LineCalls.all-numbered, LineFew.few-of-line}
+use Rattle.ix_lanes.{specs.histories.{History.phase_of, Lanes.{calls_of, lane_asks, lines_of_seat}, Serial.header_of}, proofs.serially.{LineCalls.all-numbered, LineFew.few-of-line}}
 use Rattle.ix_judging.{specs.{Asking.IsLane, Lanes.with_entry_first, Lines.{AsksFew, LinesRise, lines_from}}, proofs.LaneLines.{lines_are, more_room}}
-use Rattle.ix_judging.specs.Lines as theory
 use Rattle.ix_check.specs.{Plans.{calls_as, most_calls}, Stepping.entry_due}
+use Rattle.ix_judging.specs.Lines as theory
 
 -- ---- phases
 take_less : {X : Type 0} (j i : ℕ) (xs : List X) → j ≤ i → take j (take i xs) ≡ take j xs
@@ -23,8 +20,7 @@ take_less (suc j) (suc i) (x ∷ xs) le = ap (λ ys. x ∷ ys) (take_less j i xs
 phases_rise : (s : List Line) (n m : ℕ) → n ≤ m → phase_of s n ≤ phase_of s m
 unfolding phase_of
 phases_rise s n m le =
-    let fewer = sum_by-take-le (λ l. cond (is_phase l) 1 0) (take m s) n in
-    let same = take_less n m s le in omega (arith, fewer, ap (λ ls. sum_by (λ l. cond (is_phase l) 1 0) ls) same)
+    let same = take_less n m s le in omega (arith, sum_by-take-le (λ l. cond (is_phase l) 1 0) (take m s) n, ap (λ ls. sum_by (λ l. cond (is_phase l) 1 0) ls) same)
 
 -- ---- what is left to ask for
 -- the call that stands next is the one that is asked for next
@@ -32,7 +28,7 @@ pub next_left : (k : ℕ) (p : Asking Names) (answers : List Answered) → (call
 next_left k (Done r) [] = refl
 next_left k (Done r) (x ∷ answers) = next_left k (Done r) answers
 next_left k (Ask a later) [] = refl
-next_left k (Ask a later) (x ∷ answers) = next_left k (later x) answers
+next_left k (Ask a later) (x ∷ answers) = next_left k (later x) _
 
 -- one answer more
 pub heard_on : (p : Asking Names) (answers : List Answered) (a : Answered) → all_heard p (answers ++ a ∷ []) ≡ heard (all_heard p answers) a
@@ -63,27 +59,27 @@ module _ (s : List Line) (k : ℕ) where
       → (answers : List Answered)
       → calls_as (calls_then k (followed p (λ r. lines_ask (rules_told s) (header_of s) (f r) lines)) answers no_calls)
       ≡ theory.calls_then (asks_as f p) answers (λ after rest. lines_from said_by after lines rest)
-  with_rest R (Done r) f lines later answers = later (f r) answers
+  with_rest R (Done r) f lines later answers = later _ _
   with_rest R (Ask a more) f lines later [] = refl
-  with_rest R (Ask a more) f lines later (x ∷ answers) = ap (with_entry_first (entry_of k a)) (with_rest R (more x) f lines later answers)
+  with_rest R (Ask a more) f lines later (x ∷ answers) = ap (with_entry_first (entry_of k a)) (with_rest R (more x) f _ later _)
 
   said : (names : Names) (lines : List Numbered) → IsSaid names lines
   said names [] answers = refl
   said names (l ∷ lines) answers =
-      with_rest Handed (line_asks (rules_told s) (header_of s) names l.number l.said) (named names l.said) lines (λ after. said after lines) answers
+      with_rest _ (line_asks (rules_told s) (header_of s) names l.number l.said) _ _ (λ after. said after lines) _
 
   -- ---- few calls, each in its lane and its phase
   both : (R : Type 0) (n most : ℕ) (f : R → Names) (p : Asking R) → AllOf (OfLine n) p → Few most p
       → AsksFew (λ (e : Event). e.seat) (λ (e : Event). phase_of s e.line) k (phase_of s n) most (asks_as f p)
   both R n most f (Done r) all few = tt
   both R n zero f (Ask a more) all few = absurd few
-  both R n (suc most) f (Ask a more) all few = (refl, ap (phase_of s) all.0, λ x. both R n most f (more x) (all.1 x) (few x))
+  both R n (suc most) f (Ask a more) all few = (refl, ap (phase_of s) all.0, λ x. both R n _ f (more x) (all.1 x) (few x))
 
   line_few : (names : Names) (l : Numbered)
       → AsksFew (λ (e : Event). e.seat) (λ (e : Event). phase_of s e.line) k (phase_of s l.number) 9 (said_by names l)
   line_few names l =
-      both Handed l.number 9 (named names l.said) (line_asks (rules_told s) (header_of s) names l.number l.said)
-      (all-numbered (rules_told s) (header_of s) names l.number l.said) (few-of-line (rules_told s) (header_of s) names l.number l.said)
+      both _ _ 9 _ (line_asks (rules_told s) (header_of s) names l.number l.said)
+      (all-numbered _ _ _ _ _) (few-of-line _ _ _ _ _)
 
   -- ---- the lines of a lane
   abbrev within : Numbered → ℕ
@@ -94,11 +90,11 @@ module _ (s : List Line) (k : ℕ) where
       → LinesRise within low (lines_of_seat (lanes_of s) k n at lines)
   seat_rise low n at [] le = tt
   seat_rise low n at (l ∷ lines) le =
-      here (is_seat k at) (seat_rise (phase_of s n) (suc n) (seat_after (lanes_of s) at l) lines up)
-      (seat_rise low (suc n) (seat_after (lanes_of s) at l) lines (omega (arith, le, up)))
+      here (is_seat k at) (seat_rise (phase_of s n) _ _ lines up)
+      (seat_rise _ _ _ lines (omega (arith, le, up)))
     where
       up : phase_of s n ≤ phase_of s (suc n)
-      up = phases_rise s n (suc n) (omega arith)
+      up = phases_rise s n _ (omega arith)
 
       here : (b : Bool) → LinesRise within (phase_of s n) (lines_of_seat (lanes_of s) k (suc n) (seat_after (lanes_of s) at l) lines)
           → LinesRise within low (lines_of_seat (lanes_of s) k (suc n) (seat_after (lanes_of s) at l) lines)
@@ -109,7 +105,7 @@ module _ (s : List Line) (k : ℕ) where
 
   few_lines : (n : ℕ) (at : Option ℕ) (lines : List Line) → length (lines_of_seat (lanes_of s) k n at lines) ≤ length lines
   few_lines n at [] = omega arith
-  few_lines n at (l ∷ lines) = here (is_seat k at) (few_lines (suc n) (seat_after (lanes_of s) at l) lines)
+  few_lines n at (l ∷ lines) = here _ (few_lines _ (seat_after (lanes_of s) at l) lines)
     where
       here : (b : Bool) → length (lines_of_seat (lanes_of s) k (suc n) (seat_after (lanes_of s) at l) lines) ≤ length lines
           → length (if b then (record { number = n; said = l }) ∷ lines_of_seat (lanes_of s) k (suc n) (seat_after (lanes_of s) at l) lines
@@ -125,8 +121,7 @@ module _ (s : List Line) (k : ℕ) where
   unfolding lane_asks
   script_lane =
       let lines = lines_of_seat (lanes_of s) k 1 None s in
-      let few = few_lines 1 None s in
-      let are = lines_are (λ (e : Event). e.seat) phase said_by within k 9 line_few 0 lines no_names (seat_rise 0 1 None s (omega arith)) in
-      let is = more_room (λ (e : Event). e.seat) phase k 0 0 (length lines * 9) (most_calls s) (lines_from said_by no_names lines) (omega arith)
-      (omega (arith, few)) are in
+      let are = lines_are _ _ _ _ k 9 line_few 0 _ _ (seat_rise 0 1 _ s (omega arith)) in
+      let is = more_room _ _ k 0 0 _ _ _ (omega arith)
+      (omega (arith, few_lines 1 None s)) are in
       subst (IsLane (λ (e : Event). e.seat) phase k 0 (most_calls s)) (λ i answers. sym (said no_names lines answers) i) is

@@ -1,15 +1,10 @@
 pub mod LaneCalls
 pub mod Printed
-pub mod Histories
 pub mod Judged
 pub mod LaneTold
 pub mod LastLine
 pub mod OneCall
-pub mod AllLanes
-pub mod Room
 pub mod LaneTurns
-pub mod Called
-pub mod Entered
 pub mod LookedAt
 pub mod ClosingLine
 pub mod Ends

@@ -1,7 +1,6 @@
 -- One call that a lane makes.
-use Rattle.std.proofs.Common.{◌≡◌, ℕ, List, [], ◌∷◌, ◌++◌, length, Option, Some, None, Ok, refl, sym, ap, ◌∙◌, subst, arith}
-use Rattle.std.specs.Prelude.{is_some, true}
-use Rattle.ix_model.specs.{history.Made.Made, declared.reply.Answer.Answer}
+use Rattle.std.{proofs.Common.{◌≡◌, ℕ, List, [], ◌∷◌, ◌++◌, length, Option, Some, None, Ok, refl, sym, ap, ◌∙◌, subst, arith}, specs.Prelude.{is_some, true}}
+use Rattle.ix_model.specs.{declared.reply.Answer.Answer, history.Made.Made}
 use Rattle.ix_asking.specs.{Asking.{Asking, Done, Ask, all_heard, came_as, first, heard}, Runs.{answer_of, answers_of, AsAsked, Turn}}
 use Rattle.ix_lanes.specs.{asking.Asked.Names, running.Left.{LaneLeft, asks_left, place_of}}
 use Rattle.ix_check.specs.Stepping.{MakesCall, entry_due, lane_now, next_call}
@@ -27,7 +26,7 @@ module _ {S : Type 0} (seat_of : S → ℕ) (made_of : S → List Made) (stops_o
       → Turn stops_of stopped_of (came_as (λ names. tt {0}) (first (asks_left l))) old new more (Ok x)
       → MakesCall (lane_now l) (lane_now m) (made_of old) (made_of new)
   makes_call l m old new more x due seat asked made hears place turn =
-      let one = one_asked l.seat (asks_left l) more (subst (λ (n : ℕ). AsAsked n (asks_left l) more) seat asked) (turned stops_of stopped_of l.seat (asks_left l) old new more x due turn) in record {
+      let one = one_asked _ (asks_left l) _ (subst (λ n. AsAsked n (asks_left l) more) seat asked) (turned stops_of stopped_of _ (asks_left l) old new _ x due turn) in record {
         entry = one.0;
         call = one.2;
         made = made ∙ ap (λ ms. made_of old ++ ms) one.1;

@@ -1,15 +1,14 @@
 -- What tracks stand for after a claim.
-use Rattle.std.proofs.Common.{◌≡◌, ◌≤◌, ◌<◌, ◌==◌, ◌&&◌, nat_lt, not, ℕ, Bool, true, false, true≢false, [], length, Option, Some, None, is_some, refl}
-use Rattle.std.proofs.Common.{option_map, if◌then◌else◌, sym, ap, ◌∙◌, arith, inl, inr}
-use Rattle.std.{specs.Option.{option_map_or, option_and_then}, proofs.lemmas.{Bool.{and_parts, not-true, or_right, Decides.eqb_tells}, List.get_or-set_other}}
-use Rattle.ix_model.specs.{laws.Sound.{Sound, ShapesSound}, world.World.{World, Frame, Object, at, is_pipe}, rows.Walks.{OpenFile, behind}}
-use Rattle.ix_model.specs.world.Contents.{cleared, held_at, holding_of, holds_nothing, nothing_held, side}
-use Rattle.ix_model.specs.history.{Step.is_whole, Events.Event, History.{History, world_of, next, with_entry}, Views.{has_side, size_at}}
+use Rattle.std.proofs.Common.{◌≡◌, ◌≤◌, ◌<◌, ◌==◌, ◌&&◌, nat_lt, not, ℕ, Bool, true, false, true≢false, [], length, Option, Some, None, is_some, refl, option_map, if◌then◌else◌, sym, ap}
+use Rattle.std.proofs.{Common.{◌∙◌, arith, inl, inr}, lemmas.{Bool.{and_parts, not-true, or_right, Decides.eqb_tells}, List.get_or-set_other}}
+use Rattle.std.specs.Option.{option_map_or, option_and_then}
+use Rattle.ix_model.specs.{history.{Events.Event, History.{History, world_of, next, with_entry}, Step.is_whole, Views.{has_side, size_at}}, laws.Sound.{Sound, ShapesSound}}
+use Rattle.ix_model.specs.{rows.Walks.{OpenFile, behind}, world.{Contents.{cleared, held_at, holding_of, holds_nothing, nothing_held, side}, World.{World, Frame, Object, at, is_pipe}}}
 use Rattle.ix_model.proofs.{paths_and_pipes.Wholes.becomes_empty, sound.Soundly.sound_step, words.Runs.world_of-push}
 use Rattle.ix_open.specs.declared.view.OpenView.{OpenView}
-use Rattle.ix_flow.specs.{Origins.origins_of, Lines.lines_of_entry, Marks.marks_of, Moves.{edited, emptied_there}, Tracking.{AreTracks, side_of}}
-use Rattle.ix_flow.{specs.declared.{sides.Sides.Sides, tracks.Tracks.Tracks}, proofs.Through.{kept_marks, not_opened, through}}
-use Rattle.ix_flow.proofs.{Arms.{followed, unmoved}, Forgotten.{forgotten_sides, nothing_there}, NewObjects.{Stood, stood_step}, Staying.marks_next}
+use Rattle.ix_flow.specs.{Lines.lines_of_entry, Marks.marks_of, Moves.{edited, emptied_there}, Origins.origins_of, Tracking.{AreTracks, side_of}, declared.sides.Sides.Sides}
+use Rattle.ix_flow.{specs.declared.tracks.Tracks.Tracks, proofs.Writes.unmoved}
+use Rattle.ix_flow.proofs.{Making.{forgotten_sides, nothing_there}, NewObjects.{Stood, stood_step}, Staying.marks_next, Through.{kept_marks, not_opened, through}, Writes.followed}
 use Rattle.ix_model.specs.history.Events as op
 use Rattle.ix_model.specs.declared.reply.Reply.TheVariants as reply
 
@@ -114,22 +113,22 @@ module _ (h : History) (seat line pid fd : ℕ) where
           → ((n end : ℕ) → end < 2 → (n ≡ view.obj.0 → ⊥) → side_of new n end ≡ side_of t.sides n end) → AreTracks (record t { sides = new }) (with_entry h e) × (lines_of_entry h e ≡ [])
       unfolding emptied_there
       claim_empty first second new none others =
-          followed h e few refl silent t (record t { sides = new }) are refl refl (marks_of (with_entry h e)) refl
-          (forgotten_sides h e are.sound t.sides new t.labels.all.items are.sides view.obj.0 none others (λ n y apart there. stood.objects n y there) (marks_of (with_entry h e)) nothing
-          (λ n apart. ap (λ hs. held_at hs n) marks_claim ∙ go (behind f pid fd) refl n apart))
+          followed h e few refl silent t _ are refl refl _ refl
+          (forgotten_sides h e are.sound _ _ _ are.sides _ none others (λ n y apart there. stood.objects n y there) _ nothing
+          (λ n apart. ap (λ hs. held_at hs n) marks_claim ∙ go _ refl n apart))
         where
           nothing : (end : ℕ) → end < 2 → origins_of (side end (held_at (marks_of (with_entry h e)) view.obj.0)) ≡ []
           nothing end low = elim (eqb_tells end 0) [
-            | inl zero ↦ ap (λ n. origins_of (side n (held_at (marks_of (with_entry h e)) view.obj.0))) zero.1 ∙ nothing_there (with_entry h e) view.obj.0 0 first
+            | inl zero ↦ ap (λ n. origins_of (side n (held_at (marks_of (with_entry h e)) view.obj.0))) zero.1 ∙ nothing_there _ _ 0 first
             | inr some ↦
                 let one : end ≡ 1 = omega (arith, low, some.1) in
-                ap (λ n. origins_of (side n (held_at (marks_of (with_entry h e)) view.obj.0))) one ∙ nothing_there (with_entry h e) view.obj.0 1 second
+                ap (λ n. origins_of (side n (held_at (marks_of (with_entry h e)) view.obj.0))) one ∙ nothing_there _ _ 1 second
           ]
 
           go : (b : Option OpenFile) → behind f pid fd ≡ b → (n : ℕ) → (n ≡ view.obj.0 → ⊥) → held_at (emptied_there f g b (kept_marks h e)) n ≡ held_at (kept_marks h e) n
           go None is n apart = refl
-          go (Some b) is n apart = test (is_whole g b.entry.object && not (is_whole f b.entry.object))
+          go (Some b) is n apart = test _
             where
               test : (c : Bool) → held_at (if c then cleared b.entry.object (kept_marks h e) else kept_marks h e) n ≡ held_at (kept_marks h e) n
-              test true = get_or-set_other (kept_marks h e) b.entry.object n nothing_held nothing_held (λ same. apart (same ∙ on_object b is))
+              test true = get_or-set_other _ b.entry.object n nothing_held nothing_held (λ same. apart (same ∙ on_object b is))
               test false = refl

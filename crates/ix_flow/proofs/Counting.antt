@@ -1,10 +1,10 @@
 -- How many reads and lines there are after one entry more, and at most.
-use Rattle.std.proofs.Common.{◌≡◌, ◌≤◌, ◌+◌, ◌*◌, ℕ, suc, Bool, true, false, List, [], ◌∷◌, ◌++◌, length, Option, Some, if◌then◌else◌, refl, sym, ap, ◌∙◌}
-use Rattle.std.proofs.{Common.{arith, append-nil, append_assoc, subst}, lemmas.List.{length-map, length-take}}
-use Rattle.ix_model.specs.{world.Contents.{offset_of, readable_in}, rows.Walks.{OpenFile, behind}, declared.reply.Reply.Reply}
-use Rattle.ix_model.specs.history.{Step.step, Events.{Op, Event}, History.{History, world_of, next, with_entry}}
-use Rattle.ix_flow.specs.{Origins.{Origin, origins_of}, Marks.{marks_of, marks_read, read_by, read_through}, Tracking.{counts_from, counts_of}}
-use Rattle.ix_flow.{specs.Lines.{Counts, Piece, in_front, pieces_from, pieces_read, with_pieces}, proofs.ReadWorlds.read_few}
+use Rattle.std.proofs.Common.{◌≡◌, ◌≤◌, ◌+◌, ◌*◌, ℕ, suc, Bool, true, false, List, [], ◌∷◌, ◌++◌, length, Option, Some, if◌then◌else◌, refl, sym, ap, ◌∙◌, arith, append-nil, append_assoc}
+use Rattle.std.proofs.{Common.subst, lemmas.List.{length-map, length-take}}
+use Rattle.ix_model.specs.{declared.reply.Reply.Reply, history.{Events.{Op, Event}, History.{History, world_of, next, with_entry}, Step.step}, rows.Walks.{OpenFile, behind}}
+use Rattle.ix_model.specs.world.Contents.{offset_of, readable_in}
+use Rattle.ix_flow.specs.{Lines.{Counts, Piece, in_front, pieces_from, pieces_read, with_pieces}, Marks.{marks_of, marks_read, read_by, read_through}, Origins.{Origin, origins_of}}
+use Rattle.ix_flow.{specs.Tracking.{counts_from, counts_of}, proofs.ReadWorlds.read_few}
 use Rattle.ix_model.specs.history.Events as op
 use Rattle.ix_model.specs.declared.reply.Reply.TheVariants as reply
 

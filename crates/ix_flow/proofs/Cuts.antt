@@ -1,14 +1,13 @@
 -- What tracks stand for after a cut.
 use Rattle.std.{proofs.{Common.{◌≡◌, ◌≤◌, ℕ, true, false, List, [], length, Option, Some, None, option_map, refl, sym, ap, ◌∙◌, subst}, lemmas.Bool.not-true}, specs.Option.option_map_or}
 use Rattle.ix_label.specs.Category.{Categories}
-use Rattle.ix_model.specs.{world.{World.{World, Frame, HoldingOf, is_pipe}, Contents.{offset_of, on_pipe, on_side, resized}}, history.AuditLog.is_answer, declared.reply.Reply.Reply}
-use Rattle.ix_model.specs.rows.{Walks.{OpenFile, behind}, OnDescriptors.{LengthChecks, cut_fd}, Table.row, Telling.told}
-use Rattle.ix_model.specs.history.{Step.{answer, cut_answer, plainly, step}, Events.Event, History.{History, world_of, next, with_entry}}
-use Rattle.ix_model.proofs.words.{Answered.passed, Ends.{Ends, Anything, ends_bind, ends_need, ends_object, ends_opened, ends_then}}
+use Rattle.ix_model.specs.{declared.reply.Reply.Reply, history.{AuditLog.is_answer, Events.Event, History.{History, world_of, next, with_entry}, Step.{answer, cut_answer, plainly, step}}}
+use Rattle.ix_model.specs.{rows.{OnDescriptors.{LengthChecks, cut_fd}, Table.row, Telling.told, Walks.{OpenFile, behind}}, world.Contents.{offset_of, on_pipe, on_side, resized}}
+use Rattle.ix_model.{specs.world.World.{World, Frame, HoldingOf, is_pipe}, proofs.words.{Answered.passed, Ends.{Ends, Anything, ends_bind, ends_need, ends_object, ends_opened, ends_then}}}
 use Rattle.ix_open.specs.declared.view.OpenView.{OpenView}
-use Rattle.ix_flow.specs.{Origins.{Marked, gap_mark}, Lines.lines_of_entry, Marks.marks_of, Moves.{cut_there, edited}, Tracking.{AreSides, AreTracks, HasEnd}}
-use Rattle.ix_flow.{specs.declared.{sides.Sides.Sides, tracks.Tracks.Tracks}, proofs.Through.{Through, has_end, kept_marks, not_opened, through, viewed}}
-use Rattle.ix_flow.proofs.{Arms.{followed, kept_sides, unmoved}, NewObjects.{Stood, stood_step}, ReadWorlds.ends_anyway, Staying.marks_next}
+use Rattle.ix_flow.specs.{Lines.lines_of_entry, Marks.marks_of, Moves.{cut_there, edited}, Origins.{Marked, gap_mark}, Tracking.{AreSides, AreTracks, HasEnd}, declared.sides.Sides.Sides}
+use Rattle.ix_flow.{specs.declared.tracks.Tracks.Tracks, proofs.Writes.{kept_sides, unmoved}}
+use Rattle.ix_flow.proofs.{NewObjects.{Stood, stood_step}, ReadWorlds.ends_anyway, Staying.marks_next, Through.{Through, has_end, kept_marks, not_opened, through, viewed}, Writes.followed}
 use Rattle.ix_model.specs.history.Events as op
 use Rattle.ix_model.specs.declared.reply.Reply.TheVariants as reply
 
@@ -83,11 +82,11 @@ module _ (h : History) (seat line pid fd len : ℕ) where
         → AreTracks (record t { sides = new }) (with_entry h e) × (lines_of_entry h e ≡ [])
     unfolding cut_there
     cut_done few v view object at_end offset is new cut =
-        let seen = viewed h e fd b r v view object at_end offset is in
-        let marks : marks_of (with_entry h e) ≡ on_side b.entry.object b.entry.end (resized gap_mark len) (kept_marks h e) =
+        let seen = viewed h e fd b r v _ object at_end offset is in
+        let marks =
         marks_cut ∙ ap (λ x. cut_there gap_mark len x (next h e).reply (kept_marks h e)) file.is_behind ∙ ap (λ x. cut_there gap_mark len (Some b) x (kept_marks h e)) done in
-        let there = subst (λ (o : ℕ). HasEnd (with_entry h e) (kept_marks h e) o view.end false) (sym seen.0)
-        (subst (λ (end : ℕ). HasEnd (with_entry h e) (kept_marks h e) b.entry.object end false) (sym seen.1) (has_end h e fd b r false (sym r.piped ∙ file.file) b.entry.end r.near)) in
-        followed h e few refl silent t (record t { sides = new }) are refl refl (on_side view.obj.0 view.end (resized gap_mark len) (kept_marks h e))
+        let there = subst (λ o. HasEnd (with_entry h e) (kept_marks h e) o view.end false) (sym seen.0)
+        (subst (λ end. HasEnd (with_entry h e) (kept_marks h e) b.entry.object end false) (sym seen.1) (has_end h e fd b r _ (sym r.piped ∙ file.file) _ r.near)) in
+        followed h e few refl silent t _ are refl refl _
         (marks ∙ (λ i. on_side (sym seen.0 i) (sym seen.1 i) (resized gap_mark len) (kept_marks h e)))
-        (cut t.labels.all.items (with_entry h e) (kept_marks h e) (kept_sides h e are.sound stood t.sides t.labels.all.items are.sides) there)
+        (cut _ _ (kept_marks h e) (kept_sides h e are.sound stood t.sides t.labels.all.items are.sides) there)

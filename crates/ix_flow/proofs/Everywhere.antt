@@ -1,8 +1,8 @@
 -- What is known of everything that is held stays known of it after an edit.
-use Rattle.std.proofs.Common.{◌≡◌, ◌+◌, ◌-◌, ℕ, Bool, true, false, not, ◌&&◌, List, ◌++◌, length, take, drop, replicate, Option, Some, None, refl}
-use Rattle.std.{proofs.{Common.{is_some, if◌then◌else◌, sym, ap, arith, subst}, lemmas.List.Elements.{All-append, All-nil, All-drop, All-replicate, All-take}}, specs.Prelude.All}
-use Rattle.ix_model.specs.{world.World.{World, Frame, Content, HoldingOf, at}, rows.Walks.{OpenFile, behind}, history.{Step.{Given, is_whole}, Events.Op}, declared.reply.Reply.Reply}
-use Rattle.ix_model.specs.world.Contents.{held_at, kept, nothing_held, offset_of, on_side, resized, side, with_side, written_over}
+use Rattle.std.proofs.Common.{◌≡◌, ◌+◌, ◌-◌, ℕ, Bool, true, false, not, ◌&&◌, List, ◌++◌, length, take, drop, replicate, Option, Some, None, refl, is_some, if◌then◌else◌, sym, ap, arith}
+use Rattle.std.{proofs.{Common.subst, lemmas.List.Elements.{All-append, All-nil, All-drop, All-replicate, All-take}}, specs.Prelude.All}
+use Rattle.ix_model.specs.{declared.reply.Reply.Reply, history.{Events.Op, Step.{Given, is_whole}}, rows.Walks.{OpenFile, behind}, world.Contents.{held_at, kept, nothing_held, offset_of}}
+use Rattle.ix_model.specs.world.{Contents.{on_side, resized, side, with_side, written_over}, World.{World, Frame, Content, HoldingOf, at}}
 use Rattle.ix_model.proofs.{clean.Carrying.get_or-keep, sound.Lengths.set_either}
 use Rattle.ix_flow.specs.Moves.{taken, put_there, cut_there, emptied_there, edited, moved}
 use Rattle.ix_model.specs.history.Events as op

@@ -1,8 +1,8 @@
 -- The places at which an object is let down, and the first of them behind a place.
-use Rattle.std.proofs.Common.{◌≡◌, ◌≢◌, ◌≤◌, ◌<◌, ◌+◌, ◌-◌, ◌*◌, ◌^◌, ◌==◌, ◌&&◌, cond, is_some, nat_lt, ℕ, suc, Bool, true, false, true≢false, List, [], ◌∷◌}
-use Rattle.std.proofs.{Common.{◌++◌, length, Some, None, if◌then◌else◌, refl, sym, ap, ◌∙◌, arith, inl, inr}, lemmas.Bool.{eq-eqb, lt-ltb, ltb-false, ltb-true, ne_eqb, Decides.eqb_tells}}
+use Rattle.std.proofs.Common.{◌≡◌, ◌≢◌, ◌≤◌, ◌<◌, ◌+◌, ◌-◌, ◌*◌, ◌^◌, ◌==◌, ◌&&◌, cond, is_some, nat_lt, ℕ, suc, Bool, true, false, true≢false, List, [], ◌∷◌, ◌++◌, length, Some, None}
+use Rattle.std.proofs.{Common.{if◌then◌else◌, refl, sym, ap, ◌∙◌, arith, inl, inr}, lemmas.Bool.{eq-eqb, lt-ltb, ltb-false, ltb-true, ne_eqb, Decides.eqb_tells}}
 use Rattle.std.specs.{BTreeMap.get, Ordering.{is_gt, nat_cmp}, declared.cmp.Ordering.TheVariants.{Less, Equal, Greater}}
-use Rattle.ix_model.specs.{opening.Opening.opening_world, history.{History.History, Step.{step_of, run}, Events.Event}, world.World.World}
+use Rattle.ix_model.specs.{history.{Events.Event, History.History, Step.{step_of, run}}, opening.Opening.opening_world, world.World.World}
 use Rattle.ix_flow.specs.{Lowerings.{falls, first_fall}, Tracking.{AreFalls, falls_at}, declared.falls.Falls.Falls}
 
 -- ---- one place

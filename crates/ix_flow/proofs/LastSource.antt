@@ -1,8 +1,8 @@
 -- The last run that begins at or before a number, in runs that ascend: what a run more and one fewer make of it.
-use Rattle.std.proofs.Common.{◌≡◌, ◌≤◌, ◌<◌, ◌==◌, nat_le, nat_lt, ℕ, suc, Bool, true, false, not, ◌&&◌, cond, List, [], ◌∷◌, ◌++◌, if◌then◌else◌, refl, sym}
-use Rattle.std.proofs.{Common.{ap, ◌∙◌, subst, arith, true≢false, ◌⊎◌, inl, inr}, lemmas.Bool.{Decides.eqb_tells, eq-eqb, eqb-true, le-leb, leb-false, leb-true, lt-leb, ltb-false, ltb-true}}
-use Rattle.std.specs.{List.{filter, AllByRecursion, Sorted.IsStrictlySortedBy}, BTreeMap.insert_entry, Map.{keys_of, remove_entry}}
-use Rattle.std.specs.{Ordering.{match_ordering, nat_cmp, is_eq, is_le, is_lt}, declared.cmp.Ordering.TheVariants.{Less, Equal, Greater}}
+use Rattle.std.proofs.Common.{◌≡◌, ◌≤◌, ◌<◌, ◌==◌, nat_le, nat_lt, ℕ, suc, Bool, true, false, not, ◌&&◌, cond, List, [], ◌∷◌, ◌++◌, if◌then◌else◌, refl, sym, ap, ◌∙◌, subst, arith}
+use Rattle.std.proofs.{Common.{true≢false, ◌⊎◌, inl, inr}, lemmas.Bool.{eq-eqb, eqb-true, le-leb, leb-false, leb-true, lt-leb, ltb-false, ltb-true, Decides.eqb_tells}}
+use Rattle.std.specs.{BTreeMap.insert_entry, List.{filter, AllByRecursion, Sorted.IsStrictlySortedBy}, Map.{keys_of, remove_entry}, Ordering.{match_ordering, nat_cmp, is_eq, is_le, is_lt}}
+use Rattle.std.specs.declared.cmp.Ordering.TheVariants.{Less, Equal, Greater}
 use Rattle.ix_flow.specs.{Sides.{Begins, NoneBegins, last_source, source_in}, declared.source.Source.Source}
 
 -- ---- three ways

@@ -1,11 +1,11 @@
 -- What a side stands for after it was changed, number by number.
-use Rattle.std.proofs.Common.{◌≡◌, ◌≤◌, ◌<◌, ◌+◌, ◌-◌, nat_le, max, ℕ, zero, suc, Bool, true, false, List, ◌++◌, length, take, drop, replicate, if◌then◌else◌}
-use Rattle.std.proofs.Common.{refl, sym, ap, ◌∙◌, subst, arith, get_or, ◌⊎◌, inl, inr, length-append, append-nil, true≢false}
-use Rattle.std.proofs.{lemmas.Bool.{le-leb, leb-false, leb-true, lt-leb}, Math.ListN.get_or-append}
+use Rattle.std.proofs.Common.{◌≡◌, ◌≤◌, ◌<◌, ◌+◌, ◌-◌, nat_le, max, ℕ, zero, suc, Bool, true, false, List, ◌++◌, length, take, drop, replicate, if◌then◌else◌, refl, sym, ap, ◌∙◌, subst}
+use Rattle.std.proofs.{Common.{arith, get_or, ◌⊎◌, inl, inr, length-append, append-nil, true≢false}, Math.ListN.get_or-append, lemmas.Bool.{le-leb, leb-false, leb-true, lt-leb}}
 use Rattle.std.proofs.lemmas.List.{append_assoc, get_or-append_right, get_or-drop, get_or-replicate, get_or-take, length-drop, length-replicate, length-take}
 use Rattle.ix_model.specs.world.Contents.{written_over}
-use Rattle.ix_flow.specs.{Origins.{Origin, Written, Gap}, Sides.{IsLike, numbered, origin_at, source_in, start_of}, declared.{side.Side.Side, source.Source.Source}}
+use Rattle.ix_flow.specs.{Origins.{Origin, Written, Gap}, Sides.{IsLike, numbered, origin_at, source_in, start_of, ComesOf, StandsIn}, declared.{side.Side.Side, source.Source.Source}}
 use Rattle.ix_flow.specs.declared.source.Source.TheVariants as source
+use Rattle.ix_flow.specs.Sides as come
 
 -- ---- numbered origins
 pub length-numbered : (origin : ℕ → Origin) (k n : ℕ) → length (numbered origin k n) ≡ n
@@ -206,3 +206,37 @@ filled_like t source count first end there begun =
           ∙ ap (λ x. origin_at x n) (sym (there n (omega arith) (omega (arith, high, end))));
       proper = λ n low high. begun_too _ _ n (there n (omega arith) (omega (arith, high, end))) (omega (arith, begun));
     }
+
+-- Where the sources of a side come from after it was changed.
+
+-- what is put behind
+pub appended_sources : (s t : Side) (end : ℕ) (new : Source) → t.front ≡ s.front
+    → ((n : ℕ) → n < s.end → source_in t.runs.entries n ≡ source_in s.runs.entries n)
+    → ((n : ℕ) → s.end ≤ n → n < end → source_in t.runs.entries n ≡ new)
+    → t.end ≡ max s.end end → (x : Source) → StandsIn t x → ComesOf s new x
+appended_sources s t end new same before there reach x r = elim (side_of _ _) [
+  | inl past ↦ come.New (sym r.is ∙ there _ past (omega (arith, past, r.high, reach)))
+  | inr inside ↦ come.Stood (record { number = r.number; low = omega (arith, r.low, same); high = inside; is = sym (before _ inside) ∙ r.is })
+]
+
+-- what is written over what was there, or a gap's width behind it
+pub written_sources : (s m t : Side) (from to : ℕ) (new : Source) → m.front ≡ s.front → t.front ≡ m.front
+    → ((n : ℕ) → n < s.end → source_in m.runs.entries n ≡ source_in s.runs.entries n)
+    → ((n : ℕ) → s.end ≤ n → n < from → source_in m.runs.entries n ≡ source.Gap) → m.end ≡ max s.end from
+    → ((n : ℕ) → n < from → source_in t.runs.entries n ≡ source_in m.runs.entries n)
+    → ((n : ℕ) → from ≤ n → n < to → source_in t.runs.entries n ≡ new)
+    → ((n : ℕ) → to ≤ n → n < m.end → source_in t.runs.entries n ≡ source_in m.runs.entries n)
+    → t.end ≡ max m.end to → (x : Source) → StandsIn t x → ComesOf s new x
+written_sources s m t from to new same further kept hole reach before there behind end x r = elim (side_of from r.number) [
+  | inl far ↦ elim (side_of to _) [
+    | inl past ↦ old (omega (arith, past, r.high, end, reach, far)) (behind r.number past (omega (arith, past, r.high, end)))
+    | inr inside ↦ come.New (sym r.is ∙ there r.number far inside)
+  ]
+  | inr near ↦ elim (side_of s.end r.number) [
+    | inl past ↦ come.OfGap (sym r.is ∙ before r.number near ∙ hole r.number past near)
+    | inr inside ↦ old inside (before r.number near)
+  ]
+]
+  where
+    old : r.number < s.end → source_in t.runs.entries r.number ≡ source_in m.runs.entries r.number → ComesOf s new x
+    old inside is = come.Stood (record { number = r.number; low = omega (arith, r.low, same, further); high = inside; is = sym (kept r.number inside) ∙ sym is ∙ r.is })

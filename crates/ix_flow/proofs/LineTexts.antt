@@ -1,10 +1,10 @@
 -- The line of a piece, written part by part.
 use Rattle.std.proofs.Common.{◌≡◌, ◌≤◌, ◌+◌, ◌-◌, ℕ, List, [], ◌∷◌, ◌++◌, length, take, drop, codes, Option, sym, ap, ◌∙◌, append_assoc, get_or, subst, arith}
-use Rattle.std.{specs.{List.flat_map, Fmt.decimal}, proofs.lemmas.Option.get_or_from_slice_get}
+use Rattle.std.{proofs.lemmas.Option.get_or_from_slice_get, specs.{Fmt.decimal, List.flat_map}}
 use Rattle.ix_label.specs.{Category.{Categories, bottom}, Spelling.spelling}
-use Rattle.ix_model.specs.{opening.Opening.opening_world, history.History.History}
-use Rattle.ix_flow.specs.{Origins.Origin, Lines.{Piece, piece_line, pieces_from, place_text}, Lowerings.{first_fall, label_of, via}}
-use Rattle.ix_flow.specs.{Reads.between, Sides.origin_at, Tracking.IsUnder, declared.source.Source.Source}
+use Rattle.ix_model.specs.{history.History.History, opening.Opening.opening_world}
+use Rattle.ix_flow.specs.{Lines.{Piece, piece_line, pieces_from, place_text}, Lowerings.{first_fall, label_of, via}, Origins.Origin, Reads.between, Sides.origin_at, Tracking.IsUnder}
+use Rattle.ix_flow.specs.declared.source.Source.{Source}
 use Rattle.ix_label.specs.declared.form.Form.TheVariants as form
 use Rattle.ix_flow.specs.declared.source.Source.TheVariants as source
 

@@ -1,9 +1,9 @@
 -- The longest piece at the front of origins, and of what a side stands for.
-use Rattle.std.proofs.Common.{◌≡◌, ◌≤◌, ◌<◌, ◌+◌, ◌-◌, ◌==◌, ◌&&◌, ℕ, zero, suc, Bool, true, false, List, [], ◌∷◌, length, take, drop, if◌then◌else◌, refl, sym}
-use Rattle.std.proofs.{Common.{ap, ◌∙◌, arith, get_or, inl, inr}, Math.Bool.and-true, lemmas.Bool.{and_parts, eq-eqb, eqb-true, ne_eqb, Decides.eqb_tells}}
-use Rattle.std.proofs.lemmas.List.{drop-drop, drop-take, get_or-drop, get_or-take, length-drop, length-take}
-use Rattle.ix_flow.specs.{Origins.{Origin, Gap}, Lines.{Piece, follows, in_front, pieces_from}, Reads.between, declared.{side.Side.Side, source.Source.Source}}
-use Rattle.ix_flow.specs.Sides.{IsLike, origin_at, same_origin, source_in, start_of}
+use Rattle.std.proofs.Common.{◌≡◌, ◌≤◌, ◌<◌, ◌+◌, ◌-◌, ◌==◌, ◌&&◌, ℕ, zero, suc, Bool, true, false, List, [], ◌∷◌, length, take, drop, if◌then◌else◌, refl, sym, ap, ◌∙◌, arith, get_or}
+use Rattle.std.proofs.{Common.{inl, inr}, Math.Bool.and-true, lemmas.{Bool.{and_parts, eq-eqb, eqb-true, ne_eqb, Decides.eqb_tells}, List.{drop-drop, drop-take, get_or-drop, get_or-take}}}
+use Rattle.std.proofs.lemmas.List.{length-drop, length-take}
+use Rattle.ix_flow.specs.{Lines.{Piece, follows, in_front, pieces_from}, Origins.{Origin, Gap}, Reads.between, Sides.{IsLike, origin_at, same_origin, source_in, start_of}}
+use Rattle.ix_flow.specs.declared.{side.Side.Side, source.Source.Source}
 use Rattle.ix_flow.specs.declared.source.Source.TheVariants as source
 
 -- ---- lists

@@ -1,13 +1,93 @@
--- What tracks stand for after an object was made.
-use Rattle.std.proofs.Common.{◌≡◌, ◌≤◌, ◌<◌, ◌+◌, ℕ, Bool, true, false, true≢false, [], length, Some, None, is_some, option_map, refl, sym, ap, ◌∙◌, subst, ◌⊎◌, inl, inr}
-use Rattle.ix_model.{specs.{world.{Naming.PathOf, World.{World, at}}, rows.Walks.{OpenFile, behind}, declared.ids.Fd.Fd}, proofs.words.Runs.world_of-push}
-use Rattle.ix_model.specs.history.{AuditLog.is_answer, Step.step, Events.{Op, Event}, History.{History, world_of, next, with_entry}}
+-- What sides stand for after an object was forgotten, which holds nothing.
+use Rattle.std.proofs.Common.{◌≡◌, ◌<◌, ◌&&◌, ℕ, Bool, true, false, true≢false, List, [], ◌∷◌, length, Option, Some, None, is_some, if◌then◌else◌, refl, sym, ap, ◌∙◌, subst, arith, inl}
+use Rattle.std.{proofs.{Common.{inr, ◌≤◌, ◌+◌, option_map, ◌⊎◌}, lemmas.{Bool.Decides.eqb_tells, List.length-map}}, specs.Option.option_and_then}
+use Rattle.ix_label.specs.Category.{Categories}
+use Rattle.ix_model.specs.{declared.ids.Fd.Fd, history.{AuditLog.is_answer, Events.{Event, Op}, History.{History, world_of, next, with_entry}, Step.step, Views.{has_side, size_at}}}
+use Rattle.ix_model.specs.{laws.Sound.Sound, rows.Walks.{OpenFile, behind}, world.{Contents.{held_at, holding_of, nothing_held, side}, Naming.PathOf, World.{World, HoldingOf, Object, at}}}
+use Rattle.ix_model.proofs.{clean.Carrying.get_or-keep, sound.Carried.there_is, words.Runs.world_of-push}
+use Rattle.ix_flow.specs.{Lines.lines_of_entry, Marks.marks_of, Moves.edited, Origins.{Marked, origins_of}, Tracking.{AreSides, IsTracked, side_of, AreTracks}}
+use Rattle.ix_flow.{specs.declared.{sides.Sides.Sides, tracks.Tracks.Tracks}, proofs.{Staying.marks_next, Through.kept_marks, Writes.{kind_stays, tracked_next, followed, unmoved}}}
+use Rattle.ix_flow.proofs.{Mapping.held_side, NewObjects.{MadeOne, OneNew, Stood, created, made_dir, piped}, ReadMarks.{marked_run, kept_is}, Relabelling.sets_label, Staying.origins_past}
 use Rattle.ix_open.specs.declared.view.OpenView.{OpenView}
-use Rattle.ix_flow.specs.{Lines.lines_of_entry, Marks.marks_of, Moves.edited, Tracking.{AreTracks, side_of}, declared.{sides.Sides.Sides, tracks.Tracks.Tracks}}
-use Rattle.ix_flow.proofs.{Arms.{followed, unmoved}, Forgotten.{forgotten_sides, nothing_kept}, NewObjects.{MadeOne, OneNew, Stood, created, made_dir, piped}}
-use Rattle.ix_flow.proofs.{Relabelling.sets_label, Staying.marks_next, Through.kept_marks}
 use Rattle.ix_model.specs.history.Events as op
 use Rattle.ix_model.specs.declared.reply.Reply.TheVariants as reply
+
+-- ---- what is nothing
+no_length : {A : Type 0} (xs : List A) → length xs ≡ 0 → xs ≡ []
+no_length [] none = refl
+no_length (x ∷ xs) none = absurd (omega (arith, none))
+
+-- where there is nothing at an end, there are no origins
+pub nothing_there : (h : History) (o end : ℕ) → size_at (world_of h) o end ≡ Some 0 → origins_of (side end (held_at (marks_of h) o)) ≡ []
+unfolding size_at
+nothing_there h o end none = no_length _ (long ∙ go _ none)
+  where
+    long : length (origins_of (side end (held_at (marks_of h) o))) ≡ length (side end (holding_of (world_of h).content o))
+    long =
+        length-map _ (λ m. m.origin)
+        ∙ sym (length-map _ (λ m. m.byte))
+        ∙ ap length (sym (held_side _ _ o _) ∙ ap (λ hs. side end (held_at hs o)) ((marked_run h).held))
+
+    go : (x : Option Object) → option_and_then (λ y. if has_side y end then Some (length (side end (holding_of (world_of h).content o))) else None) x ≡ Some 0
+        → length (side end (holding_of (world_of h).content o)) ≡ 0
+    go None is = cc
+    go (Some y) is = ends _ is
+      where
+        ends : (b : Bool) → (if b then Some (length (side end (holding_of (world_of h).content o))) else None) ≡ Some 0 → length (side end (holding_of (world_of h).content o)) ≡ 0
+        ends true is = cc
+        ends false is = cc
+
+module _ (h : History) (e : Event) (sound : Sound (world_of h)) where
+  -- nothing is kept where nothing stood
+  pub nothing_kept : (o end : ℕ) → at (world_of h).frame.objects o ≡ None → origins_of (side end (held_at (kept_marks h e) o)) ≡ []
+  nothing_kept o end free =
+      ap (λ x. origins_of (side end x))
+      (get_or-keep _ _ 0 _ o
+      ∙ ap (λ n. if is_some (at (world_of h).frame.objects n) && is_some (at (next h e).world.frame.objects n) then held_at (marks_of h) o else nothing_held) (omega arith)
+      ∙ ap (λ x. if is_some x && is_some (at (next h e).world.frame.objects o) then held_at (marks_of h) o else nothing_held) free)
+      ∙ nothing _
+    where
+      none : List Marked
+      none = []
+
+      nothing : (end : ℕ) → origins_of (side end nothing_held) ≡ []
+      nothing end = go _
+        where
+          go : (b : Bool) → origins_of (if b then none else none) ≡ []
+          go true = refl
+          go false = refl
+
+  -- sides in which an object is forgotten that holds nothing, and which else are as they were
+  pub forgotten_sides : (s new : Sides) (labels : List Categories) → AreSides s labels h (marks_of h) → (o : ℕ) → ((end : ℕ) → end < 2 → side_of new o end ≡ None)
+      → ((n end : ℕ) → end < 2 → (n ≡ o → ⊥) → side_of new n end ≡ side_of s n end)
+      → ((n : ℕ) (y : Object) → (n ≡ o → ⊥) → at (next h e).world.frame.objects n ≡ Some y → is_some (at (world_of h).frame.objects n) ≡ true)
+      → (ms : List (HoldingOf Marked)) → ((end : ℕ) → end < 2 → origins_of (side end (held_at ms o)) ≡ []) → ((n : ℕ) → (n ≡ o → ⊥) → held_at ms n ≡ held_at (kept_marks h e) n)
+      → AreSides new labels (with_entry h e) ms
+  forgotten_sides s new labels are o none others stood ms nothing kept =
+      let now = world_of-push h e in
+      record {
+        tracked = λ n end low lives. elim (eqb_tells n o) [
+          | inl same ↦
+              subst (λ m. IsTracked labels (with_entry h e) (side_of new m end) (origins_of (side end (held_at ms m)))) (sym same.1)
+              (subst (λ x. IsTracked labels (with_entry h e) x (origins_of (side end (held_at ms o)))) (sym (none end low)) (nothing _ low))
+          | inr apart ↦
+              let y = there_is (at (next h e).world.frame.objects n) (ap (λ (w : World). is_some (at w.frame.objects n)) (sym now) ∙ lives) in
+              let x = there_is _ (stood n y.0 apart.1 y.1) in
+              let held = kept n apart.1 ∙ kept_is h e n (λ i. is_some (x.1 i) && is_some (y.1 i)) in
+              subst (λ z. IsTracked labels (with_entry h e) z (origins_of (side end (held_at ms n)))) (sym (others n _ low apart.1))
+              (subst (λ z. IsTracked labels (with_entry h e) (side_of s n end) (origins_of (side end z))) (sym held)
+              (tracked_next h e _ _ _ (origins_past h n _ _ x.1) (are.tracked n end low (ap is_some x.1))))
+        ];
+        first = λ n end y z low lives plain is. elim (eqb_tells n o) [
+          | inl same ↦ let gone = sym is ∙ ap (λ m. side_of new m end) same.1 ∙ none end low in absurd (true≢false (ap is_some gone))
+          | inr apart ↦
+              let here = ap (λ w. at w.frame.objects n) (sym now) ∙ lives in
+              let x = there_is _ (stood n y apart.1 here) in
+              are.first n end x.0 z low x.1 (sym (kind_stays h e sound n _ y x.1 here) ∙ plain) (sym (others n _ low apart.1) ∙ is)
+        ];
+      }
+
+-- What tracks stand for after an object was made.
 
 -- whether a call makes an object
 abbrev pub makes : Op → Bool
@@ -49,10 +129,10 @@ module _ (h : History) (seat line pid : ℕ) (c : Op) (is : makes c ≡ true) (f
   pub one_made : (o : ℕ) → at (world_of h).frame.objects o ≡ None → OneNew (world_of h).frame (next h e).world.frame o → (new : Sides) → ((end : ℕ) → end < 2 → side_of new o end ≡ None)
       → ((n end : ℕ) → end < 2 → (n ≡ o → ⊥) → side_of new n end ≡ side_of t.sides n end) → AreTracks (record t { sides = new }) (with_entry h e) × (lines_of_entry h e ≡ [])
   one_made o free one new none others =
-      followed h e few (quiet c is) silent t (record t { sides = new }) are refl refl (kept_marks h e) (marks_made h seat line pid c is)
-      (forgotten_sides h e are.sound t.sides new t.labels.all.items are.sides o none others
+      followed h e few (quiet c is) silent t _ are refl refl _ (marks_made h seat line pid c is)
+      (forgotten_sides h e are.sound _ _ _ are.sides o none others
       (λ n y apart there. elim (one.objects n y there) [ inl same ↦ absurd (apart same) | inr stood ↦ stood ])
-      (kept_marks h e) (λ end low. nothing_kept h e are.sound o end free) (λ n apart. refl))
+      _ (λ end low. nothing_kept h e are.sound o _ free) (λ n apart. refl))
 
 -- ---- files and directories
 -- the two calls that make one

@@ -1,9 +1,9 @@
 -- What is made of each thing held is made of it after each edit as before.
-use Rattle.std.proofs.Common.{◌≡◌, ◌+◌, ◌-◌, nat_le, ℕ, zero, suc, Bool, true, false, List, [], ◌∷◌, ◌++◌, length, map, take, drop, replicate}
-use Rattle.std.proofs.{Common.{Option, Some, None, if◌then◌else◌, refl, sym, ap, ◌∙◌, set}, Math.ListN.get_or-map, lemmas.List.{length-map, map-append, map-set, take-map, drop-map}}
-use Rattle.ix_model.specs.{world.{World.{World, Frame, Content, HoldingOf}, Contents.written_over}, rows.Walks.OpenFile, history.{Step.Given, Events.Op}, declared.reply.Reply.Reply}
-use Rattle.ix_model.specs.world.Contents.{filled, held_at, keep, kept, nothing_held, offset_of, on_pipe, on_side, readable_in, resized, side, with_side}
-use Rattle.ix_flow.specs.{Origins.each, Moves.{taken, put_there, cut_there, emptied_there, edited, moved}}
+use Rattle.std.proofs.Common.{◌≡◌, ◌+◌, ◌-◌, nat_le, ℕ, zero, suc, Bool, true, false, List, [], ◌∷◌, ◌++◌, length, map, take, drop, replicate, Option, Some, None, if◌then◌else◌, refl, sym}
+use Rattle.std.proofs.{Common.{ap, ◌∙◌, set}, Math.ListN.get_or-map, lemmas.List.{length-map, map-append, map-set, take-map, drop-map}}
+use Rattle.ix_model.specs.{declared.reply.Reply.Reply, history.{Events.Op, Step.Given}, rows.Walks.OpenFile, world.Contents.{written_over, filled, held_at, keep, kept, nothing_held}}
+use Rattle.ix_model.specs.world.{Contents.{offset_of, on_pipe, on_side, readable_in, resized, side, with_side}, World.{World, Frame, Content, HoldingOf}}
+use Rattle.ix_flow.specs.{Moves.{taken, put_there, cut_there, emptied_there, edited, moved}, Origins.each}
 use Rattle.ix_model.specs.history.Events as op
 use Rattle.ix_model.specs.declared.reply.Reply.TheVariants as reply
 

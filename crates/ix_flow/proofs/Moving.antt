@@ -1,8 +1,8 @@
 -- What a step does to the bytes that objects hold is what a call does to whatever they hold.
 use Rattle.std.proofs.Common.{◌≡◌, ℕ, zero, suc, Bool, true, false, not, ◌&&◌, List, [], ◌∷◌, length, take, Option, Some, None, if◌then◌else◌, refl, sym, ap, ◌∙◌, set}
-use Rattle.ix_model.{specs.{world.World.{World, Frame, Content, Holding}, rows.Walks.{OpenFile, behind}, history.Events.Op, declared.reply.Reply.Reply}, proofs.words.Answered.step_frame}
-use Rattle.ix_model.specs.{world.Contents.{after_cut, after_exit, after_read, after_seek, after_write, carried, emptied, kept, on_pipe, readable}, history.Step.{pex_answer, is_whole}}
-use Rattle.ix_model.specs.history.Step.{answer, step, plainly, read_answer, write_answer, cut_answer, seek_answer, stat_answer, exit_answer, wait_answer}
+use Rattle.ix_model.specs.{declared.reply.Reply.Reply, history.{Events.Op, Step.{pex_answer, is_whole, answer, step, plainly, read_answer, write_answer, cut_answer, seek_answer}}}
+use Rattle.ix_model.specs.{history.Step.{stat_answer, exit_answer, wait_answer}, rows.Walks.{OpenFile, behind}, world.Contents.{after_cut, after_exit, after_read, after_seek, after_write}}
+use Rattle.ix_model.{specs.world.{Contents.{carried, emptied, kept, on_pipe, readable}, World.{World, Frame, Content, Holding}}, proofs.words.Answered.step_frame}
 use Rattle.ix_flow.specs.Moves.{taken, put_there, cut_there, emptied_there, edited, moved, bytes_written}
 use Rattle.ix_model.specs.history.Events as op
 use Rattle.ix_model.specs.declared.reply.Kind.TheVariants as kind

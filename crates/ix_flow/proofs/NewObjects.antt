@@ -1,18 +1,16 @@
 -- Which objects are new after an entry: those that a making call tells.
 use Rattle.std.proofs.Common.{◌≡◌, ◌≢◌, ◌<◌, ℕ, Bool, true, false, true≢false, List, length, Option, Some, None, is_some, option_map, refl, sym, ap, ◌∙◌, subst, ◌⊎◌, inl, inr}
-use Rattle.std.{specs.List.list_all, proofs.lemmas.List.{get_or-set_same, get_or-set_other}}
+use Rattle.std.{proofs.lemmas.List.{get_or-set_same, get_or-set_other}, specs.List.list_all}
 use Rattle.ix_label.specs.Category.{Categories, bottom}
-use Rattle.ix_model.specs.world.{Naming.PathOf, World.{Frame, World, Object, Process, Open, at, put, change, living, lowest_free}, Numbers.free_pipe}
-use Rattle.ix_model.specs.rows.{Walks.{OpenFile, behind, behind_of, entry_at, missing, walked_to}, OnPaths.{make, create_at, make_dir, new_object}}
-use Rattle.ix_model.{specs.rows.{Refusals.keeps_label, OnProcesses.end_process, OnDescriptors.{LengthChecks, make_pipe, pipe_end}, Telling.told}, proofs.refused.RefusedSteps.refused_step}
-use Rattle.ix_model.specs.{rows.{Auditing.logged, Table.{row, verdict}}, history.{AuditLog.is_answer, Step.{step, answer, plainly}, Events.Op}}
-use Rattle.ix_model.specs.{laws.Laws.Refused, declared.{audit.AuditLine.AuditLine, ids.Fd.Fd, refusal.Refusal.Refusal, reply.{Kind.Kind, Reply.Reply}}}
-use Rattle.ix_model.specs.rows.Rows.{change_object, change_process, change_open, put_object, put_open, put_process, add_process, affect, observe}
-use Rattle.ix_model.proofs.tables.{Finds.{at_put, at_change}, FreeNumbers.{free_inode_is, free_pipe_is, lowest_free_is}, Tables.at_changed}
-use Rattle.ix_model.proofs.words.{Living.{is_living, not_ended, lives_as}, Endings.ends_put_object, Keeps.{Holds, Keeps, keeping}}
-use Rattle.ix_model.proofs.words.{Rowwise.{Change, Making, Words, changes_of, kept_row}, Lasts.decided, Answered.{step_frame, passed}}
-use Rattle.ix_model.proofs.words.Ends.{Ends, Anything, ends_kept, ends_bind, ends_then, ends_pass, ends_frame, ends_need, ends_some, ends_caller, ends_object}
-use Rattle.ix_model.proofs.words.Ends.{ends_change_object, ends_change_caller, ends_put_open}
+use Rattle.ix_model.specs.{declared.{audit.AuditLine.AuditLine, ids.Fd.Fd, refusal.Refusal.Refusal, reply.{Kind.Kind, Reply.Reply}}, history.{AuditLog.is_answer, Events.Op, Step.step}}
+use Rattle.ix_model.specs.{history.Step.{answer, plainly}, laws.Laws.Refused, rows.{Auditing.logged, OnDescriptors.{LengthChecks, make_pipe, pipe_end}, OnPaths.{make, create_at}}}
+use Rattle.ix_model.specs.rows.{OnPaths.{make_dir, new_object}, OnProcesses.end_process, Refusals.keeps_label, Rows.{change_object, change_process, change_open, put_object, put_open}}
+use Rattle.ix_model.specs.rows.{Rows.{put_process, add_process, affect, observe}, Table.{row, verdict}, Telling.told, Walks.{OpenFile, behind, behind_of, entry_at, missing, walked_to}}
+use Rattle.ix_model.specs.world.{Naming.PathOf, Numbers.free_pipe, World.{Frame, World, Object, Process, Open, at, put, change, living, lowest_free}}
+use Rattle.ix_model.proofs.{refused.RefusedSteps.refused_step, tables.{Finds.{at_put, at_change}, FreeNumbers.{free_inode_is, free_pipe_is, lowest_free_is}, Tables.at_changed}}
+use Rattle.ix_model.proofs.words.{Answered.{step_frame, passed}, Endings.ends_put_object, Ends.{Ends, Anything, ends_kept, ends_bind, ends_then, ends_pass, ends_frame, ends_need}}
+use Rattle.ix_model.proofs.words.{Ends.{ends_some, ends_caller, ends_object, ends_change_object, ends_change_caller, ends_put_open}, Keeps.{Holds, Keeps, keeping}, Lasts.decided}
+use Rattle.ix_model.proofs.words.{Living.{is_living, not_ended, lives_as}, Rowwise.{Change, Making, Words, changes_of, kept_row}}
 use Rattle.ix_model.specs.history.Events as op
 use Rattle.ix_model.specs.declared.call.Mode.TheVariants as mode
 use Rattle.ix_model.specs.declared.reply.Kind.TheVariants as kind

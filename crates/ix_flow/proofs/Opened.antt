@@ -1,17 +1,15 @@
 -- What tracks stand for before the first entry.
-use Rattle.std.proofs.Common.{◌≡◌, ◌<◌, ◌+◌, ◌*◌, ℕ, zero, suc, get_or, replicate, Bool, true, false, List, [], ◌∷◌, length, Option, Some, None, is_some}
-use Rattle.std.proofs.Common.{option_map, if◌then◌else◌, refl, sym, ap, ◌∙◌, subst, arith, inl, inr}
-use Rattle.std.{specs.{Prelude.slice_get, BTreeMap.get, Ordering.nat_cmp, Option.{option_map_or, option_and_then}}, proofs.lemmas.Bool.Decides.eqb_tells}
+use Rattle.std.proofs.Common.{◌≡◌, ◌<◌, ◌+◌, ◌*◌, ℕ, zero, suc, get_or, replicate, Bool, true, false, List, [], ◌∷◌, length, Option, Some, None, is_some, option_map, if◌then◌else◌, refl}
+use Rattle.std.proofs.{Common.{sym, ap, ◌∙◌, subst, arith, inl, inr}, lemmas.Bool.Decides.eqb_tells}
+use Rattle.std.specs.{BTreeMap.get, Option.{option_map_or, option_and_then}, Ordering.nat_cmp, Prelude.slice_get}
 use Rattle.ix_label.specs.Category.{Categories, bottom}
-use Rattle.ix_model.specs.{laws.Sound.Sound, opening.Opening.{bare_world, opening_world, placed, with_object, with_objects}}
-use Rattle.ix_model.specs.world.{World.{World, Holding, Object, at, is_dir}, Contents.{held_at, holding_of, holds_nothing, side}}
-use Rattle.ix_model.specs.history.{AuditLog.label_at, History.{History, world_of}, Views.{has_side, size_at, view_of}}
-use Rattle.ix_model.specs.declared.{config.{Config.Config, ObjSpec.ObjSpec}, reply.Kind.Kind, views.ObjView.ObjView}
+use Rattle.ix_model.specs.{declared.{config.{Config.Config, ObjSpec.ObjSpec}, reply.Kind.Kind, views.ObjView.ObjView}, history.{AuditLog.label_at, History.{History, world_of}}}
+use Rattle.ix_model.specs.{history.Views.{has_side, size_at, view_of}, laws.Sound.Sound, opening.Opening.{bare_world, opening_world, placed, with_object, with_objects}}
+use Rattle.ix_model.specs.world.{Contents.{held_at, holding_of, holds_nothing, side}, World.{World, Holding, Object, at, is_dir}}
 use Rattle.ix_model.proofs.{sound.{Carried.there_is, Lengths.set_either}, tables.Finds.in_table, words.Runs.world_of-none}
-use Rattle.ix_flow.specs.{Origins.{InConfig, Origin, marked_from, origins_of}, Lowerings.label_of, Marks.marks_of, Sides.{IsLike, StandsIn, numbered, origin_at}}
-use Rattle.ix_flow.specs.Tracking.{AreLabelled, AreOpened, AreTracks, IsTracked, IsUnder, counts_from, falls_at, side_of}
-use Rattle.ix_flow.specs.declared.{labels.Labels.Labels, side.Side.Side, sides.Sides.Sides, source.Source.Source, tracks.Tracks.Tracks}
-use Rattle.ix_flow.proofs.{Arms.tracked_more, SideEdits.origins_marked, Staying.marks_first}
+use Rattle.ix_flow.specs.{Lowerings.label_of, Marks.marks_of, Origins.{InConfig, Origin, marked_from, origins_of}, Sides.{IsLike, StandsIn, numbered, origin_at}, Tracking.AreLabelled}
+use Rattle.ix_flow.specs.{Tracking.{AreOpened, AreTracks, IsTracked, IsUnder, counts_from, falls_at, side_of}, declared.{labels.Labels.Labels, side.Side.Side, sides.Sides.Sides}}
+use Rattle.ix_flow.{specs.declared.{source.Source.Source, tracks.Tracks.Tracks}, proofs.{SideEdits.origins_marked, Staying.marks_first, Writes.tracked_more}}
 use Rattle.ix_model.specs.declared.reply.Kind.TheVariants as kind
 use Rattle.ix_flow.specs.declared.source.Source.TheVariants as source
 
@@ -104,11 +102,11 @@ module _ (h : History) (none : h.events ≡ []) where
     opened_none none = record {
       tracked = λ n end near low lives. elim (eqb_tells n o) [
         | inl same ↦
-            let here : is_some (at (world_of h).frame.objects o) ≡ true = ap (λ m. is_some (at (world_of h).frame.objects m)) (sym same.1) ∙ lives in
-            let x = there_is (at (world_of h).frame.objects o) here in
-            subst (λ (m : ℕ). IsTracked t.labels.all.items h (side_of t.sides m end) (origins_of (side end (held_at (marks_of h) m)))) (sym same.1)
-            (subst (λ (y : Option Side). IsTracked t.labels.all.items h y (origins_of (side end (held_at (marks_of h) o)))) (sym (are.none o end near (omega arith)))
-            (held_ends (λ e xs. xs ≡ []) o (no_first x.0 x.1 (none x.0 x.1)) refl end near))
+            let here = ap (λ m. is_some (at (world_of h).frame.objects m)) (sym same.1) ∙ lives in
+            let x = there_is _ here in
+            subst (λ m. IsTracked t.labels.all.items h (side_of t.sides m end) (origins_of (side end (held_at (marks_of h) m)))) (sym same.1)
+            (subst (λ y. IsTracked t.labels.all.items h y (origins_of (side end (held_at (marks_of h) o)))) (sym (are.none o end near (omega arith)))
+            (held_ends (λ e xs. xs ≡ []) o (no_first _ x.1 (none x.0 x.1)) refl _ near))
         | inr apart ↦ are.tracked n end near (split n low apart.1) lives
       ];
       first = are.first;

@@ -1,10 +1,10 @@
 -- What is known of all that was read is known of its pieces.
-use Rattle.std.proofs.Common.{◌≡◌, ℕ, suc, Bool, true, false, List, [], ◌∷◌, Option, Some, None, if◌then◌else◌, refl, ap, ◌∙◌, subst}
-use Rattle.std.{specs.{Prelude.All, Option.option_map_or}, proofs.lemmas.List.Elements.{All-cons, All-head, All-map, All-nil, All-tail}}
+use Rattle.std.proofs.{Common.{◌≡◌, ℕ, suc, Bool, true, false, List, [], ◌∷◌, Option, Some, None, if◌then◌else◌, refl, ap, ◌∙◌, subst}, lemmas.List.Elements.{All-cons, All-head, All-map}}
+use Rattle.std.{proofs.lemmas.List.Elements.{All-nil, All-tail}, specs.{Option.option_map_or, Prelude.All}}
 use Rattle.ix_label.specs.Category.{bottom}
-use Rattle.ix_model.specs.{rows.Walks.{OpenFile, behind}, history.{AuditLog.of_process, Events.{Op, Event}, History.{History, world_of, next}}}
-use Rattle.ix_flow.{specs.{Origins.{Origin, Marked, origins_of}, Marks.{marks_of, marks_read, read_by, read_through}}, proofs.Staying.readers_above}
-use Rattle.ix_flow.specs.{Laws.{IsAccountedFor, LinesAreAccountedFor}, Lines.{Piece, in_front, object_read, pieces_from}}
+use Rattle.ix_model.specs.{history.{AuditLog.of_process, Events.{Op, Event}, History.{History, world_of, next}}, rows.Walks.{OpenFile, behind}}
+use Rattle.ix_flow.specs.{Laws.{IsAccountedFor, LinesAreAccountedFor}, Lines.{Piece, in_front, object_read, pieces_from}, Marks.{marks_of, marks_read, read_by, read_through}}
+use Rattle.ix_flow.{specs.Origins.{Origin, Marked, origins_of}, proofs.Staying.readers_above}
 use Rattle.ix_model.specs.history.Events as op
 
 module _ (P : Origin → Type 0) where
@@ -39,11 +39,11 @@ marks_accounted h e (op.ReadFd fd count) is = go _ refl
     go : (b : Option OpenFile) → behind (world_of h).frame e.pid fd ≡ b → All (P b) (read_through (world_of h) (marks_of h) b (next h e).reply)
     go None there = All-nil _
     go (Some b) there =
-        subst (λ (ms : List Marked). All (P (Some b)) ms)
+        subst (λ ms. All (P (Some b)) ms)
         (ap (λ o. read_by (world_of h) (marks_of h) e.pid o (next h e)) is ∙ ap (λ s. read_through (world_of h) (marks_of h) s (next h e).reply) there) (readers_above h e fd count b is there)
 marks_accounted h e o is = All-nil _
 
 pub lines_accounted : LinesAreAccountedFor
 lines_accounted h e =
     let P : Origin → Type 0 = λ origin. IsAccountedFor h (object_read h e.pid e.op) (of_process (λ q. q.label) bottom (next h e).world.frame e.pid) origin in
-    pieces_have P 0 (origins_of (marks_read h e)) (All-map P (λ (m : Marked). m.origin) (marks_read h e) (marks_accounted h e e.op refl))
+    pieces_have P 0 (origins_of (marks_read h e)) (All-map P (λ m. m.origin) _ (marks_accounted h e _ refl))

@@ -1,9 +1,9 @@
 -- One entry more: what it makes of the marks, of labels and of lowerings.
-use Rattle.std.proofs.Common.{◌≡◌, ◌≤◌, ◌<◌, ◌+◌, ◌==◌, ◌&&◌, ℕ, zero, suc, Bool, true, false, List, [], ◌∷◌, ◌++◌, length, Option, Some, None, refl}
-use Rattle.std.{proofs.{Common.{if◌then◌else◌, sym, ap, ◌∙◌, arith, subst, append-nil}, lemmas.{List.append_assoc, Bool.{eq-eqb, eqb-true, le-ltb, lt-ltb}}}, specs.Prelude.slice_get}
+use Rattle.std.proofs.Common.{◌≡◌, ◌≤◌, ◌<◌, ◌+◌, ◌==◌, ◌&&◌, ℕ, zero, suc, Bool, true, false, List, [], ◌∷◌, ◌++◌, length, Option, Some, None, refl, if◌then◌else◌, sym, ap, ◌∙◌, arith}
+use Rattle.std.{proofs.{Common.{subst, append-nil}, lemmas.{Bool.{eq-eqb, eqb-true, le-ltb, lt-ltb}, List.append_assoc}}, specs.Prelude.slice_get}
 use Rattle.ix_label.specs.Category.{bottom}
-use Rattle.ix_model.specs.{world.World.{World, HoldingOf}, history.{AuditLog.of_process, Step.{step_of, run}, Events.Event}}
-use Rattle.ix_flow.specs.{Origins.Marked, Marks.{marks_after, marks_from}, Lowerings.{falls, first_fall, caller_label}}
+use Rattle.ix_model.specs.{history.{AuditLog.of_process, Events.Event, Step.{step_of, run}}, world.World.{World, HoldingOf}}
+use Rattle.ix_flow.specs.{Lowerings.{falls, first_fall, caller_label}, Marks.{marks_after, marks_from}, Origins.Marked}
 
 -- ---- what holds of no entries, and of one more wherever it holds, holds of all
 pub by_pushes : (P : List Event → Type 0) → P [] → ((events : List Event) (e : Event) → P events → P (events ++ e ∷ [])) → (events : List Event) → P events

@@ -1,8 +1,8 @@
 -- An entry that sets no object's label lets nothing down.
-use Rattle.std.proofs.Common.{◌≡◌, ◌<◌, ◌+◌, ◌^◌, not, ℕ, Bool, true, false, true≢false, [], ◌∷◌, length, Option, Some, None, refl, sym, ◌∙◌, arith, inl, inr}
-use Rattle.std.{specs.Option.option_map_or, proofs.lemmas.{Bool.Decides.eqb_tells, List.length-append}}
+use Rattle.std.{proofs.Common.{◌≡◌, ◌<◌, ◌+◌, ◌^◌, not, ℕ, Bool, true, false, true≢false, [], ◌∷◌, length, Option, Some, None, refl, sym, ◌∙◌, arith, inl, inr}, specs.Option.option_map_or}
+use Rattle.std.proofs.lemmas.{Bool.Decides.eqb_tells, List.length-append}
 use Rattle.ix_label.specs.Category.{leq}
-use Rattle.ix_model.specs.{world.World.{World, Object, at}, history.{Step.step_of, Events.Event, History.{History, world_of, with_entry}}}
+use Rattle.ix_model.specs.{history.{Events.Event, History.{History, world_of, with_entry}, Step.step_of}, world.World.{World, Object, at}}
 use Rattle.ix_iso.proofs.Lowerings.{lowerings_logged}
 use Rattle.ix_flow.{specs.{Lowerings.falls, Tracking.AreFalls, declared.falls.Falls.Falls}, proofs.{FirstFall.{falls_last, falls_push, none_late}, Relabelling.{down_by_label, sets_label}}}
 use Rattle.ix_model.specs.history.Lowering as low

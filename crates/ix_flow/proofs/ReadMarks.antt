@@ -1,15 +1,69 @@
--- The origins that a read gives, and what it leaves of those that stand.
-use Rattle.std.proofs.Common.{◌≡◌, ◌≤◌, ◌<◌, ◌+◌, ◌==◌, ◌&&◌, ℕ, suc, Bool, true, false, List, [], ◌∷◌, length, take, drop, Option, Some, is_some, refl, sym}
-use Rattle.std.{proofs.{Common.{if◌then◌else◌, ap, ◌∙◌, arith, inl, inr}, lemmas.Bool.{eq-eqb, eqb-true, ne_eqb, Decides.eqb_tells}}, specs.{List.flat_map, Option.option_map_or}}
-use Rattle.std.proofs.lemmas.List.{get_or-set_other, get_or-set_same, drop-map, length-drop, length-map, length-take, take-map}
-use Rattle.ix_model.specs.{laws.Sound.Sound, world.World.{World, Frame, HoldingOf, at, is_pipe}, rows.Walks.{OpenFile, behind}, declared.reply.Reply.Reply}
-use Rattle.ix_model.{specs.world.Contents.{held_at, kept, nothing_held, offset_of, on_side, readable_in, side, with_side}, proofs.clean.Carrying.{get_or-keep, length-keep}}
-use Rattle.ix_model.specs.history.{Events.{Op, Event}, History.{History, world_of, next, with_entry}}
-use Rattle.ix_flow.specs.{Origins.{each, Marked, Origin, Written, gap_mark, marked_from, origins_of}, Moves.{bytes_written, edited, taken}}
-use Rattle.ix_flow.specs.{Lines.{Piece, in_front, lines_of_entry, object_read, piece_line, pieces_from, pieces_read}, Marks.{marks_of, marks_read, read_by, read_through}}
-use Rattle.ix_flow.proofs.{Marking.marked_run, ReadWorlds.{Reading, reading}, Staying.{marks_next, marks_read_is}}
+-- The marked run, looked at as bytes, is the run.
+use Rattle.std.proofs.Common.{◌≡◌, ℕ, suc, List, [], ◌∷◌, map, take, Option, Some, refl, sym, ap, ◌∙◌, ◌≤◌, ◌<◌, ◌+◌, ◌==◌, ◌&&◌, Bool, true, false, length, drop, is_some, if◌then◌else◌}
+use Rattle.std.proofs.{Common.{arith, inl, inr}, lemmas.{Bool.{eq-eqb, eqb-true, ne_eqb, Decides.eqb_tells}, List.{take-map, get_or-set_other, get_or-set_same, drop-map, length-drop}}}
+use Rattle.std.{proofs.lemmas.List.{length-map, length-take}, specs.{List.flat_map, Option.option_map_or}}
+use Rattle.ix_model.specs.{declared.reply.Reply.Reply, history.{Events.{Op, Event}, History.{History, world_of, next, with_entry}, Step.{Given, step_of, run}}, laws.Sound.Sound}
+use Rattle.ix_model.specs.{rows.Walks.{OpenFile, behind}, world.{Contents.{offset_of, readable, readable_in, held_at, kept, nothing_held, on_side, side, with_side}, World.World}}
+use Rattle.ix_model.{specs.world.World.{Holding, HoldingOf, Frame, at, is_pipe}, proofs.clean.Carrying.{get_or-keep, length-keep}}
+use Rattle.ix_flow.specs.{Laws.BytesAreTheRuns, Lines.{Piece, in_front, lines_of_entry, object_read, piece_line, pieces_from, pieces_read}, Marks.{marked_all, opening_marks, marks_after}}
+use Rattle.ix_flow.specs.{Marks.{marks_from, marks_of, read_through, read_by, marks_read}, Moves.{moved, bytes_written, edited, taken}, Origins.{Origin, Written, InConfig, Marked, each}}
+use Rattle.ix_flow.specs.Origins.{bytes_of, marked_from, gap_mark, origins_of}
+use Rattle.ix_flow.proofs.{Mapping.{moved_map, readable_map}, Moving.{step_held, step_bytes, front_of, fronts}, ReadWorlds.{Reading, reading}, Staying.{marks_next, marks_read_is}}
 use Rattle.ix_model.specs.history.Events as op
 use Rattle.ix_model.specs.declared.reply.Reply.TheVariants as reply
+
+-- the byte of a mark
+abbrev pub byte_of : Marked → ℕ
+byte_of m = m.byte
+
+-- what marks hold, as bytes
+abbrev pub seen : List (HoldingOf Marked) → List Holding
+seen ms = map (each byte_of) ms
+
+marked_bytes : (origin : ℕ → Origin) (k : ℕ) (bytes : List ℕ) → bytes_of (marked_from origin k bytes) ≡ bytes
+unfolding marked_from
+marked_bytes origin k [] = refl
+marked_bytes origin k (b ∷ bytes) = ap (λ xs. b ∷ xs) (marked_bytes _ _ _)
+
+opening_seen : (o : ℕ) (hs : List Holding) → seen (marked_all o hs) ≡ hs
+unfolding marked_all
+opening_seen o [] = refl
+opening_seen o (h ∷ hs) = λ i. record { first = marked_bytes (InConfig o) 0 h.first i; second = marked_bytes (InConfig o) 0 h.second i } ∷ opening_seen (suc o) hs i
+
+after_seen : (w : World) (place : ℕ) (e : Event) (ms : List (HoldingOf Marked)) → seen ms ≡ w.content.holdings → seen (marks_after w place e ms) ≡ (step_of w place e).world.content.holdings
+after_seen w place e ms is =
+    moved_map _ _ _ w _ _ _ ms
+    ∙ (λ i. moved 0 (marked_bytes (Written place) 0 (bytes_written e.op) i) w e.pid e.op (step_of w place e) (is i))
+    ∙ sym (step_held w _ _ _)
+
+pub run_seen : (w : World) (place : ℕ) (events : List Event) (ms : List (HoldingOf Marked)) → seen ms ≡ w.content.holdings → seen (marks_from w place events ms) ≡ (run w place events).content.holdings
+unfolding marks_from
+run_seen w place [] ms is = is
+run_seen w place (e ∷ events) ms is = run_seen (step_of w place e).world (suc place) events _ (after_seen w _ e ms is)
+
+through_seen : (w : World) (ms : List (HoldingOf Marked)) (b : Option OpenFile) (r : Reply) → seen ms ≡ w.content.holdings → bytes_of (read_through w ms b r) ≡ front_of w b r
+unfolding readable
+through_seen w ms (Some e) (reply.Bytes k) is =
+    sym (take-map byte_of k _)
+    ∙ ap (take k) (sym (readable_map byte_of w.frame (offset_of w.content e.id) e ms) ∙ ap (readable_in w.frame (offset_of w.content e.id) e) is)
+through_seen w ms b r is = refl
+
+by_seen : (w : World) (ms : List (HoldingOf Marked)) (pid : ℕ) (o : Op) (given : Given) → seen ms ≡ w.content.holdings → bytes_of (read_by w ms pid o given) ≡ fronts w pid o given.reply
+unfolding read_by
+by_seen w ms pid (op.ReadFd fd count) given is = through_seen w ms _ _ is
+by_seen w ms pid o given is = refl
+
+marks_seen : (h : History) → seen (marks_of h) ≡ (world_of h).content.holdings
+unfolding marks_of world_of opening_marks
+marks_seen h = run_seen _ 1 _ _ (opening_seen 0 _)
+
+pub marked_run : (h : History) → BytesAreTheRuns h
+marked_run h = record {
+  held = marks_seen h;
+  read = λ e. by_seen _ _ _ _ _ (marks_seen h) ∙ sym (step_bytes _ _ _ _);
+}
+
+-- The origins that a read gives, and what it leaves of those that stand.
 
 -- the origins that an end of an object can read
 abbrev pub origins_at : History → ℕ → ℕ → List Origin

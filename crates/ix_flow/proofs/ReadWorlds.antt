@@ -1,17 +1,45 @@
--- What stands behind the descriptor of a read, before and after it, and what the read gives and moves.
-use Rattle.std.proofs.Common.{◌≡◌, ◌≤◌, ◌<◌, ◌+◌, ◌==◌, ◌&&◌, ◌||◌, nat_le, ℕ, Bool, true, false, true≢false, length, set, take, drop, Option, Some, is_some}
-use Rattle.std.proofs.Common.{if◌then◌else◌, refl, sym, ap, ◌∙◌, arith, inl, inr}
-use Rattle.std.{specs.Option.option_map_or, proofs.{Math.Bool.and-false, lemmas.{Bool.{leb-true, Decides.eqb_tells}, List.{get_or-set_same, length-take}}}}
-use Rattle.ix_model.specs.{laws.{Clean.IsClean, Sound.Sound}, world.World.{World, Frame, Content, Object, at, is_pipe}, rows.Outcomes.{Outcome, Refuse, Pass}, declared.reply.Reply.Reply}
-use Rattle.ix_model.specs.{world.Contents.{after_read, carried, change_side, readable, offset_of, on_pipe}, rows.{Walks.{OpenFile, behind}, Telling.told}}
-use Rattle.ix_model.specs.{rows.{Table.{row, verdict}, OnDescriptors.{LengthChecks, read_fd}}, history.{Events.Event, Freshness.closes}}
-use Rattle.ix_model.specs.history.{Step.{Given, answer, step, step_of, plainly, read_answer}, History.{History, world_of, next, with_entry}}
-use Rattle.ix_model.proofs.{clean.Carrying.carried_decided, sound.Carried.there_is, tables.Finds.in_table, words.{Answered.passed, Runs.world_of-push}}
-use Rattle.ix_model.proofs.words.{Ends.{Ends, Anything, ends_bind, ends_need, ends_object, ends_opened, ends_then}, Standing.{behind_is, stands}}
+-- What is known of labels where a read gave bytes, or a write told how many it wrote.
+use Rattle.std.proofs.Common.{◌≡◌, ℕ, true, List, Option, Some, refl, sym, ap, subst, ◌≤◌, ◌<◌, ◌+◌, ◌==◌, ◌&&◌, ◌||◌, nat_le, Bool, false, true≢false, length, set, take, drop, is_some}
+use Rattle.std.proofs.{Common.{if◌then◌else◌, ◌∙◌, arith, inl, inr}, Math.Bool.and-false, lemmas.{Bool.{leb-true, Decides.eqb_tells}, List.{get_or-set_same, length-take}}}
+use Rattle.ix_model.specs.{declared.reply.Reply.Reply, history.{AuditLog.is_answer, Events.Event, Freshness.closes, History.{History, world_of, next, with_entry}, Step.{answer, step}}}
+use Rattle.ix_model.specs.{history.Step.{plainly, read_answer, write_answer, Given, step_of}, laws.{Clean.IsClean, Sound.Sound}, rows.OnDescriptors.{LengthChecks, read_fd}}
+use Rattle.ix_model.specs.{rows.{Outcomes.{Outcome, Refuse, Pass}, Table.{row, verdict}, Telling.told, Walks.{OpenFile, behind}}, world.Contents.{after_read, carried, change_side}}
+use Rattle.ix_model.specs.world.{Contents.{readable, offset_of, on_pipe}, World.{World, Frame, Content, Object, at, is_pipe}}
+use Rattle.ix_model.proofs.{clean.Carrying.carried_decided, sound.Carried.there_is, tables.Finds.in_table, words.{Answered.{passed, step_frame}, Ends.{Ends, Anything, ends_bind}}}
+use Rattle.ix_model.proofs.words.{Ends.{ends_need, ends_object, ends_opened, ends_then}, Runs.world_of-push, Standing.{behind_is, stands}}
+use Rattle.ix_iso.proofs.Facts.{ReadFacts, read_known, WriteFacts, write_known}
+use Rattle.std.specs.Option.{option_map_or}
 use Rattle.ix_fresh.proofs.Remaining.{descriptors_remain}
-use Rattle.ix_flow.proofs.Rows.{read_answers}
 use Rattle.ix_model.specs.history.Events as op
 use Rattle.ix_model.specs.declared.reply.Reply.TheVariants as reply
+
+pub read_answers : (w : World) (count : ℕ) (b : Option OpenFile) (r : Reply) (g : Frame) (k : ℕ) → (read_answer w count b r g).reply ≡ reply.Bytes k → is_answer r ≡ true
+unfolding read_answer plainly
+read_answers w count (Some e) (reply.Bytes n) g k is = refl
+read_answers w count _ r g k is = ap is_answer is
+
+pub write_answers : (w : World) (new : List ℕ) (b : Option OpenFile) (r : Reply) (g : Frame) (k : ℕ) → (write_answer w new b r g).reply ≡ reply.Number k → is_answer r ≡ true
+unfolding write_answer plainly
+write_answers w new (Some e) (reply.Number n) g k is = refl
+write_answers w new _ r g k is = ap is_answer is
+
+pub read_step : (w : World) (place pid fd count k : ℕ) (e : OpenFile) → (step w place pid (op.ReadFd fd count)).reply ≡ reply.Bytes k → behind w.frame pid fd ≡ Some e
+    → ReadFacts pid w.frame e (step w place pid (op.ReadFd fd count)).world.frame
+unfolding step answer row
+read_step w place pid fd count k e is there =
+    let t = told w pid (op.ReadFd fd count) in
+    subst (λ g. ReadFacts pid w.frame e g) (sym (step_frame w _ _ _))
+    (passed t _ _ _ _ _ (read_known t _ fd _ _) (read_answers w _ _ _ _ k is) e there)
+
+pub write_step : (w : World) (place pid fd : ℕ) (bytes : List ℕ) (k : ℕ) (e : OpenFile) → (step w place pid (op.WriteFd fd bytes)).reply ≡ reply.Number k → behind w.frame pid fd ≡ Some e
+    → WriteFacts pid w.frame e (step w place pid (op.WriteFd fd bytes)).world.frame
+unfolding step answer row
+write_step w place pid fd bytes k e is there =
+    let t = told w pid (op.WriteFd fd bytes) in
+    subst (λ g. WriteFacts pid w.frame e g) (sym (step_frame w _ _ _))
+    (passed t _ _ _ _ _ (write_known t _ fd _) (write_answers w _ _ _ _ k is) e there)
+
+-- What stands behind the descriptor of a read, before and after it, and what the read gives and moves.
 
 -- ---- what stands behind the descriptor
 -- what holds anyway holds where a row passes

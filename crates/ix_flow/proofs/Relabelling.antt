@@ -1,13 +1,12 @@
 -- A call that lets an object down is told by the last line of the log.
-use Rattle.std.proofs.Common.{◌≡◌, ◌≤◌, ◌<◌, ◌+◌, ℕ, zero, suc, Bool, true, false, List, [], ◌∷◌, ◌++◌, length, Option, Some, None, option_map, if◌then◌else◌}
-use Rattle.std.{proofs.{Common.{refl, sym, ap, ◌∙◌, subst, arith}, lemmas.Bool.not-true}, specs.{Prelude.slice_get, Option.option_map_or}}
+use Rattle.std.proofs.Common.{◌≡◌, ◌≤◌, ◌<◌, ◌+◌, ℕ, zero, suc, Bool, true, false, List, [], ◌∷◌, ◌++◌, length, Option, Some, None, option_map, if◌then◌else◌, refl, sym, ap, ◌∙◌, subst}
+use Rattle.std.{proofs.{Common.arith, lemmas.Bool.not-true}, specs.{Option.option_map_or, Prelude.slice_get}}
 use Rattle.ix_label.specs.Category.{Categories, leq}
-use Rattle.ix_model.specs.{world.{Naming.PathOf, World.{World, Frame, Object, at}}, opening.Opening.{opening_world, placed, with_object, with_objects, bare_world}}
-use Rattle.ix_model.{specs.rows.{Walks.object_at, Auditing.audit_line, OnLabels.set_label, Table.row, Telling.told}, proofs.tables.Tables.at_changed}
-use Rattle.ix_model.specs.history.{AuditLog.{audit_log, lines_added, line_of_act}, Step.{step, step_of}, Events.{Op, Event}}
-use Rattle.ix_model.specs.declared.{config.{Config.Config, ObjSpec.ObjSpec}, audit.AuditLine.AuditLine, refusal.Refusal.Refusal, reply.Reply.Reply}
-use Rattle.ix_model.proofs.words.{Answered.step_frame, Keeps.Holds, Lasts.decided, RowEnds.{ends_allowed, ends_movable, ends_logged}}
-use Rattle.ix_model.proofs.words.Ends.{Ends, ends_kept, kept_ends, ends_bind, ends_then, ends_pass, ends_only_if, ends_object, ends_change_object}
+use Rattle.ix_model.specs.{declared.{audit.AuditLine.AuditLine, config.{Config.Config, ObjSpec.ObjSpec}, refusal.Refusal.Refusal, reply.Reply.Reply}, history.AuditLog.audit_log}
+use Rattle.ix_model.specs.{history.{AuditLog.{lines_added, line_of_act}, Events.{Op, Event}, Step.{step, step_of}}, opening.Opening.{opening_world, placed, with_object, with_objects}}
+use Rattle.ix_model.specs.{opening.Opening.bare_world, rows.{Auditing.audit_line, OnLabels.set_label, Table.row, Telling.told, Walks.object_at}, world.{Naming.PathOf, World.World}}
+use Rattle.ix_model.{specs.world.World.{Frame, Object, at}, proofs.words.{Ends.ends_change_object, Keeps.Holds, Lasts.decided, RowEnds.{ends_allowed, ends_movable, ends_logged}}}
+use Rattle.ix_model.proofs.{tables.Tables.at_changed, words.{Answered.step_frame, Ends.{Ends, ends_kept, kept_ends, ends_bind, ends_then, ends_pass, ends_only_if, ends_object}}}
 use Rattle.ix_iso.proofs.Facts.{looking_found}
 use Rattle.ix_model.specs.history.Events as op
 use Rattle.ix_model.specs.declared.audit.Act.TheVariants as act

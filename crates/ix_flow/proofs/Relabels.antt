@@ -1,16 +1,15 @@
 -- What tracks stand for after a call that sets an object's label.
-use Rattle.std.proofs.Common.{◌≡◌, ◌≢◌, ◌≤◌, ◌<◌, ◌+◌, ◌^◌, ◌==◌, ◌&&◌, ◌||◌, not, ℕ, Bool, true, false, true≢false, [], ◌∷◌, ◌++◌, length, Option, Some, None}
-use Rattle.std.{proofs.Common.{is_some, refl, sym, ap, ◌∙◌, arith, inl, inr}, specs.{Prelude.slice_get, Option.option_map_or}}
-use Rattle.std.proofs.lemmas.{Bool.{eq-eqb, ne_eqb, Decides.eqb_tells}, List.{length-append, append_cancel_left}}
+use Rattle.std.proofs.Common.{◌≡◌, ◌≢◌, ◌≤◌, ◌<◌, ◌+◌, ◌^◌, ◌==◌, ◌&&◌, ◌||◌, not, ℕ, Bool, true, false, true≢false, [], ◌∷◌, ◌++◌, length, Option, Some, None, is_some, refl, sym, ap, ◌∙◌}
+use Rattle.std.proofs.{Common.{arith, inl, inr}, lemmas.{Bool.{eq-eqb, ne_eqb, Decides.eqb_tells}, List.{length-append, append_cancel_left}}}
+use Rattle.std.specs.{Option.option_map_or, Prelude.slice_get}
 use Rattle.ix_label.specs.Category.{Categories, leq}
-use Rattle.ix_model.specs.{world.{Naming.PathOf, World.{Frame, Object, at}}, opening.Opening.opening_world, rows.Auditing.audit_line}
-use Rattle.ix_model.specs.{history.{AuditLog.audit_log, Events.Event, History.{History, world_of, next, with_entry}}, declared.audit.AuditLine.AuditLine}
-use Rattle.ix_model.proofs.{told.Logs.logged_run, words.Runs.world_of-push}
+use Rattle.ix_model.specs.{declared.audit.AuditLine.AuditLine, history.{AuditLog.audit_log, Events.Event, History.{History, world_of, next, with_entry}}, opening.Opening.opening_world}
+use Rattle.ix_model.{specs.{rows.Auditing.audit_line, world.{Naming.PathOf, World.{Frame, Object, at}}}, proofs.{told.Logs.logged_run, words.Runs.world_of-push}}
 use Rattle.ix_iso.proofs.Lowerings.{lowerings_logged}
-use Rattle.ix_flow.specs.{Lines.lines_of_entry, Lowerings.falls, Marks.marks_of, Moves.edited, Tracking.{AreFalls, AreTracks, is_noted, let_down}}
-use Rattle.ix_flow.{specs.declared.{falls.Falls.Falls, tracks.Tracks.Tracks}, proofs.{Staying.marks_next, Through.kept_marks}}
-use Rattle.ix_flow.proofs.{Arms.{kept_sides, tracks_now}, FirstFall.{falls_last, falls_push, none_late}, NewObjects.{Stood, stood_step}, Pushing.stands_last}
-use Rattle.ix_flow.proofs.{ReadMarks.{reads_nothing, tells_nothing}, Relabelling.{LetDown, Nothing, Says, log_within, opening_log, says_step, within_at}}
+use Rattle.ix_flow.specs.{Lines.lines_of_entry, Lowerings.falls, Marks.marks_of, Moves.edited, Tracking.{AreFalls, AreTracks, is_noted, let_down}, declared.falls.Falls.Falls}
+use Rattle.ix_flow.specs.declared.tracks.Tracks.{Tracks}
+use Rattle.ix_flow.proofs.{FirstFall.{falls_last, falls_push, none_late}, NewObjects.{Stood, stood_step}, Pushing.stands_last, ReadMarks.{reads_nothing, tells_nothing}}
+use Rattle.ix_flow.proofs.{Relabelling.{LetDown, Nothing, Says, log_within, opening_log, says_step, within_at}, Staying.marks_next, Through.kept_marks, Writes.{kept_sides, tracks_now}}
 use Rattle.ix_model.specs.history.Lowering as low
 use Rattle.ix_model.specs.history.Events as op
 use Rattle.ix_model.specs.declared.audit.Act.TheVariants as act
@@ -169,10 +168,10 @@ module _ (h : History) (seat line pid : ℕ) (path : PathOf) (label : Categories
         → (now : Falls)
         → ((o place : ℕ) → place < 2 ^ 32 → is_noted now o place ≡ (o == l.target && place == l.place || is_noted t.falls o place))
         → AreTracks (record t { falls = now }) (with_entry h e) × (lines_of_entry h e ≡ [])
-    one_told l n at_end is here now noted = tracks now (falls_next h e t.falls now are.falls short same (go says))
+    one_told l n at_end is here now noted = tracks _ (falls_next h e t.falls now are.falls short same (go says))
       where
         same : (o place : ℕ) → place < 2 ^ 32 → place ≢ length h.events + 1 → is_noted now o place ≡ is_noted t.falls o place
-        same o place low apart = noted o place low ∙ other (o == l.target) (ne_eqb place l.place (λ x. apart (x ∙ here)))
+        same o place low apart = noted o _ low ∙ other _ (ne_eqb place l.place (λ x. apart (x ∙ here)))
           where
             other : (b : Bool) → (place == l.place) ≡ false → (b && place == l.place || is_noted t.falls o place) ≡ is_noted t.falls o place
             other true isnt = ap (λ c. c || is_noted t.falls o place) isnt

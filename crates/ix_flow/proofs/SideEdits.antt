@@ -1,10 +1,10 @@
 -- The sides of all objects after one of them was changed.
-use Rattle.std.proofs.Common.{◌≡◌, ◌≢◌, ◌<◌, ◌+◌, ◌*◌, ◌==◌, ℕ, Bool, true, false, true≢false, List, [], ◌∷◌, length, Option, Some, None, is_some, refl}
-use Rattle.std.proofs.{Common.{slice_get, if◌then◌else◌, sym, ap, ◌∙◌, subst, arith, inl, inr}, lemmas.{Bool.{eqb-true, Decides.eqb_tells}, List.{get_or-set_same, get_or-set_other}}}
+use Rattle.std.proofs.Common.{◌≡◌, ◌≢◌, ◌<◌, ◌+◌, ◌*◌, ◌==◌, ℕ, Bool, true, false, true≢false, List, [], ◌∷◌, length, Option, Some, None, is_some, refl, slice_get, if◌then◌else◌, sym, ap}
+use Rattle.std.proofs.{Common.{◌∙◌, subst, arith, inl, inr}, lemmas.{Bool.{eqb-true, Decides.eqb_tells}, List.{get_or-set_same, get_or-set_other}}}
 use Rattle.ix_label.specs.Category.{Categories}
-use Rattle.ix_model.specs.{world.{World.{HoldingOf, at, is_pipe}, Contents.{held_at, nothing_held, on_side, side, with_side}}, history.History.{History, world_of}}
-use Rattle.ix_flow.specs.{Origins.{Marked, Origin, Written, marked_from, origins_of}, Lowerings.label_of, Tracking.{AreLabelled, AreSides, HasEnd, IsFound, IsTracked, IsUnder, side_of}}
-use Rattle.ix_flow.specs.{Sides.{ComesOf, IsLike, StandsIn, numbered, origin_at, source_in}, declared.{side.Side.Side, sides.Sides.Sides, source.Source.Source}}
+use Rattle.ix_model.specs.{history.History.{History, world_of}, world.{Contents.{held_at, nothing_held, on_side, side, with_side}, World.{HoldingOf, at, is_pipe}}}
+use Rattle.ix_flow.specs.{Lowerings.label_of, Origins.{Marked, Origin, Written, marked_from, origins_of}, Sides.{ComesOf, IsLike, StandsIn, numbered, origin_at, source_in}}
+use Rattle.ix_flow.specs.{Tracking.{AreLabelled, AreSides, HasEnd, IsFound, IsTracked, IsUnder, side_of}, declared.{side.Side.Side, sides.Sides.Sides, source.Source.Source}}
 use Rattle.ix_flow.specs.Sides as come
 use Rattle.ix_flow.specs.declared.source.Source.TheVariants as source
 

@@ -1,18 +1,17 @@
 -- What came into an object stays accounted for: it is at or below the object's label, or the object was let down since.
-use Rattle.std.proofs.Common.{◌≡◌, ◌≤◌, ◌<◌, ◌+◌, not, ℕ, zero, suc, Bool, true, false, List, [], ◌∷◌, ◌++◌, length, Some, None, if◌then◌else◌, refl, sym, ap}
-use Rattle.std.{proofs.Common.{◌∙◌, arith, subst, length-append}, specs.{Prelude.{All, slice_get}, Option.option_map_or}}
-use Rattle.std.proofs.lemmas.{Bool.and_parts, List.Elements.{All-cons, All-drop, All-map, All-nil, All-take, All-weaker}}
+use Rattle.std.proofs.Common.{◌≡◌, ◌≤◌, ◌<◌, ◌+◌, not, ℕ, zero, suc, Bool, true, false, List, [], ◌∷◌, ◌++◌, length, Some, None, if◌then◌else◌, refl, sym, ap, ◌∙◌, arith, subst}
+use Rattle.std.proofs.{Common.length-append, lemmas.{Bool.and_parts, List.Elements.{All-cons, All-drop, All-map, All-nil, All-take, All-weaker}}}
+use Rattle.std.specs.{Option.option_map_or, Prelude.{All, slice_get}}
 use Rattle.ix_label.specs.{Category.{Categories, bottom, leq}, Lattice.{leq-refl, leq-trans}}
-use Rattle.ix_model.specs.world.{World.{World, Frame, Object, Process, HoldingOf, Holding, at}, Contents.{held_at, offset_of, on_pipe, side}}
-use Rattle.ix_model.specs.{rows.Walks.{OpenFile, behind}, opening.Opening.opening_world, history.{AuditLog.{audit_log, label_at, of_process}, Step.step}}
-use Rattle.ix_model.specs.{history.{Events.{Op, Event}, History.{History, world_of, next, with_entry}}, declared.{config.Config.Config, reply.Reply.Reply}}
+use Rattle.ix_model.specs.{declared.{config.Config.Config, reply.Reply.Reply}, history.{AuditLog.{audit_log, label_at, of_process}, Events.{Op, Event}, History.{History, world_of, next}}}
+use Rattle.ix_model.specs.{history.{History.with_entry, Step.step}, opening.Opening.opening_world, rows.Walks.{OpenFile, behind}, world.Contents.{held_at, offset_of, on_pipe, side}}
+use Rattle.ix_model.specs.world.World.{World, Frame, Object, Process, HoldingOf, Holding, at}
 use Rattle.ix_model.proofs.{sound.Carried.there_is, told.Logs.logged_run, words.{Living.is_living, Runs.{world_of-push, world_of-none}}}
 use Rattle.ix_iso.proofs.{Facts.WriteFacts, Lowerings.lowerings_logged}
-use Rattle.ix_flow.specs.{Origins.{Origin, Written, InConfig, Gap, Marked, gap_mark, marked_from, origins_of}, Moves.bytes_written, Lowerings.{falls, first_fall, label_of, place_of, via}}
-use Rattle.ix_flow.specs.Laws.{IsInTheLog, IsAccountedFor, Below, LetDown, OfGap, OriginsStayBelow, ReadersAreAbove}
-use Rattle.ix_flow.specs.Marks.{marked_in, marked_all, opening_marks, marks_after, marks_from, marks_of, read_through, read_by, marks_read}
-use Rattle.ix_flow.proofs.{Everywhere.{Everywhere, moved_all, on_one_side}, Rows.{read_step, write_step}}
-use Rattle.ix_flow.proofs.Pushing.{by_pushes, stays_there, stands_last, marks_push, caller_before, caller_at, fall_before, fall_at, none_later}
+use Rattle.ix_flow.specs.{Laws.{IsInTheLog, IsAccountedFor, Below, LetDown, OfGap, OriginsStayBelow, ReadersAreAbove}, Lowerings.{falls, first_fall, label_of, place_of, via}}
+use Rattle.ix_flow.specs.{Marks.{marked_in, marked_all, opening_marks, marks_after, marks_from, marks_of, read_through, read_by, marks_read}, Moves.bytes_written, Origins.Origin}
+use Rattle.ix_flow.{specs.Origins.{Written, InConfig, Gap, Marked, gap_mark, marked_from, origins_of}, proofs.{Pushing.none_later, ReadWorlds.{read_step, write_step}}}
+use Rattle.ix_flow.proofs.{Everywhere.{Everywhere, moved_all, on_one_side}, Pushing.{by_pushes, stays_there, stands_last, marks_push, caller_before, caller_at, fall_before, fall_at}}
 use Rattle.ix_model.specs.history.Lowering as low
 use Rattle.ix_model.specs.history.Events as op
 use Rattle.ix_model.specs.declared.reply.Reply.TheVariants as reply
@@ -209,7 +208,7 @@ all_known h = by_pushes _ (all_known_first h.config)
 
 -- so all that stands in an object came in by then
 pub origins_past : (h : History) (o end : ℕ) (x : Object) → at (world_of h).frame.objects o ≡ Some x → All (IsPast (length h.events)) (origins_of (side end (held_at (marks_of h) o)))
-origins_past h o end x is = All-map (IsPast (length h.events)) (λ (m : Marked). m.origin) (side end (held_at (marks_of h) o))
+origins_past h o end x is = All-map (IsPast (length h.events)) (λ m. m.origin) _
     (all_more (λ (m : Marked) (known : Known h o x.label m). known.past) _ (on_one_side (Known h o x.label) end (held_at (marks_of h) o) (all_known h o x is)))
 
 accounted_for : (h : History) (o : ℕ) (l : Categories) (m : Marked) → Known h o l m → IsAccountedFor h o l m.origin
@@ -249,8 +248,8 @@ marks_read_is h e fd count b is there = ap (λ o. read_by (world_of h) (marks_of
 
 pub readers_above : ReadersAreAbove
 readers_above h e fd count b is there =
-    subst (λ (ms : List Marked). All (λ (m : Marked). IsAccountedFor h b.entry.object (of_process (λ p. p.label) bottom (next h e).world.frame e.pid) m.origin) ms)
-    (sym (marks_read_is h e fd count b is there))
+    subst (λ ms. All (λ m. IsAccountedFor h b.entry.object (of_process (λ p. p.label) bottom (next h e).world.frame e.pid) m.origin) ms)
+    (sym (marks_read_is h e fd _ b is there))
     (subst (λ (o : Op). All (λ (m : Marked). IsAccountedFor h b.entry.object (of_process (λ p. p.label) bottom (step (world_of h) (length h.events + 1) e.pid o).world.frame e.pid) m.origin)
     (read_through (world_of h) (marks_of h) (Some b) (step (world_of h) (length h.events + 1) e.pid o).reply)) (sym is)
-    (read_below h e.pid fd count b _ refl there))
+    (read_below h _ fd _ b _ refl there))

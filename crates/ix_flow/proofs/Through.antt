@@ -1,12 +1,12 @@
 -- What stands behind a descriptor before and after an entry that doesn't close it.
-use Rattle.std.proofs.Common.{◌≡◌, ◌<◌, ◌==◌, ◌&&◌, ℕ, Bool, true, false, List, length, Some, None, is_some, option_map, sym, ap, ◌∙◌, arith}
-use Rattle.std.{specs.Option.option_map_or, proofs.{Math.Bool.and-false, lemmas.List.length-map}}
-use Rattle.ix_model.specs.{laws.Sound.Sound, rows.Walks.{OpenFile, behind}, world.{World.{HoldingOf, Object, Process, at, is_pipe}, Contents.{kept, offset_of, on_pipe}}}
-use Rattle.ix_model.specs.history.{Freshness.closes, Events.Event, History.{History, world_of, next, with_entry}}
+use Rattle.std.proofs.{Common.{◌≡◌, ◌<◌, ◌==◌, ◌&&◌, ℕ, Bool, true, false, List, length, Some, None, is_some, option_map, sym, ap, ◌∙◌, arith}, Math.Bool.and-false, lemmas.List.length-map}
+use Rattle.std.specs.Option.{option_map_or}
+use Rattle.ix_model.specs.{history.{Events.Event, Freshness.closes, History.{History, world_of, next, with_entry}}, laws.Sound.Sound, rows.Walks.{OpenFile, behind}, world.Contents.kept}
+use Rattle.ix_model.specs.world.{Contents.{offset_of, on_pipe}, World.{HoldingOf, Object, Process, at, is_pipe}}
 use Rattle.ix_model.proofs.{clean.Carrying.length-keep, frames.Claimants.is_behind, tables.Finds.in_table, words.{Living.is_living, Runs.world_of-push, Standing.{behind_is, stands}}}
 use Rattle.ix_fresh.proofs.Remaining.{descriptors_remain}
 use Rattle.ix_open.specs.declared.view.OpenView.{OpenView}
-use Rattle.ix_flow.{specs.{Origins.{each, Marked}, Marks.marks_of, Tracking.HasEnd}, proofs.{Marking.marked_run, ReadWorlds.{end_near, pipe_by_kind, pipe_of}}}
+use Rattle.ix_flow.{specs.{Marks.marks_of, Origins.{each, Marked}, Tracking.HasEnd}, proofs.{ReadMarks.marked_run, ReadWorlds.{end_near, pipe_by_kind, pipe_of}}}
 
 -- what the marks of a history are, where all that stood and stands keeps its own
 abbrev pub kept_marks : History → Event → List (HoldingOf Marked)

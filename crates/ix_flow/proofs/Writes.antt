@@ -1,20 +1,172 @@
--- What tracks stand for after a write.
-use Rattle.std.proofs.Common.{◌≡◌, ◌≤◌, ◌<◌, ◌+◌, ◌-◌, ◌++◌, ℕ, Bool, true, false, List, [], length, Option, Some, None, is_some, option_map, refl, sym}
-use Rattle.std.{proofs.{Common.{if◌then◌else◌, ap, ◌∙◌, subst, arith, set}, lemmas.List.get_or-set_same}, specs.{Prelude.slice_get, Option.option_map_or}}
+-- What tracks stand for stays, where an entry more leaves it.
+use Rattle.std.proofs.Common.{◌≡◌, ◌<◌, ◌+◌, ◌&&◌, ℕ, true, List, [], length, Option, Some, None, is_some, sym, ap, ◌∙◌, subst, arith, ◌≤◌, false, ◌∷◌, option_map, refl, ◌-◌, ◌++◌, Bool}
+use Rattle.std.proofs.{Common.{if◌then◌else◌, set, true≢false, append-nil}, lemmas.List.{length-append, get_or-set_same, Elements.All-get_or}}
+use Rattle.std.specs.{Borrow.Bor, List.list_all, Option.option_map_or, Prelude.{All, slice_get}}
 use Rattle.ix_label.specs.Category.{Categories, bottom}
-use Rattle.ix_model.specs.{world.World.{World, Frame, Content, HoldingOf, at, is_pipe}, history.{AuditLog.of_process, Events.Event}, declared.{reply.Reply.Reply, views.ProcView.ProcView}}
-use Rattle.ix_model.specs.{world.Contents.{after_write, carried, change_side, offset_of, on_pipe, on_side, spliced, written_over}, history.Views.shown_of}
-use Rattle.ix_model.{specs.rows.{Walks.{OpenFile, behind}, OnDescriptors.{LengthChecks, write_fd}, Table.row, Telling.told}, proofs.{clean.Carrying.length-keep, sound.Carried.there_is}}
-use Rattle.ix_model.specs.history.{Step.{answer, write_answer, plainly, step}, History.{History, world_of, next, with_entry}}
-use Rattle.ix_model.proofs.words.{Answered.{passed, step_frame}, Ends.{Ends, Anything, ends_bind, ends_opened}, Runs.world_of-push}
+use Rattle.ix_model.specs.{declared.{call.Call.Call, ids.Fd.Fd, path.Path.Path, reply.Reply.Reply, views.ProcView.ProcView}, history.{AuditLog.of_process, Calls.op_of, Events.{Event, Op}}}
+use Rattle.ix_model.specs.{history.{History.{History, world_of, next, with_entry}, Step.{answer, write_answer, plainly, step}, Views.shown_of}, laws.Sound.Sound}
+use Rattle.ix_model.specs.{rows.{OnDescriptors.{LengthChecks, write_fd}, Table.row, Telling.told, Walks.{behind, OpenFile}}, world.Contents.{held_at, side, after_write, carried}}
+use Rattle.ix_model.specs.world.{Contents.{change_side, offset_of, on_pipe, on_side, spliced, written_over}, World.{Object, HoldingOf, at, is_pipe, World, Frame, Content}}
+use Rattle.ix_model.proofs.{clean.Carrying.length-keep, frames.Frames.frame_of, sound.{Carried.there_is, Following.follows_decided, Soundly.sound_step}, words.Answered.step_frame}
+use Rattle.ix_model.proofs.words.{Answered.passed, Ends.{Ends, Anything, ends_bind, ends_opened}, Rowwise.changes_of, Runs.world_of-push}
+use Rattle.ix_flow.specs.{Following.{Follows, FollowsInto}, Lines.{pieces_read, with_pieces, Counts, lines_of_entry}, Lowerings.label_of, Marks.marks_of, Moves.{edited, put_there}}
+use Rattle.ix_flow.specs.{Origins.{Marked, Origin, Gap, origins_of, Written, gap_mark, marked_from}, Sides.{IsLike, source_in}, Tracking.{AreFalls, AreLabelled, AreSides, AreTracks}}
+use Rattle.ix_flow.specs.{Tracking.{IsTracked, IsUnder, counts_of, side_of, HasEnd, IsWrite}, declared.{labels.Labels.Labels, side.Side.Side, sides.Sides.Sides, source.Source.Source}}
+use Rattle.ix_flow.{specs.declared.tracks.Tracks.Tracks, proofs.Through.{not_opened, on_pipe_after, through, viewed}}
+use Rattle.ix_flow.proofs.{Counting.counts_more, NewObjects.{Stood, stood_step, makes_none}, Quiet.falls_quiet, ReadMarks.{kept_is, reads_nothing, tells_nothing}, ReadWorlds.ends_anyway}
+use Rattle.ix_flow.proofs.{ReadWorlds.write_answers, Relabelling.sets_label, Staying.{IsPast, label_stays, origins_past, label_new, marks_next}, Through.{kept_marks, Through, has_end}}
+use Rattle.ix_fcalls.specs.Spots.{view_through}
 use Rattle.ix_open.specs.declared.view.OpenView.{OpenView}
-use Rattle.ix_flow.specs.{Origins.{Marked, Written, gap_mark, marked_from}, Lines.lines_of_entry, Lowerings.label_of, Marks.marks_of, Moves.{edited, put_there}}
-use Rattle.ix_flow.specs.{Tracking.{AreSides, AreTracks, HasEnd, IsWrite}, declared.{labels.Labels.Labels, sides.Sides.Sides, tracks.Tracks.Tracks}}
-use Rattle.ix_flow.proofs.{Arms.{followed, kept_sides, sides_more, unmoved}, NewObjects.{Stood, stood_step}, ReadWorlds.ends_anyway, Rows.write_answers}
-use Rattle.ix_flow.proofs.{Staying.{label_new, marks_next}, Through.{Through, has_end, kept_marks, not_opened, on_pipe_after, through, viewed}}
 use Rattle.ix_model.specs.history.Events as op
 use Rattle.ix_model.specs.declared.reply.Reply.TheVariants as reply
+use Rattle.ix_flow.specs.declared.source.Source.TheVariants as source
 use Rattle.ix_flow.specs.declared.sides.Written as written_type
+use Rattle.ix_model.specs.declared.call.Call.TheVariants as call
+
+module _ (h : History) (e : Event) where
+  -- ---- labels
+  -- what came in by then keeps the label that it was written under
+  pub labelled_next : (labels : List Categories) (s : Side) (origins : List Origin) → IsLike s origins → All (IsPast (length h.events)) origins → AreLabelled labels h s
+      → AreLabelled labels (with_entry h e) s
+  labelled_next labels s origins like past labelled = λ n low high.
+      subst (IsUnder labels (source_in s.runs.entries n)) (sym (label_stays h e _ (subst (IsPast (length h.events)) (like.each n low high)
+      (All-get_or (IsPast (length h.events)) origins _ Gap (omega (arith, low, high, like.long)) past)))) (labelled n low high)
+
+  pub tracked_next : (labels : List Categories) (s : Option Side) (origins : List Origin) → All (IsPast (length h.events)) origins → IsTracked labels h s origins
+      → IsTracked labels (with_entry h e) s origins
+  tracked_next labels None origins past tracked = tracked
+  tracked_next labels (Some s) origins past tracked = (tracked.0, labelled_next _ s _ tracked.0 past tracked.1)
+
+  -- ---- objects
+  -- what stands before and after an entry is of one kind
+  pub kind_stays : Sound (world_of h) → (o : ℕ) (x y : Object) → at (world_of h).frame.objects o ≡ Some x → at (next h e).world.frame.objects o ≡ Some y → is_pipe y ≡ is_pipe x
+  kind_stays sound o x y is here =
+      let last = length h.events + 1 in
+      ((follows_decided _ (frame_of _ sound) (told (world_of h) e.pid e.op) last e.pid e.op).kinds.same o x y is
+      (ap (λ f. at f.objects o) (sym (step_frame (world_of h) last e.pid e.op)) ∙ here)).pipe
+
+  -- ---- sides
+  -- Sides that stood for what is held stand for it after an entry, where all that lives on can read the same, and came in before.
+  pub sides_next : Sound (world_of h) → Stood (world_of h).frame (next h e).world.frame → (s : Sides) (labels : List Categories) (hs ms : List (HoldingOf Marked)) → AreSides s labels h hs
+      → ((o end : ℕ) (x : Object) → end < 2 → at (world_of h).frame.objects o ≡ Some x → is_some (at (next h e).world.frame.objects o) ≡ true
+      → (origins_of (side end (held_at ms o)) ≡ origins_of (side end (held_at hs o))) × All (IsPast (length h.events)) (origins_of (side end (held_at hs o))))
+      → AreSides s labels (with_entry h e) ms
+  sides_next sound stood s labels hs ms are same =
+      let now = world_of-push h e in
+      let stands : (o : ℕ) (y : Object) → at (next h e).world.frame.objects o ≡ Some y → (x : Object) × (at (world_of h).frame.objects o ≡ Some x) = λ o y is. there_is
+      _ (stood.objects o y is) in
+      record {
+        tracked = λ o end low lives.
+            let here = ap (λ w. is_some (at w.frame.objects o)) (sym now) ∙ lives in
+            let y = there_is (at _ o) here in
+            let x = stands o y.0 y.1 in
+            let known = same o _ x.0 low x.1 here in
+            subst (IsTracked labels (with_entry h e) (side_of s o end)) (sym known.0) (tracked_next _ _ _ known.1
+            (are.tracked o end low (ap is_some x.1)));
+        first = λ o end y found low is file there.
+            let here = ap (λ w. at w.frame.objects o) (sym now) ∙ is in
+            let x = stands o y here in
+            are.first o end x.0 found low x.1 (sym (kind_stays sound o _ y x.1 here) ∙ file) there;
+      }
+
+  -- Tracks that stood for a history stand for the one with an entry more that reads nothing, lets nothing down and makes nothing,
+  -- where all that lives on can read the same.
+  pub tracks_idle : (t : Tracks) → AreTracks t h → Stood (world_of h).frame (next h e).world.frame → pieces_read h e ≡ [] → AreFalls t.falls (with_entry h e)
+      → ((o end : ℕ) → end < 2 → (is_some (at (world_of h).frame.objects o) && is_some (at (next h e).world.frame.objects o)) ≡ true
+      → origins_of (side end (held_at (marks_of (with_entry h e)) o)) ≡ origins_of (side end (held_at (marks_of h) o)))
+      → AreTracks t (with_entry h e)
+  tracks_idle t are stood none falls same = record {
+    sound = subst Sound (sym (world_of-push h e)) (sound_step _ _ _ _ are.sound);
+    sides = sides_next are.sound stood _ _ _ _ are.sides
+        (λ o end x low there lives. (same o _ low (λ i. is_some (there i) && lives i), origins_past h o _ x there));
+    falls = falls;
+    counts = are.counts ∙ sym (counts_more h e ∙ ap (λ ps. with_pieces ps (counts_of h)) none);
+  }
+
+-- What tracks stand for after an entry that reads nothing, from what their sides stand for.
+
+-- ---- labels
+-- with more labels, each where it was, what sides stand for stays
+under_more : (labels more : List Categories) → ((n : ℕ) (l : Categories) → slice_get labels n ≡ Some l → slice_get more n ≡ Some l) → (x : Source) (l : Categories) → IsUnder labels x l
+    → IsUnder more x l
+under_more labels more stays (source.Write place start label) l is = stays _ l is
+under_more labels more stays (source.File object label) l is = stays _ l is
+under_more labels more stays source.Gap l is = tt
+
+pub tracked_more : (labels more : List Categories) → ((n : ℕ) (l : Categories) → slice_get labels n ≡ Some l → slice_get more n ≡ Some l)
+    → (h : History) (x : Option Side) (origins : List Origin) → IsTracked labels h x origins → IsTracked more h x origins
+tracked_more labels more stays h None origins is = is
+tracked_more labels more stays h (Some x) origins is = (
+  is.0,
+  λ n low high. under_more _ _ stays _ _
+      (is.1 n low high),
+)
+
+pub sides_more : (labels more : List Categories) → ((n : ℕ) (l : Categories) → slice_get labels n ≡ Some l → slice_get more n ≡ Some l) → (s : Sides) (h : History) (hs : List (HoldingOf Marked))
+    → AreSides s labels h hs → AreSides s more h hs
+sides_more labels more stays s h hs are = record {
+  tracked = λ o end low lives. tracked_more _ _ stays h _ _ (are.tracked o end low lives);
+  first = are.first;
+}
+
+-- how many reads and lines were counted
+abbrev pub counts_in : Tracks → Counts
+counts_in t = record { reads = t.reads; lines = t.lines }
+
+module _ (h : History) (e : Event) (sound : Sound (world_of h)) where
+  -- ---- what is kept
+  pub kept_sides : Stood (world_of h).frame (next h e).world.frame → (s : Sides) (labels : List Categories) → AreSides s labels h (marks_of h) → AreSides s labels (with_entry h e) (kept_marks h e)
+  kept_sides stood s labels are = sides_next h e sound stood s _ _ _ are (λ o end x low there lives.
+      (ap (λ y. origins_of (side end y)) (kept_is h e o (λ i. is_some (there i) && lives i)), origins_past h o _ x there))
+
+  -- ---- the whole
+  -- tracks whose sides stand for what is held after the entry, and which are else as they were
+  pub tracks_now : (t u : Tracks) → AreTracks t h → counts_in u ≡ counts_in t → pieces_read h e ≡ [] → AreFalls u.falls (with_entry h e)
+      → (ms : List (HoldingOf Marked)) → marks_of (with_entry h e) ≡ ms → AreSides u.sides u.labels.all.items (with_entry h e) ms → AreTracks u (with_entry h e)
+  tracks_now t u are same none falls ms is sides = record {
+    sound = subst Sound (sym (world_of-push h e)) (sound_step _ _ _ _ sound);
+    sides = subst (AreSides u.sides _ _) (sym is) sides;
+    falls = falls;
+    counts = same ∙ are.counts ∙ sym (counts_more h e ∙ ap (λ ps. with_pieces ps (counts_of h)) none);
+  }
+
+-- ---- the history that it led to
+-- what holds of a history with one entry more holds of the one that it led to
+pub led : (u : Tracks) (h now : History) (e : Event) (L : Type 0) → now ≡ with_entry h e → AreTracks u (with_entry h e) × L → AreTracks u now × L
+led u h now e L is holds = (subst (AreTracks u) (sym is) holds.0, holds.1)
+
+pub few_then : (h now : History) (e : Event) → now ≡ with_entry h e → length now.events ≤ 6800000 → length (with_entry h e).events ≤ 6800000
+few_then h now e is few = subst (λ k. length k.events ≤ 6800000) is few
+
+-- what is told of an open entry in the one is told of it in the other
+pub told_then : (h now : History) (e : Event) (pid fd : ℕ) (found told : Option OpenView) → now ≡ with_entry h e
+    → found ≡ option_map (view_through (world_of now)) (behind (world_of now).frame pid fd) → found ≡ told
+    → option_map (view_through (world_of (with_entry h e))) (behind (world_of (with_entry h e)).frame pid fd) ≡ told
+told_then h now e pid fd found told is ensures gives = ap (λ k. option_map (view_through (world_of k)) (behind (world_of k).frame pid fd)) (sym is) ∙ sym ensures ∙ gives
+
+-- and so is what is shown of a process
+pub shown_then : (h now : History) (e : Event) (pid : ℕ) (found shown : Option ProcView) → now ≡ with_entry h e → found ≡ option_map shown_of (at (world_of now).frame.processes pid) → found ≡ shown
+    → option_map shown_of (at (world_of (with_entry h e)).frame.processes pid) ≡ shown
+shown_then h now e pid found shown is ensures gives = ap (λ k. option_map shown_of (at (world_of k).frame.processes pid)) (sym is) ∙ sym ensures ∙ gives
+
+-- ---- an entry that reads nothing and sets no object's label
+module _ (h : History) (e : Event) (few : length (with_entry h e).events ≤ 6800000) (quiet : sets_label e.op ≡ false)
+    (silent : (fd count k : ℕ) → e.op ≡ op.ReadFd fd count → (next h e).reply ≡ reply.Bytes k → k ≡ 0) where
+  -- tracks whose sides alone have changed, and stand for what is held after it
+  pub followed : (t u : Tracks) → AreTracks t h → counts_in u ≡ counts_in t → u.falls ≡ t.falls → (ms : List (HoldingOf Marked)) → marks_of (with_entry h e) ≡ ms
+      → AreSides u.sides u.labels.all.items (with_entry h e) ms
+      → AreTracks u (with_entry h e) × (lines_of_entry h e ≡ [])
+  followed t u are same lowered ms is sides = (
+    tracks_now h e are.sound t u are same (reads_nothing h e silent)
+        (subst (λ f. AreFalls f (with_entry h e)) (sym lowered) (falls_quiet _ h e are.falls quiet (omega (arith, few, length-append h.events (e ∷ []))))) ms is sides,
+    tells_nothing h e silent,
+  )
+
+  -- tracks that are as they were, where what objects hold is kept and nothing is made
+  pub unmoved : (t : Tracks) → AreTracks t h → Stood (world_of h).frame (next h e).world.frame → marks_of (with_entry h e) ≡ kept_marks h e → AreTracks t (with_entry h e) × (lines_of_entry h e ≡ [])
+  unmoved t are stood is = followed t t are refl refl _ is (kept_sides h e are.sound stood t.sides t.labels.all.items are.sides)
+
+-- What tracks stand for after a write.
 
 -- ---- what stands behind the descriptor
 writes_behind : (t : LengthChecks) (pid fd : ℕ) (f : Frame) → Ends (write_fd t pid fd f) Anything (λ r g. is_some (behind f pid fd) ≡ true)
@@ -135,9 +287,9 @@ module _ (h : History) (seat line pid fd : ℕ) (bytes : List ℕ) where
     offset_after file =
         let inside : b.id < length before.offsets = let long = carried_offsets (world_of h).frame (next h e).world.frame (world_of h).content in omega
         (arith, long, r.opened, are.sound.lengths.offsets) in
-        ap (λ (w : World). offset_of w.content b.id) (world_of-push h e)
-        ∙ ap (λ (c : Content). offset_of c b.id) (step_wrote (world_of h) last pid fd bytes k b done found.1)
-        ∙ write_offset (world_of h).frame b bytes before (r.piped ∙ file) inside
+        ap (λ w. offset_of w.content b.id) (world_of-push h e)
+        ∙ ap (λ c. offset_of c b.id) (step_wrote _ _ _ fd _ k b done found.1)
+        ∙ write_offset _ b _ _ (r.piped ∙ file) inside
 
     -- ---- what the code makes of it
     module _ (few : length (with_entry h e).events ≤ 6800000) (view : OpenView) (v : OpenFile → OpenView) (object : (c : OpenFile) → (v c).obj.0 ≡ c.entry.object)
@@ -178,22 +330,87 @@ module _ (h : History) (seat line pid fd : ℕ) (bytes : List ℕ) where
           → AreSides sides ls g (on_side view.obj.0 end (λ old. old ++ marked_from (Written place) 0 bs) hs))
           → AreTracks (record t { sides = sides; labels = labels }) (with_entry h e) × (lines_of_entry h e ≡ [])
       write_to_pipe piped asked so end other append =
-          let pipe = write_piped piped asked ∙ so in
-          let which : end ≡ 1 - b.entry.end = other ∙ ap (λ n. 1 - n) seen.1 in
-          let marks : marks_of (with_entry h e) ≡ on_side view.obj.0 end (λ old. old ++ marked_from (Written place) 0 bytes) (kept_marks h e) =
-          put_is ∙ put_either true pipe ∙ (λ i. on_side (sym seen.0 i) (sym which i) (λ old. old ++ marked_from (Written (sym at_last i)) 0 bytes) (kept_marks h e)) in
-          tracks _ marks (append labels.all.items (with_entry h e) (kept_marks h e) bytes kept_all
-          (subst (λ (o : ℕ). HasEnd (with_entry h e) (kept_marks h e) o end true) (sym seen.0) (has_end h e fd b r true pipe end (omega (arith, which)))) is_write)
+          let pipe = write_piped _ asked ∙ so in
+          let which = other ∙ ap (λ n. 1 - n) seen.1 in
+          let marks =
+          put_is ∙ put_either _ pipe ∙ (λ i. on_side (sym seen.0 i) (sym which i) (λ old. old ++ marked_from (Written (sym at_last i)) 0 bytes) (kept_marks h e)) in
+          tracks _ marks (append _ _ _ bytes kept_all
+          (subst (λ o. HasEnd (with_entry h e) (kept_marks h e) o end true) (sym seen.0) (has_end h e fd b r _ pipe _ (omega (arith, which)))) is_write)
 
       pub write_to_file : (piped : Bool) → Asked piped → piped ≡ false → (from : ℕ) → from ≡ view.at - count
           → ((ls : List Categories) (g : History) (hs : List (HoldingOf Marked)) (bs : List ℕ) → AreSides t.sides ls g hs → HasEnd g hs view.obj.0 view.end false → IsWrite ls g written bs
           → AreSides sides ls g (on_side view.obj.0 view.end (written_over gap_mark from (marked_from (Written place) 0 bs)) hs))
           → AreTracks (record t { sides = sides; labels = labels }) (with_entry h e) × (lines_of_entry h e ≡ [])
       write_to_file piped asked so from starts write =
-          let file = write_piped piped asked ∙ so in
+          let file = write_piped _ asked ∙ so in
           let begun : from ≡ offset_of before b.id = let after = offset_after file in let told = seen.2 in omega (arith, starts, after, told, is_count) in
-          let marks : marks_of (with_entry h e) ≡ on_side view.obj.0 view.end (written_over gap_mark from (marked_from (Written place) 0 bytes)) (kept_marks h e) =
-          put_is ∙ put_either false file ∙ (λ i. on_side (sym seen.0 i) (sym seen.1 i) (written_over gap_mark (sym begun i) (marked_from (Written (sym at_last i)) 0 bytes)) (kept_marks h e)) in
+          let marks =
+          put_is ∙ put_either _ file ∙ (λ i. on_side (sym seen.0 i) (sym seen.1 i) (written_over gap_mark (sym begun i) (marked_from (Written (sym at_last i)) 0 bytes)) (kept_marks h e)) in
           tracks _ marks (write labels.all.items (with_entry h e) (kept_marks h e) bytes kept_all
-          (subst (λ (o : ℕ). HasEnd (with_entry h e) (kept_marks h e) o view.end false) (sym seen.0)
-          (subst (λ (end : ℕ). HasEnd (with_entry h e) (kept_marks h e) b.entry.object end false) (sym seen.1) (has_end h e fd b r false file b.entry.end r.near))) is_write)
+          (subst (λ o. HasEnd (with_entry h e) (kept_marks h e) o view.end false) (sym seen.0)
+          (subst (λ end. HasEnd (with_entry h e) (kept_marks h e) b.entry.object end false) (sym seen.1) (has_end h e fd b r _ file _ r.near))) is_write)
+
+-- What tracks stand for after any other entry.
+
+-- whether a call moves nothing, makes no object and sets no object's label
+abbrev pub is_quiet : Op → Bool
+is_quiet (op.CreateAt path) = false
+is_quiet (op.ReadFd fd count) = false
+is_quiet (op.WriteFd fd bytes) = false
+is_quiet (op.CutFd fd len) = false
+is_quiet op.MakePipe = false
+is_quiet (op.MakeDir path) = false
+is_quiet (op.SetLabel path label) = false
+is_quiet (op.Pex fd) = false
+is_quiet _ = true
+
+marks_quiet : (h : History) (seat line pid : ℕ) (c : Op) → is_quiet c ≡ true → let e : Event = record { seat = seat; line = line; pid = pid; op = c } in marks_of (with_entry h e) ≡ kept_marks h e
+unfolding edited
+marks_quiet h seat line pid (op.ReadFd fd count) is = cc
+marks_quiet h seat line pid (op.WriteFd fd bytes) is = cc
+marks_quiet h seat line pid (op.CutFd fd len) is = cc
+marks_quiet h seat line pid (op.Pex fd) is = cc
+marks_quiet h seat line pid c is = marks_next h _
+
+quiet_changes : (c : Op) → is_quiet c ≡ true → list_all makes_none (changes_of c) ≡ true
+quiet_changes (op.CreateAt path) is = cc
+quiet_changes op.MakePipe is = cc
+quiet_changes (op.MakeDir path) is = cc
+quiet_changes c is = refl
+
+quiet_label : (c : Op) → is_quiet c ≡ true → sets_label c ≡ false
+quiet_label (op.SetLabel path label) is = cc
+quiet_label c is = refl
+
+reads_not : (c : Op) (fd count : ℕ) → is_quiet c ≡ true → c ≡ op.ReadFd fd count → ⊥
+reads_not c fd count is same = true≢false (sym (ap is_quiet (sym same) ∙ is))
+
+-- it leaves the tracks as they are
+pub quiet_entry : (h : History) (seat line pid : ℕ) (c : Op) → is_quiet c ≡ true
+    → let e : Event = record { seat = seat; line = line; pid = pid; op = c } in length (with_entry h e).events ≤ 6800000 → (t : Tracks) → AreTracks t h
+    → AreTracks t (with_entry h e) × (lines_of_entry h e ≡ [])
+quiet_entry h seat line pid c is few t are = unmoved h _ few (quiet_label c is) (λ d count k reads gives. absurd (reads_not c d _ is reads)) t are
+    (stood_step _ _ _ c (quiet_changes c is)) (marks_quiet h _ _ _ c is)
+
+pub quiet_follows : (t : Tracks) (now : History) (r : Reply) (seat line pid : ℕ) (c : Op) → is_quiet c ≡ true → length now.events ≤ 6800000
+    → Follows t t now r (record { seat = seat; line = line; pid = pid; op = c })
+quiet_follows t now r seat line pid c is few = λ h step are. led t h _ _ _ step.history (quiet_entry h _ _ _ c is (few_then h _ _ step.history few) t are)
+
+-- what has no lines has them behind any text
+pub follows_into : (old new : Tracks) (now : History) (r : Reply) (e : Event) (text : List ℕ) → Follows old new now r e → FollowsInto old new now r e text text
+follows_into old new now r e text follows = λ h step are. let led = follows h step are in (led.0, sym (append-nil text) ∙ ap (λ lines. text ++ lines) (sym led.1))
+
+-- ---- calls
+-- the calls of the code that are so
+pub quiet_call : (x : Call) → ((p : Path) → x ≡ call.CreateAt p → ⊥) → ((fd : Fd) (n : ℕ) → x ≡ call.ReadFd fd n → ⊥) → ((fd : Fd) (bs : Bor (List ℕ)) → x ≡ call.WriteFd fd bs → ⊥)
+    → ((fd : Fd) (n : ℕ) → x ≡ call.CutFd fd n → ⊥)
+    → (x ≡ call.MakePipe → ⊥) → ((p : Path) → x ≡ call.MakeDir p → ⊥) → ((p : Path) (l : Categories) → x ≡ call.SetLabel p l → ⊥) → ((fd : Fd) → x ≡ call.Pex fd → ⊥) → is_quiet (op_of x) ≡ true
+quiet_call (call.CreateAt p) create read write cut pipe dir label pex = absurd (create p refl)
+quiet_call (call.ReadFd fd n) create read write cut pipe dir label pex = absurd (read fd n refl)
+quiet_call (call.WriteFd fd bs) create read write cut pipe dir label pex = absurd (write fd bs refl)
+quiet_call (call.CutFd fd n) create read write cut pipe dir label pex = absurd (cut fd n refl)
+quiet_call call.MakePipe create read write cut pipe dir label pex = absurd (pipe refl)
+quiet_call (call.MakeDir p) create read write cut pipe dir label pex = absurd (dir p refl)
+quiet_call (call.SetLabel p l) create read write cut pipe dir label pex = absurd (label p l refl)
+quiet_call (call.Pex fd) create read write cut pipe dir label pex = absurd (pex fd refl)
+quiet_call x create read write cut pipe dir label pex = refl

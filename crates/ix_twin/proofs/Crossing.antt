@@ -1,11 +1,11 @@
 -- What crosses a label.
-use Rattle.std.proofs.Common.{◌≡◌, ℕ, zero, suc, true, false, true≢false, not, List, [], ◌∷◌, Option, Some, None, refl, sym, ap, ◌∙◌, ⊎_elim}
-use Rattle.std.{specs.Bool.Decides, proofs.{Math.Bool.or-true, lemmas.Bool.{and_parts, not-true, or_cases, Decides.{Decides-and, Decides-not}}}}
+use Rattle.std.proofs.{Common.{◌≡◌, ℕ, zero, suc, true, false, true≢false, List, [], ◌∷◌, Option, Some, None, refl, sym, ap, ◌∙◌, ⊎_elim}, Math.Bool.or-true, lemmas.Bool.and_parts}
+use Rattle.std.{proofs.lemmas.Bool.{not-true, or_cases, Decides.{Decides-and, Decides-not}}, specs.Bool.Decides}
 use Rattle.ix_label.specs.Category.{Categories, leq}
-use Rattle.ix_model.specs.{world.World.{Frame, Object, Process, World, at}, history.{Events.Event, Lowering.Crosses, Step.step_of}}
-use Rattle.ix_model.specs.history.Lowering as low
+use Rattle.ix_model.specs.{history.{Events.Event, Lowering.Crosses, Step.step_of}, world.World.{Frame, World, at}}
 use Rattle.ix_iso.specs.Laws.{NoneCrosses}
-use Rattle.ix_twin.specs.Tests.{crosses, falls_below, none_crosses, some_falls_below}
+use Rattle.ix_twin.specs.Tests.{crosses, none_crosses, some_falls_below}
+use Rattle.ix_model.specs.history.Lowering as low
 
 module _ {A : Type 0} (label : A → Categories) (l : Categories) where
   -- what stands at one number in two tables, and falls
@@ -26,12 +26,12 @@ module _ {A : Type 0} (label : A → Categories) (l : Categories) where
   falls_there [] ys h = absurd (true≢false (sym h))
   falls_there (x ∷ xs) [] h = absurd (true≢false (sym h))
   falls_there (Some x ∷ xs) (Some y ∷ ys) h = ⊎_elim
-      (λ k. let both = and_parts (not (leq (label x) l)) (leq (label y) l) k in
-      record { number = 0; was = x; now = y; before = refl; after = refl; high = not-true (leq (label x) l) both.0; low = both.1 })
-      (λ k. further (Some x) (Some y) xs ys (falls_there xs ys k))
-      (or_cases (falls_below l (label x) (label y)) _ h)
-  falls_there (Some x ∷ xs) (None ∷ ys) h = further (Some x) None xs ys (falls_there xs ys h)
-  falls_there (None ∷ xs) (y ∷ ys) h = further None y xs ys (falls_there xs ys h)
+      (λ k. let both = and_parts _ _ k in
+      record { number = 0; was = x; now = y; before = refl; after = refl; high = not-true _ both.0; low = both.1 })
+      (λ k. further _ _ xs ys (falls_there xs ys k))
+      (or_cases _ _ h)
+  falls_there (Some x ∷ xs) (None ∷ ys) h = further _ _ xs ys (falls_there xs ys h)
+  falls_there (None ∷ xs) (y ∷ ys) h = further _ y xs ys (falls_there xs ys h)
 
   pub there_falls : (xs ys : List (Option A)) (n : ℕ) (x y : A) → at xs n ≡ Some x → at ys n ≡ Some y → leq (label x) l ≡ false → leq (label y) l ≡ true
       → some_falls_below label l xs ys ≡ true
@@ -42,8 +42,7 @@ module _ {A : Type 0} (label : A → Categories) (l : Categories) where
       let one : a ≡ x = cc in
       let two : b ≡ y = cc in
       let was : leq (label a) l ≡ false = ap (λ z. leq (label z) l) one ∙ high in
-      let is : leq (label b) l ≡ true = ap (λ z. leq (label z) l) two ∙ below in
-      rw (was, is) refl
+      rw (was, ap (λ z. leq (label z) l) two ∙ below) refl
   there_falls (Some a ∷ xs) (None ∷ ys) zero x y before after high below = cc
   there_falls (None ∷ xs) (b ∷ ys) zero x y before after high below = cc
   there_falls (Some a ∷ xs) (Some b ∷ ys) (suc n) x y before after high below = rw (there_falls xs ys n x y before after high below) (or-true _)
@@ -57,14 +56,14 @@ module _ (l : Categories) (f g : Frame) where
     where
       to : crosses l f g ≡ true → Crosses l f g
       to h = ⊎_elim
-          (λ k. let x = falls_there (λ (o : Object). o.label) l f.objects g.objects k in low.OfObject x.number x.was x.now x.before x.after x.high x.low)
-          (λ k. let x = falls_there (λ (p : Process). p.label) l f.processes g.processes k in low.OfProcess x.number x.was x.now x.before x.after x.high x.low)
-          (or_cases (some_falls_below (λ (o : Object). o.label) l f.objects g.objects) _ h)
+          (λ k. let x = falls_there _ l f.objects g.objects k in low.OfObject x.number x.was _ x.before x.after x.high x.low)
+          (λ k. let x = falls_there _ l f.processes g.processes k in low.OfProcess x.number x.was _ x.before x.after x.high x.low)
+          (or_cases (some_falls_below (λ o. o.label) l f.objects g.objects) _ h)
 
       back : Crosses l f g → crosses l f g ≡ true
-      back (low.OfObject o x y before after high below) = rw (there_falls (λ (o : Object). o.label) l f.objects g.objects o x y before after high below) refl
+      back (low.OfObject o x y before after high below) = rw (there_falls (λ o. o.label) l f.objects g.objects o x y before after high below) refl
       back (low.OfProcess p x y before after high below) =
-          rw (there_falls (λ (p : Process). p.label) l f.processes g.processes p x y before after high below) (or-true _)
+          rw (there_falls (λ p. p.label) l f.processes g.processes p x y before after high below) (or-true _)
 
 module _ (l : Categories) where
   pub clear_decides : (w : World) (place : ℕ) (events : List Event) → Decides (none_crosses l w place events) (NoneCrosses l w place events)

@@ -1,16 +1,35 @@
--- Calls that are found to be the same are one, but for what they write and the statuses that they give.
-use Rattle.std.proofs.Common.{◌≡◌, ◌==◌, ℕ, Bool, true, false, true≢false, ◌&&◌, ◌||◌, refl, sym, ap, ◌∙◌, ⊎_elim, subst, rules}
-use Rattle.std.{proofs.{Math.Bool.{beq, or-true}, lemmas.Bool.{and_from, and_parts, eqb-true, or_cases, Decides.Decides-eqb}}, specs.Bool.Decides}
-use Rattle.ix_label.specs.{Category.{Categories, same}, Lattice.same-decides}
-use Rattle.ix_model.specs.{world.{Naming.PathOf, World.Frame}, history.Events.{Op, Event}, two_runs.TwoRuns.{AgreeAt, Same, Other, Replaced, Written, Exited}}
-use Rattle.ix_model.specs.declared.{call.{Keep.Keep, Mode.Mode}, privs.PrivSet.PrivSet}
+-- Who is low and who is high.
+use Rattle.std.proofs.{Common.{◌≡◌, ℕ, true, false, true≢false, not, Option, Some, None, refl, sym, ap, ◌∙◌, ◌==◌, Bool, ◌&&◌, ◌||◌, ⊎_elim, subst, rules}, Math.Bool.{beq, or-true}}
+use Rattle.std.{proofs.lemmas.Bool.{not-true, and_from, and_parts, eqb-true, or_cases, Decides.Decides-eqb}, specs.{Bool.Decides, Option.option_map_or}}
+use Rattle.ix_label.specs.{Category.{Categories, leq, same}, Lattice.same-decides}
+use Rattle.ix_model.specs.{declared.{call.{Keep.Keep, Mode.Mode}, privs.PrivSet.PrivSet}, history.Events.{Op, Event}, two_runs.TwoRuns.{IsHigh, IsLow, AgreeAt, Same, Other, Replaced}}
+use Rattle.ix_model.specs.{two_runs.TwoRuns.{Written, Exited}, world.{Naming.PathOf, World.{Frame, Process, at, living}}}
+use Rattle.ix_twin.specs.Sameness.{same_but_given, same_entry_but_given, same_given, same_keep, same_mode, same_on_descriptors, same_on_labels, same_on_paths, same_on_processes, same_path}
+use Rattle.ix_twin.specs.{Sameness.same_privs, Tests.{is_high, is_low, agrees}}
+use Rattle.ix_model.proofs.tables.Alike.{bytes_are, bytes_itself, names_are, names_itself}
 use Rattle.ix_model.specs.history.Events as op
 use Rattle.ix_model.specs.declared.call.Keep.TheVariants as keep
 use Rattle.ix_model.specs.declared.call.Mode.TheVariants as mode
-use Rattle.ix_model.proofs.tables.Alike.{bytes_are, bytes_itself, names_are, names_itself}
-use Rattle.ix_twin.{proofs.Low.high_decides, specs.Tests.{agrees, is_high}}
-use Rattle.ix_twin.specs.Sameness.{same_but_given, same_entry_but_given, same_given, same_keep, same_mode, same_on_descriptors, same_on_labels, same_on_paths}
-use Rattle.ix_twin.specs.Sameness.{same_on_processes, same_path, same_privs}
+
+module _ (l : Categories) (f : Frame) (pid : ℕ) where
+  low_there : (o : Option Process) → living (at f.processes pid) ≡ o → option_map_or (λ (p : Process). leq p.label l) o false ≡ true → IsLow l f pid
+  low_there (Some p) is h = record { process = p; lives = is; low = h }
+  low_there None is h = absurd (true≢false (sym h))
+
+  pub low_decides : Decides (is_low l f pid) (IsLow l f pid)
+  low_decides = (low_there _ refl, λ h. ap (λ o. option_map_or (λ p. leq p.label l) o false) h.lives ∙ h.low)
+
+  high_there : (o : Option Process) → living (at f.processes pid) ≡ o → option_map_or (λ (p : Process). not (leq p.label l)) o false ≡ true → IsHigh l f pid
+  high_there (Some p) is h = record { process = p; lives = is; high = not-true _ h }
+  high_there None is h = absurd (true≢false (sym h))
+
+  pub high_decides : Decides (is_high l f pid) (IsHigh l f pid)
+  high_decides = (
+    high_there _ refl,
+    λ h. ap (λ o. option_map_or (λ p. not (leq p.label l)) o false) h.lives ∙ ap not h.high,
+  )
+
+-- Calls that are found to be the same are one, but for what they write and the statuses that they give.
 
 -- ---- values
 pub bools_are : (a b : Bool) → beq a b ≡ true → a ≡ b
@@ -58,7 +77,7 @@ descriptors_are (op.ReadFd fd count) (op.ReadFd other more) h =
     let both = and_parts (fd == other) _ h in plain _ _ refl (λ i. op.ReadFd (eqb-true fd other both.0 i) (eqb-true count more both.1 i))
 descriptors_are (op.WriteFd fd bytes) (op.WriteFd other more) h = record {
   equal = λ given i. op.WriteFd (eqb-true fd other h i) (bytes_are bytes more given i);
-  other = λ given. subst (λ (n : ℕ). Replaced (op.WriteFd fd bytes) (op.WriteFd n more)) (eqb-true fd other h) Written;
+  other = λ given. subst (λ n. Replaced (op.WriteFd fd bytes) (op.WriteFd n more)) (eqb-true fd other h) Written;
 }
 descriptors_are (op.CutFd fd len) (op.CutFd other more) h =
     let both = and_parts (fd == other) _ h in plain _ _ refl (λ i. op.CutFd (eqb-true fd other both.0 i) (eqb-true len more both.1 i))
@@ -77,33 +96,33 @@ on_path make p q given h = plain _ _ given (ap make (paths_are p q h))
 on_path_and : {A : Type 0} (make : PathOf → A → Op) (p q : PathOf) (x y : A) (test : Bool) → same_given (make p x) (make q y) ≡ true → (test ≡ true → x ≡ y)
     → (same_path p q && test) ≡ true → AreSame (make p x) (make q y)
 on_path_and make p q x y test given means h =
-    let both = and_parts (same_path p q) test h in
+    let both = and_parts _ test h in
     plain _ _ given (λ i. make (paths_are p q both.0 i) (means both.1 i))
 
 paths_same : (a b : Op) → same_on_paths a b ≡ true → AreSame a b
 unfolding same_given
 paths_same (op.CreateAt p) (op.CreateAt q) h = on_path op.CreateAt p q refl h
-paths_same (op.OpenAt p m) (op.OpenAt q n) h = on_path_and op.OpenAt p q m n (same_mode m n) refl (modes_are m n) h
+paths_same (op.OpenAt p m) (op.OpenAt q n) h = on_path_and op.OpenAt p q m n _ refl (modes_are m n) h
 paths_same (op.MakeDir p) (op.MakeDir q) h = on_path op.MakeDir p q refl h
-paths_same (op.LinkAt t p) (op.LinkAt u q) h = on_path_and op.LinkAt t u p q (same_path p q) refl (paths_are p q) h
+paths_same (op.LinkAt t p) (op.LinkAt u q) h = on_path_and op.LinkAt t u p q _ refl (paths_are p q) h
 paths_same (op.UnlinkAt p) (op.UnlinkAt q) h = on_path op.UnlinkAt p q refl h
 paths_same (op.RemoveDir p) (op.RemoveDir q) h = on_path op.RemoveDir p q refl h
 paths_same (op.ChangeDir p) (op.ChangeDir q) h = on_path op.ChangeDir p q refl h
 paths_same (op.StatAt p) (op.StatAt q) h = on_path op.StatAt p q refl h
-paths_same (op.ListAt p n) (op.ListAt q k) h = on_path_and op.ListAt p q n k (n == k) refl (eqb-true n k) h
+paths_same (op.ListAt p n) (op.ListAt q k) h = on_path_and op.ListAt p q n k _ refl (eqb-true n k) h
 paths_same (op.Exec p) (op.Exec q) h = on_path op.Exec p q refl h
 paths_same _ _ h = absurd (true≢false (sym h))
 
 labels_same : (a b : Op) → same_on_labels a b ≡ true → AreSame a b
 unfolding same_given
 labels_same (op.LabelOf p) (op.LabelOf q) h = on_path op.LabelOf p q refl h
-labels_same (op.SetLabel p l) (op.SetLabel q m) h = on_path_and op.SetLabel p q l m (same l m) refl (label_is l m) h
+labels_same (op.SetLabel p l) (op.SetLabel q m) h = on_path_and op.SetLabel p q l m _ refl (label_is l m) h
 labels_same (op.Freeze p) (op.Freeze q) h = on_path op.Freeze p q refl h
 labels_same (op.Thaw p) (op.Thaw q) h = on_path op.Thaw p q refl h
 labels_same (op.SetPriv p caps lics) (op.SetPriv q x y) h =
-    let one = and_parts (same_path p q && same_privs caps x) (same_privs lics y) h in
+    let one = and_parts _ (same_privs lics y) h in
     let two = and_parts (same_path p q) (same_privs caps x) one.0 in
-    plain _ _ refl (λ i. op.SetPriv (paths_are p q two.0 i) (privs_are caps x two.1 i) (privs_are lics y one.1 i))
+    plain _ _ refl (λ i. op.SetPriv (paths_are p q two.0 i) (privs_are _ x two.1 i) (privs_are _ y one.1 i))
 labels_same _ _ h = absurd (true≢false (sym h))
 
 processes_same : (a b : Op) → same_on_processes a b ≡ true → AreSame a b
@@ -126,10 +145,10 @@ processes_same _ _ h = absurd (true≢false (sym h))
 pub ops_are : (a b : Op) → same_but_given a b ≡ true → AreSame a b
 unfolding same_but_given
 ops_are a b h =
-    ⊎_elim (λ k. ⊎_elim (λ m. ⊎_elim (descriptors_are a b) (paths_same a b) (or_cases (same_on_descriptors a b) (same_on_paths a b) m)) (labels_same a b)
-    (or_cases (same_on_descriptors a b || same_on_paths a b) (same_on_labels a b) k))
+    ⊎_elim (λ k. ⊎_elim (λ m. ⊎_elim (descriptors_are a b) (paths_same a b) (or_cases _ _ m)) (labels_same a b)
+    (or_cases _ _ k))
     (processes_same a b)
-    (or_cases (same_on_descriptors a b || same_on_paths a b || same_on_labels a b) (same_on_processes a b) h)
+    (or_cases _ _ h)
 
 -- ---- and the other way
 pub bool_itself : (b : Bool) → beq b b ≡ true
@@ -137,7 +156,7 @@ bool_itself true = refl
 bool_itself false = refl
 
 pub path_itself : (p : PathOf) → same_path p p ≡ true
-path_itself p = and_from (beq p.absolute p.absolute) _ (bool_itself p.absolute) (names_itself p.names)
+path_itself p = and_from (beq p.absolute p.absolute) _ (bool_itself _) (names_itself p.names)
 
 pub number_itself : (n : ℕ) → (n == n) ≡ true
 number_itself n = (Decides-eqb n n).1 refl
@@ -153,7 +172,7 @@ mode_itself mode.Both = refl
 keep_itself : (k : Keep) → same_keep k k ≡ true
 keep_itself keep.All = refl
 keep_itself keep.Nothing = refl
-keep_itself (keep.One fd) = number_itself fd.0
+keep_itself (keep.One fd) = number_itself _
 
 -- a call is one of the four
 abbrev IsFound : Op → Type 0
@@ -176,10 +195,10 @@ unfolding same_but_given
 on_fourth a h = rw h (search (rules, or-true))
 
 pub op_itself : (a : Op) → IsFound a
-op_itself (op.ReadFd fd count) = on_first _ (and_from (fd == fd) _ (number_itself fd) (number_itself count))
+op_itself (op.ReadFd fd count) = on_first _ (and_from (fd == fd) _ (number_itself fd) (number_itself _))
 op_itself (op.WriteFd fd bytes) = on_first _ (number_itself fd)
-op_itself (op.CutFd fd len) = on_first _ (and_from (fd == fd) _ (number_itself fd) (number_itself len))
-op_itself (op.SeekFd fd offset) = on_first _ (and_from (fd == fd) _ (number_itself fd) (number_itself offset))
+op_itself (op.CutFd fd len) = on_first _ (and_from (fd == fd) _ (number_itself fd) (number_itself _))
+op_itself (op.SeekFd fd offset) = on_first _ (and_from (fd == fd) _ (number_itself fd) (number_itself _))
 op_itself (op.DupFd fd) = on_first _ (number_itself fd)
 op_itself (op.CloseFd fd) = on_first _ (number_itself fd)
 op_itself op.MakePipe = on_first _ refl
@@ -200,7 +219,7 @@ op_itself (op.SetLabel p l) = on_third _ (and_from (same_path p p) _ (path_itsel
 op_itself (op.Freeze p) = on_third _ (path_itself p)
 op_itself (op.Thaw p) = on_third _ (path_itself p)
 op_itself (op.SetPriv p x y) =
-    on_third _ (and_from (same_path p p && same_privs x x) _ (and_from (same_path p p) _ (path_itself p) (number_itself x.0)) (number_itself y.0))
+    on_third _ (and_from (same_path p p && same_privs x x) _ (and_from (same_path p p) _ (path_itself p) (number_itself _)) (number_itself _))
 op_itself (op.Fork k) = on_fourth _ (keep_itself k)
 op_itself (op.Exit status) = on_fourth _ refl
 op_itself op.WaitChild = on_fourth _ refl
@@ -208,29 +227,29 @@ op_itself op.SelfLabel = on_fourth _ refl
 op_itself (op.SetSelf l) = on_fourth _ (label_itself l)
 op_itself op.FreezeSelf = on_fourth _ refl
 op_itself op.ThawSelf = on_fourth _ refl
-op_itself (op.DropLic x) = on_fourth _ (number_itself x.0)
-op_itself (op.GrantLic p x) = on_fourth _ (and_from (p == p) _ (number_itself p) (number_itself x.0))
+op_itself (op.DropLic x) = on_fourth _ (number_itself _)
+op_itself (op.GrantLic p x) = on_fourth _ (and_from (p == p) _ (number_itself p) (number_itself _))
 op_itself (op.SetCeiling p l) = on_fourth _ (and_from (p == p) _ (number_itself p) (label_itself l))
 op_itself (op.ReadLog n) = on_fourth _ (number_itself n)
 
 pub given_itself : (a : Op) → same_given a a ≡ true
 unfolding same_given
 given_itself (op.WriteFd fd bytes) = bytes_itself bytes
-given_itself (op.Exit status) = number_itself status
+given_itself (op.Exit status) = number_itself _
 given_itself _ = refl
 
 pub replaced_same : (a b : Op) → Replaced a b → same_but_given a b ≡ true
 unfolding same_but_given
-replaced_same _ _ (Written {fd = fd}) = rw (number_itself fd) refl
+replaced_same _ _ (Written {fd = fd}) = rw (number_itself) refl
 replaced_same _ _ Exited = refl
 
 -- ---- entries
 entries_are : (e d : Event) → same_entry_but_given e d ≡ true → (e.seat ≡ d.seat) × (e.line ≡ d.line) × (e.pid ≡ d.pid) × AreSame e.op d.op
 entries_are e d h =
-    let one = and_parts (e.seat == d.seat && e.line == d.line && e.pid == d.pid) (same_but_given e.op d.op) h in
-    let two = and_parts (e.seat == d.seat && e.line == d.line) (e.pid == d.pid) one.0 in
-    let three = and_parts (e.seat == d.seat) (e.line == d.line) two.0 in
-    (eqb-true e.seat d.seat three.0, eqb-true e.line d.line three.1, eqb-true e.pid d.pid two.1, ops_are e.op d.op one.1)
+    let one = and_parts _ _ h in
+    let two = and_parts _ _ one.0 in
+    let three = and_parts _ _ two.0 in
+    (eqb-true e.seat d.seat three.0, eqb-true e.line d.line three.1, eqb-true e.pid d.pid two.1, ops_are _ _ one.1)
 
 -- entries that are told to be one
 from_parts : (e d : Event) → e.seat ≡ d.seat → e.line ≡ d.line → e.pid ≡ d.pid → same_but_given e.op d.op ≡ true → same_entry_but_given e d ≡ true
@@ -241,30 +260,27 @@ module _ (l : Categories) (f : Frame) where
   agreeing : (e d : Event) → agrees l f e d ≡ true → AgreeAt l f e d
   unfolding agrees
   agreeing e d h =
-      let both = and_parts (same_entry_but_given e d) _ h in
-      let is = entries_are e d both.0 in
-      go (same_given e.op d.op) refl is both.1
+      let both = and_parts _ _ h in
+      go _ refl (entries_are e d both.0) both.1
     where
       go : (given : Bool) → same_given e.op d.op ≡ given → (e.seat ≡ d.seat) × (e.line ≡ d.line) × (e.pid ≡ d.pid) × AreSame e.op d.op → (given || is_high l f e.pid) ≡ true → AgreeAt l f e d
       go true given is h =
           let one : e ≡ d = (λ i. record { seat = is.0 i; line = is.1 i; pid = is.2 i; op = is.3.equal given i }) in
           subst (AgreeAt l f e) one Same
       go false given is h =
-          let high = (high_decides l f e.pid).0 h in
-          let one : record e { op = d.op } ≡ d = (λ i. record { seat = is.0 i; line = is.1 i; pid = is.2 i; op = d.op }) in
-          subst (AgreeAt l f e) one (Other high (is.3.other given))
+          let high = (high_decides l f _).0 h in
+          subst (AgreeAt l f e) (λ i. record { seat = is.0 i; line = is.1 i; pid = is.2 i; op = d.op }) (Other high (is.3.other given))
 
   agreed : (e d : Event) → AgreeAt l f e d → agrees l f e d ≡ true
   unfolding agrees
   agreed e _ Same =
-      let given : (same_given e.op e.op || is_high l f e.pid) ≡ true = rw (given_itself e.op) refl in
-      and_from (same_entry_but_given e e) _ (from_parts e e refl refl refl (op_itself e.op)) given
+      let given : (same_given e.op e.op || is_high l f e.pid) ≡ true = rw (given_itself) refl in
+      and_from _ _ (from_parts e e refl refl refl (op_itself _)) given
   agreed _ _ (Other {seat = seat} {line = line} {pid = pid} {a = a} {b = b} high replaced) =
       let e : Event = record { seat = seat; line = line; pid = pid; op = a } in
       let d : Event = record { seat = seat; line = line; pid = pid; op = b } in
-      let is : is_high l f pid ≡ true = (high_decides l f pid).1 high in
-      let given : (same_given a b || is_high l f pid) ≡ true = rw is (or-true (same_given a b)) in
-      and_from (same_entry_but_given e d) _ (from_parts e d refl refl refl (replaced_same a b replaced)) given
+      let given : (same_given a b || is_high l f pid) ≡ true = rw ((high_decides l f _).1 high) (or-true _) in
+      and_from _ _ (from_parts e d refl refl refl (replaced_same a b replaced)) given
 
   pub agree_decides : (e d : Event) → Decides (agrees l f e d) (AgreeAt l f e d)
   agree_decides e d = (agreeing e d, agreed e d)

@@ -1,4 +1,4 @@
-use Rattle.ix_check.{specs.Stepping.{is_from, next_phase}, proofs.AllLanes.IsLeft}
+use Rattle.ix_check.{specs.Stepping.{is_from, next_phase}, proofs.LookedAt.IsLeft}
 use Rattle.ix_check.proofs.lane.all_from.Given as goal
 
 abbrev pub invariant-loop-lane : goal.invariant-loop-lane

@@ -1,5 +1,5 @@
 use Rattle.std.proofs.Common.{is_none}
-use Rattle.ix_check.{specs.Stepping.next_call, proofs.AllLanes.IsLeft}
+use Rattle.ix_check.{specs.Stepping.next_call, proofs.LookedAt.IsLeft}
 use Rattle.ix_check.proofs.lane.all_over.Given as goal
 
 abbrev pub invariant-loop-lane : goal.invariant-loop-lane

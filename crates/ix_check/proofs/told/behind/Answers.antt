@@ -2,4 +2,4 @@ use Rattle.std.proofs.lemmas.{Slice.Eq.strip_prefix_is, Bool.Decides.Decides-eqb
 use Rattle.ix_check.proofs.told.behind.Goals as goal
 
 pub returns : goal.returns
-returns c = strip_prefix_is Decides-eqb c.args.text.now c.args.front.now c.strip_prefix.result c.strip_prefix.ensures.cases
+returns c = strip_prefix_is Decides-eqb _ _ _ c.strip_prefix.ensures.cases

@@ -6,12 +6,12 @@ use Rattle.ix_check.proofs.told.seat_named.Goals as goal
 
 pub returns-then-names_lane : goal.returns-then-names_lane
 returns-then-names_lane c =
-    lane_here c.args.text.now (lanes_of c.args.script.now) _ c.loop-seat.seat c.in-Some.name.now
+    lane_here _ _ _ _ _
     (sym c.in-Some.ensures) (sym c.names_lane.ensures ∙ c.if-names_lane.true) c.loop-seat.invariant
 
 pub loop-seat-preserved : goal.loop-seat-preserved
 loop-seat-preserved c =
-    lane_later c.args.text.now (lanes_of c.args.script.now) _ c.loop-seat.seat c.in-Some.name.now
+    lane_later _ (lanes_of c.args.script.now) _ c.loop-seat.seat _
     (sym c.in-Some.ensures) (sym c.names_lane.ensures ∙ c.if-names_lane.false) c.loop-seat.invariant
 
 pub returns : goal.returns

@@ -10,4 +10,4 @@ returns-in-Some c =
     ∙ ap (told_from 0 (mark c.args.place) (lanes_of c.args.script.now)) (sym c.in-Some.ensures)
 
 pub returns-in-None : goal.returns-in-None
-returns-in-None c = sym (told-not 0 (mark c.args.place) c.args.line.now (lanes_of c.args.script.now) c.in-None.ensures)
+returns-in-None c = sym (told-not 0 _ _ _ c.in-None.ensures)

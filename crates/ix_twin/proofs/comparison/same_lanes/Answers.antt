@@ -7,18 +7,16 @@ use Rattle.ix_twin.proofs.comparison.same_lanes.Goals as goal
 pub returns-then-not-same_name : goal.returns-then-not-same_name
 returns-then-not-same_name c =
     let i = c.loop-seat.seat in
-    let one = rest_is (lanes_of c.args.one.now) i c.in-Some-Some.name.now (sym c.in-Some-Some.ensures) in
-    let two = rest_is (lanes_of c.args.two.now) i c.in-Some-Some.other.now (sym c.in-Some-Some.ensures') in
-    sym (c.loop-seat.invariant.left ∙ (λ j. pointwise same_bytes (one j) (two j))
+    let two = rest_is _ i _ (sym c.in-Some-Some.ensures') in
+    sym (c.loop-seat.invariant.left ∙ (λ j. pointwise same_bytes ((rest_is _ i _ (sym c.in-Some-Some.ensures)) j) (two j))
     ∙ ap (λ b. b && pointwise same_bytes (drop (i + 1) (lanes_of c.args.one.now)) (drop (i + 1) (lanes_of c.args.two.now))) (sym c.same_name.ensures ∙ c.if-not-same_name.true))
 
 pub loop-seat-preserved : goal.loop-seat-preserved
 loop-seat-preserved c =
     let i = c.loop-seat.seat in
-    let one = rest_is (lanes_of c.args.one.now) i c.in-Some-Some.name.now (sym c.in-Some-Some.ensures) in
-    let two = rest_is (lanes_of c.args.two.now) i c.in-Some-Some.other.now (sym c.in-Some-Some.ensures') in
+    let two = rest_is _ i _ (sym c.in-Some-Some.ensures') in
     record {
       lengths = c.loop-seat.invariant.lengths;
-      left = c.loop-seat.invariant.left ∙ (λ j. pointwise same_bytes (one j) (two j))
+      left = c.loop-seat.invariant.left ∙ (λ j. pointwise same_bytes ((rest_is _ i _ (sym c.in-Some-Some.ensures)) j) (two j))
           ∙ ap (λ b. b && pointwise same_bytes (drop (i + 1) (lanes_of c.args.one.now)) (drop (i + 1) (lanes_of c.args.two.now))) (sym c.same_name.ensures ∙ c.if-not-same_name.false);
     }

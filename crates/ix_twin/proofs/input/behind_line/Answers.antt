@@ -6,7 +6,7 @@ use Rattle.ix_twin.proofs.input.behind_line.Goals as goal
 pub returns-in-Some : goal.returns-in-Some
 returns-in-Some c =
     let found = c.in-Some.ensures in
-    sym (line_there c.args.rest.now c.in-Some.field-0-0.now c.in-Some.behind.now found.line found.parts)
+    sym (line_there _ _ _ found.line found.parts)
 
 pub returns-in-None : goal.returns-in-None
-returns-in-None c = sym (no_line c.args.rest.now (lines_none c.args.rest.now (c.in-None.ensures.none refl)))
+returns-in-None c = sym (no_line c.args.rest.now (lines_none _ (c.in-None.ensures.none refl)))

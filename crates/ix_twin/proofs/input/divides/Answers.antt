@@ -6,7 +6,7 @@ use Rattle.ix_twin.proofs.input.divides.Goals as goal
 pub returns-in-Some : goal.returns-in-Some
 returns-in-Some c =
     let found = c.in-Some.ensures in
-    c.is_divider.ensures ∙ sym (divides-line c.in-Some.line.now c.in-Some.field-0-1.now c.args.rest.now found.line found.parts)
+    c.is_divider.ensures ∙ sym (divides-line c.in-Some.line.now c.in-Some.field-0-1.now _ found.line found.parts)
 
 pub returns-in-None : goal.returns-in-None
-returns-in-None c = c.is_divider-in-None.ensures ∙ sym (divides-alone c.args.rest.now (lines_none c.args.rest.now (c.in-None.ensures.none refl)))
+returns-in-None c = c.is_divider-in-None.ensures ∙ sym (divides-alone c.args.rest.now (lines_none _ (c.in-None.ensures.none refl)))

@@ -1,4 +1,4 @@
-use Rattle.ix_twin.proofs.Beginnings.{beginnings_are_alike}
+use Rattle.ix_twin.proofs.LinesAlike.{beginnings_are_alike}
 use Rattle.ix_twin.proofs.laws.beginnings_are_alike.Goals as goal
 
 pub returns : goal.returns

@@ -1,4 +1,4 @@
-use Rattle.ix_twin.proofs.TwinLines.{twin_lines}
+use Rattle.ix_twin.proofs.LinesAlike.{twin_lines}
 use Rattle.ix_twin.proofs.laws.twin_lines.Goals as goal
 
 pub returns : goal.returns

@@ -1,8 +1,7 @@
-use Rattle.std.proofs.{Common.{◌≡◌, ℕ, ◌+◌, List, true, false, not, length, sym, ap, ◌∙◌, subst, arith, slice_set}, lemmas.Bool.{not-true, not-false}}
+use Rattle.std.proofs.{Common.{◌≡◌, ◌+◌, not, length, sym, ap, ◌∙◌, subst, arith, slice_set}, lemmas.Bool.{not-true, not-false}}
 use Rattle.ix_model.specs.world.Naming.{same_bytes}
 use Rattle.ix_judging.specs.Walk.{Fails, line_after, makes, told_call}
-use Rattle.ix_check.specs.{Judging.Stands, declared.stage.Stage.Stage, Plans.judged_plan}
-use Rattle.ix_check.proofs.LookedAt.{called_in, its_room, its_seat, lane_at, right_line, wrong_line}
+use Rattle.ix_check.{specs.{Judging.Stands, Plans.judged_plan}, proofs.LookedAt.{called_in, its_room, its_seat, lane_at, right_line, wrong_line}}
 use Rattle.ix_check.proofs.judge.Judge.look_at_entry.Goals as goal
 
 pub print_call-requires-clause-seat : goal.print_call-requires-clause-seat
@@ -11,13 +10,8 @@ print_call-requires-clause-seat g c =
     let among = c.requires.came.1 in
     let self = c.args.self.now in
     let s = self.printer.script.now in
-    let lanes = self.lanes.items in
-    let seat = c.in-Some.seat in
-    let lane = c.index_mut-lane.result.now in
-    let call = told_call (judged_plan s) state c.args.line.now in
-    let called = called_in g.L.LaneSteps.at s self.core lanes c.as_slice-lanes.result.now call seat state c.as_slice-lanes.ensures.value (c.in-Some.ensures state) among in
-    let there = lane_at g.L.LaneSteps.at lanes call seat lane called c.index_mut-lane.ensures.value in
-    its_seat g.L.LaneSteps.at s self.core lanes state among c.args.line.now seat called lane there
+    let called = called_in _ s _ _ _ _ _ state c.as_slice-lanes.ensures.value (c.in-Some.ensures state) among in
+    its_seat _ s _ _ state among _ _ called _ (lane_at g.L.LaneSteps.at _ _ _ _ called c.index_mut-lane.ensures.value)
 
 pub print_call-requires-clause-room : goal.print_call-requires-clause-room
 print_call-requires-clause-room g c =
@@ -25,30 +19,18 @@ print_call-requires-clause-room g c =
     let among = c.requires.came.1 in
     let self = c.args.self.now in
     let s = self.printer.script.now in
-    let lanes = self.lanes.items in
-    let seat = c.in-Some.seat in
-    let lane = c.index_mut-lane.result.now in
-    let call = told_call (judged_plan s) state c.args.line.now in
-    let called = called_in g.L.LaneSteps.at s self.core lanes c.as_slice-lanes.result.now call seat state c.as_slice-lanes.ensures.value (c.in-Some.ensures state) among in
-    let there = lane_at g.L.LaneSteps.at lanes call seat lane called c.index_mut-lane.ensures.value in
-    its_room g.L.LaneSteps.at s self.core lanes state among c.args.line.now seat called lane there
+    let called = called_in _ s _ _ _ _ _ state c.as_slice-lanes.ensures.value (c.in-Some.ensures state) among in
+    its_room _ s _ _ state among _ _ called _ (lane_at g.L.LaneSteps.at _ _ _ _ called c.index_mut-lane.ensures.value)
 
 pub returns-then-ne-clause-walks : goal.returns-then-ne-clause-walks
 returns-then-ne-clause-walks g c state among =
     let self = c.args.self.now in
     let s = self.printer.script.now in
-    let lanes = self.lanes.items in
-    let seat = c.in-Some.seat in
-    let lane = c.index_mut-lane.result.now in
-    let call = told_call (judged_plan s) state c.args.line.now in
-    let called = called_in g.L.LaneSteps.at s self.core lanes c.as_slice-lanes.result.now call seat state c.as_slice-lanes.ensures.value (c.in-Some.ensures state) among in
-    let there = lane_at g.L.LaneSteps.at lanes call seat lane called c.index_mut-lane.ensures.value in
-    let printed = c.print_call.new.printer.line.items in
-    let differs : not (same_bytes printed c.args.line.now) ≡ true =
-    ap (λ (t : List ℕ). not (same_bytes t c.args.line.now)) (sym c.as_slice.ensures.value) ∙ sym c.ne.ensures ∙ c.if-ne.true in
+    let called = called_in _ s _ _ _ _ _ state c.as_slice-lanes.ensures.value (c.in-Some.ensures state) among in
+    let there = lane_at g.L.LaneSteps.at _ _ _ _ called c.index_mut-lane.ensures.value in
     let number : line_after (length self.core.events) ≡ c.from-number.result + 2 = omega (arith, c.from-number.ensures, c.len.ensures.len) in
-    wrong_line g.L.LaneSteps.at s self.core lanes state among c.args.line.now seat called lane there c.print_call.new.lane c.print_call.new.core
-    printed c.in_ok-print_call.ensures.made (not-true (same_bytes printed c.args.line.now) differs) ∙ ap (λ n. Fails n) number
+    wrong_line _ s _ _ _ among _ _ called _ there _ _
+    _ c.in_ok-print_call.ensures.made (not-true _ (ap (λ t. not (same_bytes t c.args.line.now)) (sym c.as_slice.ensures.value) ∙ sym c.ne.ensures ∙ c.if-ne.true)) ∙ ap (λ n. Fails n) number
 
 pub returns-else-ne-clause-walks : goal.returns-else-ne-clause-walks
 returns-else-ne-clause-walks g c state among =
@@ -56,14 +38,10 @@ returns-else-ne-clause-walks g c state among =
     let s = self.printer.script.now in
     let lanes = self.lanes.items in
     let seat = c.in-Some.seat in
-    let lane = c.index_mut-lane.result.now in
     let call = told_call (judged_plan s) state c.args.line.now in
-    let called = called_in g.L.LaneSteps.at s self.core lanes c.as_slice-lanes.result.now call seat state c.as_slice-lanes.ensures.value (c.in-Some.ensures state) among in
-    let there = lane_at g.L.LaneSteps.at lanes call seat lane called c.index_mut-lane.ensures.value in
-    let printed = c.print_call.new.printer.line.items in
-    let same : not (same_bytes printed c.args.line.now) ≡ false =
-    ap (λ (t : List ℕ). not (same_bytes t c.args.line.now)) (sym c.as_slice.ensures.value) ∙ sym c.ne.ensures ∙ c.if-ne.false in
-    let stands = right_line g.L.LaneSteps.at s self.core lanes state among c.args.line.now seat called lane there c.print_call.new.lane c.print_call.new.core
-    printed c.in_ok-print_call.ensures.made (not-false (same_bytes printed c.args.line.now) same) in
-    let walk = makes (judged_plan s) (length self.core.events) state c.args.line.now call in
-    subst (λ (x : Stage). Stands g.L.LaneSteps.at s c.print_call.new.core (slice_set lanes seat c.print_call.new.lane) x walk) (sym c.requires.stage) stands
+    let called = called_in _ s _ _ _ _ _ state c.as_slice-lanes.ensures.value (c.in-Some.ensures state) among in
+    let there = lane_at g.L.LaneSteps.at _ _ _ _ called c.index_mut-lane.ensures.value in
+    let stands = right_line _ s _ _ _ among _ _ called _ there _ _
+    _ c.in_ok-print_call.ensures.made (not-false _ (ap (λ t. not (same_bytes t c.args.line.now)) (sym c.as_slice.ensures.value) ∙ sym c.ne.ensures ∙ c.if-ne.false)) in
+    subst (λ x. Stands g.L.LaneSteps.at s c.print_call.new.core (slice_set lanes seat c.print_call.new.lane) x
+    (makes (judged_plan s) (length self.core.events) state c.args.line.now call)) (sym c.requires.stage) stands

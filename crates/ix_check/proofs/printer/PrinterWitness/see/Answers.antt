@@ -7,7 +7,7 @@ returns-else-is_err c = record {
   knows = λ first before is known. (
     known.0,
     known.1,
-    λ going. printed_last c.args.self.now.script.now c.args.self.now.count before c.args.core.now _ c.clear.new.self.items c.push_entry-printed.new.out.items is.history
-        c.clear.ensures.items (of_ok _ c.push_entry-printed.result (sym c.is_err.ensures.value ∙ c.if-is_err.false) (c.push_entry-printed.ensures before is)),
+    λ going. printed_last c.args.self.now.script.now _ _ _ _ _ _ is.history
+        c.clear.ensures.items (of_ok _ _ (sym c.is_err.ensures.value ∙ c.if-is_err.false) (c.push_entry-printed.ensures before is)),
   );
 }

@@ -1,5 +1,5 @@
 use Rattle.std.proofs.Common.{◌≡◌, ◌≤◌, ◌<◌, ◌∙◌, ℕ, ap, max, subst}
-use Rattle.ix_flow.{specs.Sides.source_in, proofs.{Likeness.{appended_like, none_appended}, Sourced.appended_sources}}
+use Rattle.ix_flow.{specs.Sides.source_in, proofs.Likeness.{appended_like, none_appended, appended_sources}}
 use Rattle.ix_flow.specs.declared.source.Source.TheVariants as source
 use Rattle.ix_flow.proofs.side.Side.append.Goals as goal
 

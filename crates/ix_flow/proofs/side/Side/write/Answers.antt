@@ -1,5 +1,5 @@
 use Rattle.std.proofs.Common.{◌≡◌, ◌≤◌, ◌<◌, ◌∙◌, ℕ, ap, max, subst}
-use Rattle.ix_flow.{specs.Sides.source_in, proofs.{Likeness.{none_written, some, written_like}, Sourced.written_sources}}
+use Rattle.ix_flow.{specs.Sides.source_in, proofs.Likeness.{none_written, some, written_like, written_sources}}
 use Rattle.ix_flow.specs.declared.source.Source.TheVariants as source
 use Rattle.ix_flow.proofs.side.Side.write.Goals as goal
 

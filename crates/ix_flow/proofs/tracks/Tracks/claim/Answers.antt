@@ -1,7 +1,7 @@
 use Rattle.std.proofs.Common.{◌∙◌, refl, ap, sym}
 use Rattle.ix_model.specs.history.{History.world_of, Made.entry, Views.size_at}
 use Rattle.ix_model.specs.history.Events as op
-use Rattle.ix_flow.proofs.{Arms.{few_then, led, told_then}, Claims.{claim_empty, claim_left, claim_none}}
+use Rattle.ix_flow.proofs.{Writes.{few_then, led, told_then}, Claims.{claim_empty, claim_left, claim_none}}
 use Rattle.ix_flow.proofs.tracks.Tracks.claim.Goals as goal
 
 pub returns-in_default : goal.returns-in_default

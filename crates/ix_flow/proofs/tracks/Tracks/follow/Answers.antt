@@ -1,6 +1,6 @@
 use Rattle.std.proofs.Common.{sym, subst, arith}
 use Rattle.ix_model.specs.history.{Calls.op_of, Made.entry}
-use Rattle.ix_flow.{specs.Following.FollowsInto, proofs.Others.{follows_into, quiet_call, quiet_follows}}
+use Rattle.ix_flow.{specs.Following.FollowsInto, proofs.Writes.{follows_into, quiet_call, quiet_follows}}
 use Rattle.ix_flow.proofs.tracks.Tracks.follow.Goals as goal
 
 pub returns-in-Pex-clause-follows : goal.returns-in-Pex-clause-follows

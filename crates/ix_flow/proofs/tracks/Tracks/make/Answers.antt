@@ -2,7 +2,7 @@ use Rattle.std.proofs.Common.{◌∙◌, ℕ, refl, sym, ap}
 use Rattle.ix_model.specs.history.Events as op
 use Rattle.ix_model.specs.{history.{Events.Op, Made.entry}, declared.ids.Pid.Pid}
 use Rattle.ix_model.specs.declared.reply.Reply.TheVariants as reply
-use Rattle.ix_flow.{specs.{Following.Follows, declared.tracks.Tracks.Tracks}, proofs.{Arms.{few_then, led}, Making.{MakesOne, File, Dir, not_told, told_one}}}
+use Rattle.ix_flow.{specs.{Following.Follows, declared.tracks.Tracks.Tracks}, proofs.{Writes.{few_then, led}, Making.{MakesOne, File, Dir, not_told, told_one}}}
 use Rattle.ix_flow.proofs.tracks.Tracks.make.Goals as goal
 
 pub returns-in_default : goal.returns-in_default

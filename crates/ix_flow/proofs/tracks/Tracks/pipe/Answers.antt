@@ -1,7 +1,7 @@
 use Rattle.std.proofs.Common.{◌∙◌, refl, sym}
 use Rattle.ix_model.specs.history.Made.{entry}
 use Rattle.ix_model.specs.history.Events as op
-use Rattle.ix_flow.proofs.{Arms.{few_then, led, told_then}, Making.{no_pipe, pipe_made, pipe_opened}}
+use Rattle.ix_flow.proofs.{Writes.{few_then, led, told_then}, Making.{no_pipe, pipe_made, pipe_opened}}
 use Rattle.ix_flow.proofs.tracks.Tracks.pipe.Goals as goal
 
 pub returns-in_default : goal.returns-in_default

@@ -1,8 +1,7 @@
-use Rattle.std.proofs.Common.{◌≡◌, ◌≤◌, ◌-◌, ◌∙◌, ℕ, Bool, true, false, Option, Some, None, Bor, option_map, drop, if◌then◌else◌, refl, sym, ap, subst}
-use Rattle.ix_model.specs.{world.Contents.on_side, history.Made.entry}
+use Rattle.std.proofs.Common.{◌≡◌, ◌≤◌, ◌∙◌, ℕ, Bool, true, false, Option, Some, None, option_map, drop, if◌then◌else◌, refl, sym, ap, subst}
+use Rattle.ix_model.specs.world.Contents.{on_side}
+use Rattle.ix_flow.{specs.{Marks.marks_of, Tracking.{AreSides, HasEnd}}, proofs.{ReadTracks.{followed, has_side, idle, is_opened}, tracks.Tracks.read.Goals.{then-piped, else-piped}}}
 use Rattle.ix_model.specs.declared.reply.Reply.TheVariants as reply
-use Rattle.ix_flow.specs.{Marks.marks_of, Tracking.{AreSides, HasEnd}, declared.{side.Side.Side, sides.Sides.Sides, tracks.Tracks.Tracks}}
-use Rattle.ix_flow.proofs.{ReadFollowed.{followed, has_side, idle, is_opened}, tracks.Tracks.read.Goals.{then-piped, else-piped}}
 use Rattle.ix_flow.proofs.tracks.Tracks.read.Goals as goal
 
 none_given : (count k : ℕ) → count ≡ 0 → reply.Bytes count ≡ reply.Bytes k → k ≡ 0
@@ -45,39 +44,39 @@ returns-in_default-get-clause-follows c = λ seat line limit before step are.
 
 pub returns-in_ok-drain-clause-follows : goal.returns-in_ok-drain-clause-follows
 returns-in_ok-drain-clause-follows c = λ seat line limit before step are.
-    let same : c.count.new.self.sides ≡ c.args.self.now.sides = ap (λ (t : Tracks). t.sides) c.in_ok-count.ensures in
-    followed c.args.core.now before (entry seat line c.args.pid _) c.args.fd.0 limit c.args.reply.now step refl c.args.self.now are (subst (λ (n : ℕ). n ≤ 6800000) c.requires.place c.requires.few)
-    c.in-Bytes.count c.in-Bytes.is c.if-count-eq0.false _ c.in-Some.view (λ b. refl) (λ b. refl) (λ b. refl) (sym c.opened.ensures ∙ c.in-Some.is)
-    c.in-Some-get.side.now (sym c.get.ensures ∙ ap (option_map (λ (s : Bor Side). s.now)) c.in-Some-get.is) c.is_pipe-piped.result c.is_pipe-piped.ensures c.if-piped.from
+    let same = ap (λ t. t.sides) c.in_ok-count.ensures in
+    followed _ _ _ _ _ _ step refl _ are (subst (λ (n : ℕ). n ≤ 6800000) c.requires.place c.requires.few)
+    _ c.in-Bytes.is c.if-count-eq0.false _ _ (λ b. refl) (λ b. refl) (λ b. refl) (sym c.opened.ensures ∙ c.in-Some.is)
+    _ (sym c.get.ensures ∙ ap (option_map (λ s. s.now)) c.in-Some-get.is) _ c.is_pipe-piped.ensures _
     (elim c.if-piped.branch [
-      | then-piped w ↦ begins c.is_pipe-piped.result c.if-piped.from c.in-Some-get.side.now.front w.front-from.result (c.in-Some.view.at - c.in-Bytes.count) w.from-is
+      | then-piped w ↦ begins _ _ _ _ _ w.from-is
           (w.if-piped.true, w.front-from.ensures)
-      | else-piped w ↦ begins_there c.is_pipe-piped.result c.if-piped.from c.in-Some-get.side.now.front w.saturating_sub-from.result (c.in-Some.view.at - c.in-Bytes.count) w.from-is
+      | else-piped w ↦ begins_there _ _ _ _ _ w.from-is
           (w.if-piped.false, w.saturating_sub-from.ensures)
     ])
-    c.count.new.self c.drain.new.self c.args.place c.in_ok-lines.lines c.args.out.now.items c.tell.new.out.items c.requires.place
+    _ _ _ _ _ _ c.requires.place
     c.in_ok-lines.ensures.text c.in_ok-lines.ensures.lines c.in_ok-count.ensures
     (λ labels past stand there.
     let marks = marks_of past in
-    subst (λ (b : Bool). AreSides c.drain.new.self labels past (if b then on_side c.in-Some.view.obj.0 c.in-Some.view.end (drop c.in-Bytes.count) marks else marks)) (sym c.if-piped-2.true)
-    (c.in_ok-drain.ensures labels past marks (subst (λ (s : Sides). AreSides s labels past marks) (sym same) stand)
-    (subst (λ (b : Bool). HasEnd past marks c.in-Some.view.obj.0 c.in-Some.view.end b) c.if-piped-2.true there)))
+    subst (λ b. AreSides c.drain.new.self labels past (if b then on_side c.in-Some.view.obj.0 c.in-Some.view.end (drop c.in-Bytes.count) marks else marks)) (sym c.if-piped-2.true)
+    (c.in_ok-drain.ensures labels past marks (subst (λ s. AreSides s labels past marks) (sym same) stand)
+    (subst (λ b. HasEnd past marks c.in-Some.view.obj.0 c.in-Some.view.end b) c.if-piped-2.true there)))
 
 pub returns-else-piped-2-clause-follows : goal.returns-else-piped-2-clause-follows
 returns-else-piped-2-clause-follows c = λ seat line limit before step are.
-    let same : c.count.new.self.sides ≡ c.args.self.now.sides = ap (λ (t : Tracks). t.sides) c.in_ok-count.ensures in
-    followed c.args.core.now before (entry seat line c.args.pid _) c.args.fd.0 limit c.args.reply.now step refl c.args.self.now are (subst (λ (n : ℕ). n ≤ 6800000) c.requires.place c.requires.few)
-    c.in-Bytes.count c.in-Bytes.is c.if-count-eq0.false _ c.in-Some.view (λ b. refl) (λ b. refl) (λ b. refl) (sym c.opened.ensures ∙ c.in-Some.is)
-    c.in-Some-get.side.now (sym c.get.ensures ∙ ap (option_map (λ (s : Bor Side). s.now)) c.in-Some-get.is) c.is_pipe-piped.result c.is_pipe-piped.ensures c.if-piped.from
+    let same = ap (λ t. t.sides) c.in_ok-count.ensures in
+    followed _ _ _ _ _ _ step refl _ are (subst (λ (n : ℕ). n ≤ 6800000) c.requires.place c.requires.few)
+    _ c.in-Bytes.is c.if-count-eq0.false _ _ (λ b. refl) (λ b. refl) (λ b. refl) (sym c.opened.ensures ∙ c.in-Some.is)
+    _ (sym c.get.ensures ∙ ap (option_map (λ s. s.now)) c.in-Some-get.is) _ c.is_pipe-piped.ensures _
     (elim c.if-piped.branch [
-      | then-piped w ↦ begins c.is_pipe-piped.result c.if-piped.from c.in-Some-get.side.now.front w.front-from.result (c.in-Some.view.at - c.in-Bytes.count) w.from-is
+      | then-piped w ↦ begins _ _ _ _ _ w.from-is
           (w.if-piped.true, w.front-from.ensures)
-      | else-piped w ↦ begins_there c.is_pipe-piped.result c.if-piped.from c.in-Some-get.side.now.front w.saturating_sub-from.result (c.in-Some.view.at - c.in-Bytes.count) w.from-is
+      | else-piped w ↦ begins_there _ _ _ _ _ w.from-is
           (w.if-piped.false, w.saturating_sub-from.ensures)
     ])
-    c.count.new.self c.count.new.self.sides c.args.place c.in_ok-lines.lines c.args.out.now.items c.tell.new.out.items c.requires.place
+    _ _ _ _ _ _ c.requires.place
     c.in_ok-lines.ensures.text c.in_ok-lines.ensures.lines c.in_ok-count.ensures
     (λ labels past stand there.
     let marks = marks_of past in
-    subst (λ (b : Bool). AreSides c.count.new.self.sides labels past (if b then on_side c.in-Some.view.obj.0 c.in-Some.view.end (drop c.in-Bytes.count) marks else marks)) (sym c.if-piped-2.false)
-    (subst (λ (s : Sides). AreSides s labels past marks) (sym same) stand))
+    subst (λ b. AreSides c.count.new.self.sides labels past (if b then on_side c.in-Some.view.obj.0 c.in-Some.view.end (drop c.in-Bytes.count) marks else marks)) (sym c.if-piped-2.false)
+    (subst (λ s. AreSides s labels past marks) (sym same) stand))

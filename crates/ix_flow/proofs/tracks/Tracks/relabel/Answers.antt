@@ -1,7 +1,7 @@
 use Rattle.std.{proofs.{Common.{◌≡◌, ◌==◌, ◌&&◌, ◌||◌, ◌∙◌, ℕ, length, sym, ap, arith}, lemmas.List.length-append}, specs.Prelude.slice_get}
 use Rattle.ix_model.specs.history.Events as op
 use Rattle.ix_model.specs.history.{Events.Event, History.{History, world_of, with_entry}, Made.entry}
-use Rattle.ix_flow.{specs.Tracking.is_noted, proofs.{Arms.{few_then, led}, Relabels.{no_line, none_logged, one_told, other_line}}}
+use Rattle.ix_flow.{specs.Tracking.is_noted, proofs.{Writes.{few_then, led}, Relabels.{no_line, none_logged, one_told, other_line}}}
 use Rattle.ix_flow.proofs.tracks.Tracks.relabel.Goals.{else-line-place-via-then-line-place+else-is_lowering, else-line-place-via-else-line-place}
 use Rattle.ix_flow.proofs.tracks.Tracks.relabel.Goals as goal
 
