@@ -1,25 +1,23 @@
 -- What a call makes of the marks.
 use Rattle.std.proofs.Common.{◌≡◌, ◌==◌, ◌&&◌, ◌||◌, ◌≤◌, ◌<◌, ℕ, Bool, true, false, not, true≢false, List, length, count_by, Option, Some, None, is_some, refl}
-use Rattle.std.proofs.Common.{option_map, if◌then◌else◌, sym, ap, ◌∙◌, subst, arith, inl, inr}
-use Rattle.std.{specs.Option.option_map_or, proofs.lemmas.Bool.{and_parts, or_cases, not-true, eqb-true}}
+use Rattle.std.{proofs.{Common.{option_map, if◌then◌else◌, sym, ap, ◌∙◌, subst, arith, inl, inr}, lemmas.Bool.{and_parts, or_cases, not-true, eqb-true}}, specs.Option.option_map_or}
 use Rattle.ix_label.specs.{Category.{Categories, bottom, same}, Lattice.same-decides}
 use Rattle.ix_float.specs.declared.mark.Way.{Way}
-use Rattle.ix_float.specs.declared.mark.Way.TheVariants as way
-use Rattle.ix_model.specs.{world.World.{World, Frame, Object, Process, Open, at, living, lives}, rows.Walks.{OpenFile, behind}, laws.Sound.Sound}
-use Rattle.ix_model.specs.history.{AuditLog.{label_at, of_process}, Events.{Op, Event}, Freshness.{refreshes, closes}, Step.step}
-use Rattle.ix_model.specs.declared.{ids.Fd.Fd, reply.Reply.Reply}
-use Rattle.ix_model.specs.history.Events as op
-use Rattle.ix_model.specs.declared.reply.Reply.TheVariants as reply
+use Rattle.ix_model.specs.{world.World.{World, Frame, Object, Process, Open, at, living, lives}, rows.Walks.{OpenFile, behind}, laws.Sound.Sound, declared.{ids.Fd.Fd, reply.Reply.Reply}}
+use Rattle.ix_model.specs.history.{AuditLog.{label_at, of_process}, Events.Op, Freshness.{refreshes, closes}, Step.step}
 use Rattle.ix_model.proofs.{frames.Claimants.is_behind, tables.Finds.in_table, words.{Fixed.fixed_step, Living.{is_living, not_ended}}}
 use Rattle.ix_fresh.specs.{Laws.{Spot, KnownChangesNothing, spot_behind}, Touched.{target, entry_target, label_of_entry, is_one, touches}}
 use Rattle.ix_fresh.proofs.{Freshly.{read_facts, write_facts}, Remaining.turned}
-use Rattle.ix_fresh.specs.Laws as laws
 use Rattle.ix_fcalls.specs.Tested.{IsKnown}
 use Rattle.ix_marks.specs.Known.{Known, spot_of, has_row}
-use Rattle.ix_marks.specs.declared.row.Spot as marked
 use Rattle.ix_core.specs.Marking.{way_of, spot_in, sizes_of, AreReady, AreKnown, AreTold, CanRefresh, call_by, mark_through, spot_through, other_process}
 use Rattle.ix_core.specs.Marking.{other_object, other_entry, unless_object, unless_entry, unless_closed, has_exited, refreshed, or_refreshed}
 use Rattle.ix_core.proofs.{Living.lives_on, Unmoved.{known_still, self_still}}
+use Rattle.ix_float.specs.declared.mark.Way.TheVariants as way
+use Rattle.ix_model.specs.history.Events as op
+use Rattle.ix_model.specs.declared.reply.Reply.TheVariants as reply
+use Rattle.ix_fresh.specs.Laws as laws
+use Rattle.ix_marks.specs.declared.row.Spot as marked
 
 abbrev Mark : Type 0
 Mark = Option marked.Spot
@@ -42,17 +40,17 @@ object_told : (o : Option ℕ) (moved : Bool) (s : Mark) → seen (unless_object
 object_told None moved None = refl
 object_told None moved (Some x) = refl
 object_told (Some o) false None = refl
-object_told (Some o) false (Some x) = still_kept (o == x.object) (spot_in x)
+object_told (Some o) false (Some x) = still_kept _ _
 object_told (Some o) true None = refl
-object_told (Some o) true (Some x) = kept_if (x.object == o) (o == x.object) x (turned x.object o)
+object_told (Some o) true (Some x) = kept_if _ _ x (turned _ o)
 
 entry_told : (e : Option ℕ) (moved : Bool) (s : Mark) → seen (unless_entry e moved s) ≡ laws.unless (λ x. is_one e (Some x.entry) && moved) (seen s)
 entry_told None moved None = refl
 entry_told None moved (Some x) = refl
 entry_told (Some e) false None = refl
-entry_told (Some e) false (Some x) = still_kept (e == x.entry) (spot_in x)
+entry_told (Some e) false (Some x) = still_kept _ _
 entry_told (Some e) true None = refl
-entry_told (Some e) true (Some x) = kept_if (x.entry == e) (e == x.entry) x (turned x.entry e)
+entry_told (Some e) true (Some x) = kept_if _ _ x (turned _ e)
 
 one_of_two : (test : Spot → Bool) (b : Bool) (x : Spot) → laws.unless test (if b then None else Some x) ≡ (if b || test x then None else Some x)
 one_of_two test true x = refl
@@ -63,11 +61,11 @@ three : (a : Bool) (p q : Spot → Bool) (s : Mark) → laws.unless q (laws.unle
 three true p q None = refl
 three true p q (Some x) = refl
 three false p q None = refl
-three false p q (Some x) = one_of_two q (p (spot_in x)) (spot_in x)
+three false p q (Some x) = one_of_two q _ _
 
 -- ---- what is closed
 closed_told : (pid : ℕ) (o : Op) (r : Reply) (q d : ℕ) (s : Mark) → seen (unless_closed pid o r q d s) ≡ (if pid == q && closes d o r then None else seen s)
-closed_told pid (op.CloseFd fd) reply.Done q d s = go (q == pid) (pid == q) (turned q pid) (d == fd) (fd == d) (turned d fd)
+closed_told pid (op.CloseFd fd) reply.Done q d s = go (q == pid) (pid == q) (turned q _) (d == fd) (fd == d) (turned d fd)
   where
     go : (a b : Bool) → a ≡ b → (x y : Bool) → x ≡ y → seen (if a && x then None else s) ≡ (if b && y then None else seen s)
     go true true same true true one = refl
@@ -77,24 +75,24 @@ closed_told pid (op.CloseFd fd) reply.Done q d s = go (q == pid) (pid == q) (tur
     go false true same x y one = cc
     go true true same true false one = cc
     go true true same false true one = cc
-closed_told pid (op.Exit status) reply.Done q d s = go (q == pid) (pid == q) (turned q pid)
+closed_told pid (op.Exit status) reply.Done q d s = go _ _ (turned q _)
   where
     go : (a b : Bool) → a ≡ b → seen (if a then None else s) ≡ (if b && true then None else seen s)
     go true true same = refl
     go false false same = refl
     go true false same = cc
     go false true same = cc
-closed_told pid (op.CloseFd fd) _ q d s = stays (pid == q)
+closed_told pid (op.CloseFd fd) _ q d s = stays _
   where
     stays : (b : Bool) → seen s ≡ (if b && false then None else seen s)
     stays true = refl
     stays false = refl
-closed_told pid (op.Exit status) _ q d s = stays (pid == q)
+closed_told pid (op.Exit status) _ q d s = stays _
   where
     stays : (b : Bool) → seen s ≡ (if b && false then None else seen s)
     stays true = refl
     stays false = refl
-closed_told pid _ r q d s = stays (pid == q)
+closed_told pid _ r q d s = stays _
   where
     stays : (b : Bool) → seen s ≡ (if b && false then None else seen s)
     stays true = refl
@@ -104,7 +102,7 @@ closed_told pid _ r q d s = stays (pid == q)
 -- the mark of that descriptor gets the spot, and any other stays
 set_told : (f : Frame) (pid fd q d : ℕ) (spot s : Mark) → seen spot ≡ spot_behind f pid fd → seen (if q == pid && (d == fd && true) then spot else
     s) ≡ (if pid == q && fd == d then spot_behind f q d else seen s)
-set_told f pid fd q d spot s is = go (q == pid) (pid == q) (turned q pid) (eqb-true pid q) (d == fd) (fd == d) (turned d fd) (eqb-true fd d)
+set_told f pid fd q d spot s is = go _ _ (turned q _) (eqb-true pid q) _ _ (turned d fd) (eqb-true fd d)
   where
     go : (a b : Bool) → a ≡ b → (b ≡ true → pid ≡ q) → (x y : Bool) → x ≡ y → (y ≡ true → fd ≡ d) → seen (if a && (x && true) then spot else s) ≡ (if b && y then spot_behind f q d else seen s)
     go true true same one true true there other = is ∙ (λ i. spot_behind f (one refl i) (other refl i))
@@ -129,23 +127,21 @@ none_set f false q d s = refl
 
 refreshed_told : (f : Frame) (pid : ℕ) (o : Op) (r : Reply) (spot : Mark) (q d : ℕ) (v : Way) (s : Mark) → seen spot ≡ spot_through f pid o
     → seen (or_refreshed pid (refreshed o r) spot q d v s) ≡ (if pid == q && refreshes (way_of v) d o r then spot_behind f q d else seen s)
-refreshed_told f pid (op.ReadFd fd count) (reply.Bytes k) spot q d way.Reading s is = set_told f pid fd q d spot s is
-refreshed_told f pid (op.ReadFd fd count) (reply.Bytes k) spot q d way.Writing s is = not_set f (q == pid) (d == fd) (pid == q) q d spot s
-refreshed_told f pid (op.ReadFd fd count) _ spot q d way.Reading s is = none_set f (pid == q) q d s
-refreshed_told f pid (op.ReadFd fd count) _ spot q d way.Writing s is = none_set f (pid == q) q d s
-refreshed_told f pid (op.WriteFd fd bytes) (reply.Number k) spot q d way.Writing s is = set_told f pid fd q d spot s is
-refreshed_told f pid (op.WriteFd fd bytes) (reply.Number k) spot q d way.Reading s is = not_set f (q == pid) (d == fd) (pid == q) q d spot s
-refreshed_told f pid (op.WriteFd fd bytes) _ spot q d way.Reading s is = none_set f (pid == q) q d s
-refreshed_told f pid (op.WriteFd fd bytes) _ spot q d way.Writing s is = none_set f (pid == q) q d s
-refreshed_told f pid _ r spot q d way.Reading s is = none_set f (pid == q) q d s
-refreshed_told f pid _ r spot q d way.Writing s is = none_set f (pid == q) q d s
+refreshed_told f pid (op.ReadFd fd count) (reply.Bytes k) spot q d way.Reading s is = set_told f _ fd q d _ s is
+refreshed_told f pid (op.ReadFd fd count) (reply.Bytes k) spot q d way.Writing s is = not_set f _ _ _ q d _ s
+refreshed_told f pid (op.ReadFd fd count) _ spot q d way.Reading s is = none_set f _ q d s
+refreshed_told f pid (op.ReadFd fd count) _ spot q d way.Writing s is = none_set f _ q d s
+refreshed_told f pid (op.WriteFd fd bytes) (reply.Number k) spot q d way.Writing s is = set_told f _ fd q d _ s is
+refreshed_told f pid (op.WriteFd fd bytes) (reply.Number k) spot q d way.Reading s is = not_set f _ _ _ q d _ s
+refreshed_told f pid (op.WriteFd fd bytes) _ spot q d way.Reading s is = none_set f _ q d s
+refreshed_told f pid (op.WriteFd fd bytes) _ spot q d way.Writing s is = none_set f _ q d s
+refreshed_told f pid _ r spot q d way.Reading s is = none_set f _ q d s
+refreshed_told f pid _ r spot q d way.Writing s is = none_set f _ q d s
 
 -- ---- all together
 -- what a call leaves of a spot, by its reply and the frame after it
 abbrev pub left : Frame → Frame → ℕ → Op → Reply → ℕ → ℕ → Way → Option Spot → Option Spot
-left f g pid o r q d v was =
-    if pid == q && refreshes (way_of v) d o r then spot_behind f q d
-    else if pid == q && closes d o r then None
+left f g pid o r q d v was = if pid == q && refreshes (way_of v) d o r then spot_behind f q d else if pid == q && closes d o r then None
     else laws.unless (λ s. touches f (call_by pid o) g q (Some s.object) (Some s.entry)) was
 
 -- the marks after each step of telling
@@ -164,17 +160,15 @@ pub told_spot : (f g : Frame) (pid : ℕ) (o : Op) (r : Reply) (spot : Mark) (q 
     → Steps f g pid o r (of_process (λ p. p.label) bottom f pid) (label_at f (target f pid o)) (label_of_entry f (entry_target f pid o)) spot q d v was is
     → seen is ≡ left f g pid o r q d v (seen was)
 told_spot f g pid o r spot q d v was is through t =
-    let moved : Bool = other_process (of_process (λ p. p.label) bottom f pid) g pid in
-    let on_one : Spot → Bool = λ x. is_one (target f pid o) (Some x.object) && other_object (label_at f (target f pid o)) g (target f pid o) in
+    let moved = other_process (of_process (λ p. p.label) bottom f pid) g pid in
+    let on_one : Spot → Bool = λ x. is_one (target f _ o) (Some x.object) && other_object (label_at f (target f pid o)) g (target f pid o) in
     let on_other : Spot → Bool = λ x. is_one (entry_target f pid o) (Some x.entry) && other_entry (label_of_entry f (entry_target f pid o)) g (entry_target f pid o) in
-    let kept : seen t.third ≡ laws.unless (λ x. pid == q && moved || on_one x || on_other x) (seen was) =
-    ap seen t.by_entry ∙ entry_told _ _ t.second
-    ∙ ap (laws.unless on_other) (ap seen t.by_object ∙ object_told _ _ t.first)
-    ∙ ap (λ m. laws.unless on_other (laws.unless on_one (seen m))) (t.by_process ∙ ap (λ b. if b && moved then None else was) (turned q pid))
+    let kept =
+    ap seen t.by_entry ∙ entry_told _ _ t.second ∙ ap (laws.unless on_other) (ap seen t.by_object ∙ object_told _ _ t.first)
+    ∙ ap (λ m. laws.unless on_other (laws.unless on_one (seen m))) (t.by_process ∙ ap (λ b. if b && moved then None else was) (turned q _))
     ∙ three (pid == q && moved) on_one on_other was in
-    ap seen t.by_refresh ∙ refreshed_told f pid o r spot q d v t.fourth through
-    ∙ ap (λ m. if pid == q && refreshes (way_of v) d o r then spot_behind f q d else m)
-    (ap seen t.by_close ∙ closed_told pid o r q d t.third ∙ ap (λ m. if pid == q && closes d o r then None else m) kept)
+    ap seen t.by_refresh ∙ refreshed_told f _ o r _ q d v _ through ∙ ap (λ m. if pid == q && refreshes (way_of v) d o r then spot_behind f q d else m)
+    (ap seen t.by_close ∙ closed_told _ o r q d _ ∙ ap (λ m. if pid == q && closes d o r then None else m) kept)
 
 -- ---- the descriptor that is refreshed
 abbrev Stood : World → ℕ → ℕ → Type 0
@@ -186,13 +180,13 @@ one_some a b is = cc
 refreshed_stood : (w : World) (place pid : ℕ) (o : Op) (r : Reply) (x : Fd × Way) → (step w place pid o).reply ≡ r → refreshed o r ≡ Some x
     → Stood w pid x.0.0 × (spot_through w.frame pid o ≡ spot_behind w.frame pid x.0.0)
 refreshed_stood w place pid (op.ReadFd fd count) (reply.Bytes k) x said is =
-    let facts = read_facts w place pid fd count k said in
-    let one : fd ≡ x.0.0 = ap (λ (z : Fd × Way). z.0.0) (one_some _ x is) in
-    subst (λ (n : ℕ). Stood w pid n × (spot_behind w.frame pid fd ≡ spot_behind w.frame pid n)) one ((facts.through, facts.is_behind), refl)
+    let facts = read_facts w _ _ fd _ k said in
+    let one = ap (λ z. z.0.0) (one_some _ x is) in
+    subst (λ n. Stood w pid n × (spot_behind w.frame pid fd ≡ spot_behind w.frame pid n)) one ((facts.through, facts.is_behind), refl)
 refreshed_stood w place pid (op.WriteFd fd bytes) (reply.Number k) x said is =
-    let facts = write_facts w place pid fd bytes k said in
-    let one : fd ≡ x.0.0 = ap (λ (z : Fd × Way). z.0.0) (one_some _ x is) in
-    subst (λ (n : ℕ). Stood w pid n × (spot_behind w.frame pid fd ≡ spot_behind w.frame pid n)) one ((facts.through, facts.is_behind), refl)
+    let facts = write_facts w _ _ fd _ k said in
+    let one = ap (λ z. z.0.0) (one_some _ x is) in
+    subst (λ n. Stood w pid n × (spot_behind w.frame pid fd ≡ spot_behind w.frame pid n)) one ((facts.through, facts.is_behind), refl)
 refreshed_stood w place pid (op.ReadFd fd count) _ x said is = cc
 refreshed_stood w place pid (op.WriteFd fd bytes) _ x said is = cc
 refreshed_stood w place pid _ r x said is = cc
@@ -211,25 +205,20 @@ seen_some (Some y) x is = refl
 -- there is a row for it, where a table as large as the limit has one for each process that has one
 abbrev HasRoom : Known → ℕ → Type 0
 HasRoom m pid =
-    (processes : List (Option Process))
-    → count_by is_some processes ≤ m.sizes.rows
-    → ((q : ℕ) → has_row m q ≡ true → is_some (at processes q) ≡ true)
-    → is_some (at processes pid) ≡ true
-    → has_row m pid ≡ false
-    → 0 < m.owners.free
+    (processes : List (Option Process)) → count_by is_some processes ≤ m.sizes.rows → ((q : ℕ) → has_row m q ≡ true → is_some (at processes q) ≡ true)
+    → is_some (at processes pid) ≡ true → has_row m pid ≡ false → 0 < m.owners.free
 
 pub can_refresh : (w : World) (place pid : ℕ) (o : Op) (m : Known) (spot : Mark) → Sound w → AreReady m w.frame → HasRoom m pid
     → seen spot ≡ spot_through w.frame pid o → (x : Fd × Way) → refreshed o (step w place pid o).reply ≡ Some x → CanRefresh m pid x spot
 can_refresh w place pid o m spot s ready room through x is =
-    let t = refreshed_stood w place pid o _ x refl is in
-    let b = is_behind w.frame pid x.0.0 t.0.0 t.0.1 in
-    let alive : lives w.frame pid ≡ true = lived w.frame pid b.process b.lives in
-    let rows : m.sizes.rows ≡ w.frame.limits.procs = ap (λ z. z.rows) ready.sizes in
+    let t = refreshed_stood w _ _ o _ x refl is in
+    let b = is_behind _ _ _ _ t.0.1 in
+    let alive = lived w.frame pid _ b.lives in
+    let rows = ap (λ z. z.rows) ready.sizes in
     record {
-      stands = seen_some spot _ (through ∙ t.1 ∙ ap (option_map (λ z. let y : Spot = record { entry = z.id; object = z.entry.object } in y)) t.0.1);
+      stands = seen_some _ _ (through ∙ t.1 ∙ ap (option_map (λ z. let y : Spot = record { entry = z.id; object = z.entry.object } in y)) t.0.1);
       descriptor = omega (arith, in_table b.process.fds x.0.0 t.0.0.id b.descriptor, s.processes.descriptors pid b.process (is_living _ b.process b.lives));
-      room = λ none. room w.frame.processes (omega (arith, rows, s.limits.processes)) (λ q h. record_there (at w.frame.processes q) (ready.rows q h))
-          (record_there (at w.frame.processes pid) alive) none;
+      room = λ none. room w.frame.processes (omega (arith, rows, s.limits.processes)) (λ q h. record_there _ (ready.rows q h)) (record_there _ alive) none;
     }
 
 -- ---- rows
@@ -252,22 +241,22 @@ pub rows_live : (w : World) (place pid : ℕ) (o : Op) (m n k : Known) → Sound
     → (q : ℕ) → has_row k q ≡ true → lives (step w place pid o).world.frame q ≡ true
 rows_live w place pid o m n k s few ready closed set q has =
     let r = (step w place pid o).reply in
-    elim (or_cases (q == pid && is_some (refreshed o r)) (has_row n q) (sym (set q) ∙ has)) [
+    elim (or_cases _ _ (sym (set q) ∙ has)) [
       | inl new ↦
-          let both = and_parts (q == pid) (is_some (refreshed o r)) new in
-          let x = some_is (refreshed o r) both.1 in
-          let t = refreshed_stood w place pid o r x.0 refl x.1 in
-          let b = is_behind w.frame pid x.0.0.0 t.0.0 t.0.1 in
-          let alive : lives w.frame q ≡ true = ap (lives w.frame) (eqb-true q pid both.0) ∙ lived w.frame pid b.process b.lives in
-          lives_on q w place pid o s few (and_no (q == pid) _ (not_exited o r x.0 x.1)) alive
+          let both = and_parts _ _ new in
+          let x = some_is _ both.1 in
+          let t = refreshed_stood w _ _ o r x.0 refl x.1 in
+          let b = is_behind _ _ _ _ t.0.1 in
+          let alive = ap (lives w.frame) (eqb-true q pid both.0) ∙ lived w.frame pid _ b.lives in
+          lives_on q w _ _ o s few (and_no _ _ (not_exited o r x.0 x.1)) alive
       | inr old ↦
-          let both = and_parts (not (q == pid && has_exited o r)) (has_row m q) (sym (closed q) ∙ old) in
-          lives_on q w place pid o s few (not-true _ both.0) (ready.rows q both.1)
+          let both = and_parts _ _ (sym (closed q) ∙ old) in
+          lives_on q w _ _ o s few (not-true _ both.0) (ready.rows q both.1)
     ]
 
 pub still_sized : (w : World) (place pid : ℕ) (o : Op) (m n : Known) → AreReady m w.frame → n.sizes ≡ m.sizes → n.sizes ≡ sizes_of (step w place pid o).world.frame
 still_sized w place pid o m n ready same =
-    let f = fixed_step w place pid o in
+    let f = fixed_step w _ _ o in
     same ∙ ready.sizes ∙ (λ i. record { rows = (ap (λ l. l.procs) (sym f.limits)) i; objects = sym f.objects i; opens = sym f.opens i })
 
 -- ---- what has another label is there
@@ -276,20 +265,20 @@ no_label a b is h = true≢false (sym h ∙ ap not ((same-decides a b).1 is))
 
 pub object_inside : (f g : Frame) (o : ℕ) (was : Categories) → length g.objects ≡ length f.objects → was ≡ label_at f (Some o) → other_object was g (Some o) ≡ true → o < length f.objects
 unfolding label_at
-object_inside f g o was long is moved = go (at f.objects o) refl (at g.objects o) refl
+object_inside f g o was long is moved = go (at _ o) refl (at _ o) refl
   where
     go : (x : Option Object) → at f.objects o ≡ x → (y : Option Object) → at g.objects o ≡ y → o < length f.objects
-    go (Some x) here y there = in_table f.objects o x here
+    go (Some x) here y there = in_table _ o x here
     go None here (Some y) there = omega (arith, long, in_table g.objects o y there)
-    go None here None there = absurd (no_label was (option_map_or (λ x. x.label) (at g.objects o) bottom) (is ∙ ap (λ z. option_map_or (λ x. x.label) z bottom) (here ∙ sym there)) moved)
+    go None here None there = absurd (no_label _ _ (is ∙ ap (λ z. option_map_or (λ x. x.label) z bottom) (here ∙ sym there)) moved)
 
 pub entry_inside : (f g : Frame) (e : ℕ) (was : Categories) → length g.opens ≡ length f.opens → was ≡ label_of_entry f (Some e) → other_entry was g (Some e) ≡ true → e < length f.opens
-entry_inside f g e was long is moved = go (at f.opens e) refl (at g.opens e) refl
+entry_inside f g e was long is moved = go (at _ e) refl (at _ e) refl
   where
     go : (x : Option Open) → at f.opens e ≡ x → (y : Option Open) → at g.opens e ≡ y → e < length f.opens
-    go (Some x) here y there = in_table f.opens e x here
+    go (Some x) here y there = in_table _ e x here
     go None here (Some y) there = omega (arith, long, in_table g.opens e y there)
-    go None here None there = absurd (no_label was (option_map_or (λ x. x.label) (at g.opens e) bottom) (is ∙ ap (λ z. option_map_or (λ x. x.label) z bottom) (here ∙ sym there)) moved)
+    go None here None there = absurd (no_label _ _ (is ∙ ap (λ z. option_map_or (λ x. x.label) z bottom) (here ∙ sym there)) moved)
 
 -- ---- a call that looks at no label
 pub known_call : (m : Known) (f : Frame) (pid : ℕ) (o : Op) → AreKnown m f → is_some (mark_through m pid o) ≡ true → IsKnown f pid o
@@ -301,9 +290,7 @@ itself : (a : Categories) → not (same a a) ≡ false
 itself a = ap not ((same-decides a a).1 refl)
 
 touches_nothing : (f : Frame) (pid : ℕ) (o : Op) (q : ℕ) (object entry : Option ℕ) → touches f (call_by pid o) f q object entry ≡ false
-touches_nothing f pid o q object entry =
-    go (pid == q) (is_one (target f pid o) object) (is_one (entry_target f pid o) entry) _ _ _ (itself (of_process (λ p. p.label) bottom f pid))
-    (itself (label_at f (target f pid o))) (itself (label_of_entry f (entry_target f pid o)))
+touches_nothing f pid o q object entry = go _ _ _ _ _ _ (itself _) (itself _) (itself _)
   where
     go : (a b c x y z : Bool) → x ≡ false → y ≡ false → z ≡ false → (a && x || b && y || c && z) ≡ false
     go a b c x y z one two three = (λ i. and_no a x one i || and_no b y two i || and_no c z three i)
@@ -321,17 +308,17 @@ closes_not m pid d _ r h = cc
 refreshes_marked : (m : Known) (pid : ℕ) (o : Op) (r : Reply) (q d : ℕ) (v : Way) → is_some (mark_through m pid o) ≡ true
     → (pid == q && refreshes (way_of v) d o r) ≡ true → is_some (spot_of m q d v) ≡ true
 refreshes_marked m pid (op.ReadFd fd count) (reply.Bytes k) q d way.Reading h on =
-    let both = and_parts (pid == q) (fd == d) on in
+    let both = and_parts _ _ on in
     ap (λ n. is_some (spot_of m n d way.Reading)) (sym (eqb-true pid q both.0)) ∙ ap (λ n. is_some (spot_of m pid n way.Reading)) (sym (eqb-true fd d both.1)) ∙ h
 refreshes_marked m pid (op.WriteFd fd bytes) (reply.Number k) q d way.Writing h on =
-    let both = and_parts (pid == q) (fd == d) on in
+    let both = and_parts _ _ on in
     ap (λ n. is_some (spot_of m n d way.Writing)) (sym (eqb-true pid q both.0)) ∙ ap (λ n. is_some (spot_of m pid n way.Writing)) (sym (eqb-true fd d both.1)) ∙ h
-refreshes_marked m pid (op.ReadFd fd count) (reply.Bytes k) q d way.Writing h on = absurd (true≢false (sym (and_parts (pid == q) false on).1))
-refreshes_marked m pid (op.ReadFd fd count) _ q d way.Reading h on = absurd (true≢false (sym (and_parts (pid == q) false on).1))
-refreshes_marked m pid (op.ReadFd fd count) _ q d way.Writing h on = absurd (true≢false (sym (and_parts (pid == q) false on).1))
-refreshes_marked m pid (op.WriteFd fd bytes) (reply.Number k) q d way.Reading h on = absurd (true≢false (sym (and_parts (pid == q) false on).1))
-refreshes_marked m pid (op.WriteFd fd bytes) _ q d way.Reading h on = absurd (true≢false (sym (and_parts (pid == q) false on).1))
-refreshes_marked m pid (op.WriteFd fd bytes) _ q d way.Writing h on = absurd (true≢false (sym (and_parts (pid == q) false on).1))
+refreshes_marked m pid (op.ReadFd fd count) (reply.Bytes k) q d way.Writing h on = absurd (true≢false (sym (and_parts _ false on).1))
+refreshes_marked m pid (op.ReadFd fd count) _ q d way.Reading h on = absurd (true≢false (sym (and_parts _ false on).1))
+refreshes_marked m pid (op.ReadFd fd count) _ q d way.Writing h on = absurd (true≢false (sym (and_parts _ false on).1))
+refreshes_marked m pid (op.WriteFd fd bytes) (reply.Number k) q d way.Reading h on = absurd (true≢false (sym (and_parts _ false on).1))
+refreshes_marked m pid (op.WriteFd fd bytes) _ q d way.Reading h on = absurd (true≢false (sym (and_parts _ false on).1))
+refreshes_marked m pid (op.WriteFd fd bytes) _ q d way.Writing h on = absurd (true≢false (sym (and_parts _ false on).1))
 refreshes_marked m pid _ r q d v h on = cc
 
 known_spot : (m : Known) (f : Frame) (pid : ℕ) (o : Op) (r : Reply) (q d : ℕ) (v : Way) → AreKnown m f → is_some (mark_through m pid o) ≡ true
@@ -346,17 +333,17 @@ known_spot m f pid o r q d v k h = go (pid == q && refreshes (way_of v) d o r) r
     go : (b : Bool) → (pid == q && refreshes (way_of v) d o r) ≡ b → seen (spot_of m q d v) ≡ (if b then spot_behind f q d else if pid == q && closes d o r then
         None else laws.unless (λ x. touches f (call_by pid o) f q (Some x.object) (Some x.entry)) (seen (spot_of m q d v)))
     go true on =
-        let x = some_is (spot_of m q d v) (refreshes_marked m pid o r q d v h on) in
-        ap seen x.1 ∙ sym (k.here q d v (spot_in x.0) (ap seen x.1))
+        let x = some_is _ (refreshes_marked m _ o r q d v h on) in
+        ap seen x.1 ∙ sym (k.here q d v _ (ap seen x.1))
     go false on = stays
 
 pub told_known : KnownChangesNothing → (m : Known) (w : World) (place pid : ℕ) (o : Op) → AreReady m w.frame → AreKnown m w.frame → is_some (mark_through m pid o) ≡ true → AreTold m m w place pid o
 told_known law m w place pid o ready k h =
-    let still : w.frame ≡ (step w place pid o).world.frame = sym (known_still law w place pid o (known_call m w.frame pid o k h)) in
+    let still = sym (known_still law w _ _ o (known_call m _ _ o k h)) in
     let r = (step w place pid o).reply in
     record {
-      spots = λ q d v. known_spot m w.frame pid o r q d v k h ∙ ap (λ (g : Frame). left w.frame g pid o r q d v (seen (spot_of m q d v))) still;
-      ready = subst (λ (g : Frame). AreReady m g) still ready;
+      spots = λ q d v. known_spot m _ _ o r q d v k h ∙ ap (λ g. left w.frame g pid o r q d v (seen (spot_of m q d v))) still;
+      ready = subst (λ g. AreReady m g) still ready;
       raised = omega arith;
     }
 
@@ -369,20 +356,19 @@ own_spot : (m : Known) (f : Frame) (pid : ℕ) (r : Reply) (q d : ℕ) (v : Way)
 own_spot m f pid r q d v =
     let here = seen (spot_of m q d v) in
     let stays = laws.unless (λ x. touches f (call_by pid op.SelfLabel) f q (Some x.object) (Some x.entry)) here in
-    unless_never (λ x. touches f (call_by pid op.SelfLabel) f q (Some x.object) (Some x.entry)) (λ x. touches_nothing f pid op.SelfLabel q (Some x.object) (Some x.entry)) here
-    ∙ ap (λ b. if b then None else stays) (sym (and_no (pid == q) _ refl))
-    ∙ ap (λ b. if b then spot_behind f q d else if pid == q && closes d op.SelfLabel r then None else stays) (sym (and_no (pid == q) (refreshes (way_of v) d op.SelfLabel r) (own_refreshes v d r)))
+    unless_never _ (λ x. touches_nothing f pid op.SelfLabel q (Some x.object) (Some x.entry)) _ ∙ ap (λ b. if b then None else stays) (sym (and_no _ _ refl))
+    ∙ ap (λ b. if b then spot_behind f q d else if pid == q && closes d op.SelfLabel r then None else stays) (sym (and_no (pid == q) _ (own_refreshes v d r)))
 
 pub told_own : (m : Known) (w : World) (place pid : ℕ) (o : Op) → AreReady m w.frame → o ≡ op.SelfLabel → AreTold m m w place pid o
-told_own m w place pid o ready own = subst (λ (c : Op). AreTold m m w place pid c) (sym own) told
+told_own m w place pid o ready own = subst (λ c. AreTold m m w place pid c) (sym own) told
   where
     still : w.frame ≡ (step w place pid op.SelfLabel).world.frame
-    still = sym (self_still w place pid)
+    still = sym (self_still w _ _)
 
     told : AreTold m m w place pid op.SelfLabel
     told = record {
-      spots = λ q d v. own_spot m w.frame pid (step w place pid op.SelfLabel).reply q d v
-          ∙ ap (λ (g : Frame). left w.frame g pid op.SelfLabel (step w place pid op.SelfLabel).reply q d v (seen (spot_of m q d v))) still;
-      ready = subst (λ (g : Frame). AreReady m g) still ready;
+      spots = λ q d v. own_spot m _ _ _ q d v
+          ∙ ap (λ g. left w.frame g pid op.SelfLabel (step w place pid op.SelfLabel).reply q d v (seen (spot_of m q d v))) still;
+      ready = subst (λ g. AreReady m g) still ready;
       raised = omega arith;
     }

@@ -1,14 +1,11 @@
 -- A call makes one process at most, so pids stay few as long as entries do.
-use Rattle.std.proofs.Common.{◌≡◌, ◌≤◌, ◌+◌, ℕ, suc, Bool, true, false, List, [], ◌∷◌, ◌++◌, length, nat_lt, count_by, is_some, Option, Some, None, refl, sym}
+use Rattle.std.{proofs.Common.{◌≡◌, ◌≤◌, ◌+◌, ℕ, suc, Bool, true, false, List, [], ◌∷◌, ◌++◌, length, nat_lt, count_by, is_some, Option, Some, None, refl, sym}, specs.List.list_all}
 use Rattle.std.proofs.Common.{subst, arith, length-set, length-append}
-use Rattle.std.specs.List.{list_all}
-use Rattle.ix_model.specs.{world.World.{World, Frame, Process, at, living}, rows.Auditing.logged, rows.OnProcesses.{end_process, fork, has_kept, kept_fds}}
-use Rattle.ix_model.specs.{rows.OnDescriptors.LengthChecks, rows.Table.{row, verdict}, rows.Telling.told, declared.call.Keep.Keep}
-use Rattle.ix_model.specs.history.{Step.{step, step_of, run}, Events.{Op, Event}}
+use Rattle.ix_model.specs.{world.World.{World, Frame, Process, at, living}, rows.{Auditing.logged, OnProcesses.{end_process, fork, has_kept}, Rows.{put_process, add_process, change_open}}}
+use Rattle.ix_model.specs.{rows.{OnDescriptors.LengthChecks, Table.{row, verdict}, Telling.told}, declared.call.Keep.Keep, history.{Step.{step, step_of, run}, Events.{Op, Event}}}
 use Rattle.ix_model.specs.rows.Rows.{◌>>=◌, ◌>>◌, on_pass, process, some, need, frame, pass, refuse, change_object, change_process, put_object, put_open}
-use Rattle.ix_model.specs.rows.Rows.{put_process, add_process, change_open}
-use Rattle.ix_model.specs.history.Events as op
 use Rattle.ix_model.proofs.words.{Keeps.{Holds, Keeps}, Rowwise.{Change, Forking, Words, changes_of, kept_row}, Lasts.decided, Answered.step_frame}
+use Rattle.ix_model.specs.history.Events as op
 
 -- so many pids more than there were
 pub record Grown (n : ℕ) (f g : Frame) : Type 0 where
@@ -67,8 +64,8 @@ module _ (n : ℕ) (f : Frame) where
   grown_words pid = record {
     object = λ o h same. grown_changed o h;
     process = λ p h same. grown_process p h;
-    float = λ h same. grown_process pid h;
-    entry = λ e x low. grown_entry e (Some x);
+    float = λ h same. grown_process _ h;
+    entry = λ e x low. grown_entry e _;
     through = λ can e l. grown_opened e _;
     unclaim = λ o end. grown_changed o _;
     relabel = λ can o h same. grown_changed o h;
@@ -76,11 +73,11 @@ module _ (n : ℕ) (f : Frame) where
     log = λ can. grown_log;
     inode = λ can g o k kind r free. grown_object o _;
     pipe = λ can g o r free. grown_object o _;
-    gone_object = λ can o. grown_object o None;
-    gone_open = λ can e. grown_entry e None;
+    gone_object = λ can o. grown_object o _;
+    gone_open = λ can e. grown_entry e _;
     fork = λ can q. cc;
-    end = λ can. grown_end pid;
-    collect = λ can p. grown_put p None;
+    end = λ can. grown_end _;
+    collect = λ can p. grown_put p _;
   }
 
 -- ---- a fork
@@ -93,7 +90,7 @@ one_more f p = record { few = omega (arith, length-append f.processes (Some p �
 forked_by : (f : Frame) (pid : ℕ) (keep : Keep) (p : Process) (a b : Bool) → living (at f.processes pid) ≡ Some p → has_kept keep p ≡ a
     → nat_lt (count_by is_some f.processes) f.limits.procs ≡ b → Holds (fork pid keep f) (Grown 1 f)
 unfolding fork ◌>>=◌ ◌>>◌ on_pass process some need frame add_process pass refuse Holds
-forked_by f pid keep p true true is h k = rw (is, h, k) (one_more f (record p { parent = Some pid; fds = kept_fds keep p.fds }))
+forked_by f pid keep p true true is h k = rw (is, h, k) (one_more f _)
 forked_by f pid keep p true false is h k = rw (is, h, k) (no_more f)
 forked_by f pid keep p false b is h k = rw (is, h) (no_more f)
 
@@ -102,22 +99,22 @@ unfolding fork ◌>>=◌ on_pass process some refuse Holds
 forked_by_none f pid keep is = rw is (no_more f)
 
 grown_fork : (f : Frame) (pid : ℕ) (keep : Keep) → Holds (fork pid keep f) (Grown 1 f)
-grown_fork f pid keep = go (living (at f.processes pid)) refl
+grown_fork f pid keep = go _ refl
   where
     go : (o : Option Process) → living (at f.processes pid) ≡ o → Holds (fork pid keep f) (Grown 1 f)
-    go None is = forked_by_none f pid keep is
-    go (Some p) is = forked_by f pid keep p (has_kept keep p) (nat_lt (count_by is_some f.processes) f.limits.procs) is refl refl
+    go None is = forked_by_none f _ _ is
+    go (Some p) is = forked_by f _ _ p _ _ is refl refl
 
 -- ---- all calls
 grown_row : (f : Frame) (t : LengthChecks) (place pid : ℕ) (c : Op) → Holds (row t place pid c f) (Grown 1 f)
 unfolding row
-grown_row f t place pid (op.Fork keep) = grown_fork f pid keep
-grown_row f t place pid c = (kept_row makes_no_process pid (Grown 1 f) (grown_words 1 f pid) t place c (bears c refl)).led f (record { few = omega arith })
+grown_row f t place pid (op.Fork keep) = grown_fork f _ _
+grown_row f t place pid c = (kept_row _ _ _ (grown_words 1 f pid) t place c (bears c refl)).led f (record { few = omega arith })
 
 pub one_pid_more : (w : World) (place pid : ℕ) (c : Op) → length (step w place pid c).world.frame.processes ≤ length w.frame.processes + 1
 one_pid_more w place pid c =
     let first : Grown 1 w.frame w.frame = record { few = omega arith } in
-    let r : Grown 1 w.frame (verdict (told w pid c) place pid c w.frame).frame = decided (Grown 1 w.frame) (told w pid c) place pid c w.frame first (grown_row w.frame (told w pid c) place pid c) in
+    let r : Grown 1 w.frame (verdict (told w pid c) place pid c w.frame).frame = decided (Grown 1 w.frame) (told w pid c) place pid c w.frame first (grown_row _ _ _ _ c) in
     subst (λ (g : Frame). length g.processes ≤ length w.frame.processes + 1) (sym (step_frame w place pid c)) r.few
 
 pub pids_run : (w : World) (place : ℕ) (h : List Event) → length (run w place h).frame.processes ≤ length w.frame.processes + length h

@@ -1,37 +1,33 @@
 -- What a row and a refusal leave.
 use Rattle.std.proofs.Common.{◌≡◌, ℕ, Bool, true, false, List, Option, Result, Ok, Err, OnOk, sym, ap, ◌∙◌, subst}
 use Rattle.ix_model.specs.{world.{World.{Frame, Process}, Contents.carried}, laws.Sound.Sound, history.{Calls.op_of, Events.Op, AuditLog.is_answer}}
-use Rattle.ix_model.specs.rows.{Outcomes.{Outcome, Refuse, Pass}, OnDescriptors.LengthChecks, Table.row}
-use Rattle.ix_model.specs.declared.{call.Call.Call, reply.Reply.Reply, refusal.Refusal.Refusal}
-use Rattle.ix_model.proofs.{clean.Carrying.carried_same, words.{Ends.Ends, Lasts.{Lasts, lasts_relabelled}}}
-use Rattle.ix_model.proofs.refused.Refusing.{Relabelled, Relabels, relabelled_itself, refusing_row}
+use Rattle.ix_model.specs.{rows.{Outcomes.{Outcome, Refuse, Pass}, OnDescriptors.LengthChecks, Table.row}, declared.{call.Call.Call, reply.Reply.Reply, refusal.Refusal.Refusal}}
+use Rattle.ix_model.proofs.{clean.Carrying.carried_same, words.{Ends.Ends, Lasts.{Lasts, lasts_relabelled}}, refused.Refusing.{Relabelled, Relabels, relabelled_itself, refusing_row}}
 use Rattle.ix_tables.specs.Parts.{Parts}
 use Rattle.ix_fcalls.specs.{Around.{Around, frame_of, world_of}, Counted.{IsCounted, Keeps}, Filed.{Leaves, lets_go}}
 
 relabelled_lasts : (pid : ℕ) (f g : Frame) → Relabelled pid f g → Lasts f g
-relabelled_lasts pid f g r = subst (λ (h : Frame). Lasts f h) (sym r.is) (lasts_relabelled pid r.label f)
+relabelled_lasts pid f g r = subst (λ h. Lasts f h) (sym r.is) (lasts_relabelled _ _ f)
 
 -- parts that are as they were, in a frame in which the caller's label alone has changed
 left : (b : Bool) (a : Around) (t u : Parts) (ps qs : List (Option Process)) → Sound (world_of a t ps) → u ≡ t → Relabelled a.pid (frame_of a t ps) (frame_of a u qs) → Leaves b a t u ps qs
-left true a t u ps qs sound back r =
-    ap (λ (v : Parts). (world_of a v qs).content) back
-    ∙ sym (carried_same (world_of a t ps) (frame_of a u qs) (relabelled_lasts a.pid _ _ r) sound.holdings.clean)
-left false a t u ps qs sound back r = record { holdings = ap (λ (v : Parts). v.holdings) back; offsets = ap (λ (v : Parts). v.offsets) back }
+left true a t u ps qs sound back r = ap (λ v. (world_of a v qs).content) back ∙ sym (carried_same _ _ (relabelled_lasts _ _ _ r) sound.holdings.clean)
+left false a t u ps qs sound back r = record { holdings = ap (λ v. v.holdings) back; offsets = ap (λ v. v.offsets) back }
 
 refused : (pid : ℕ) (f g : Frame) (why : Refusal) (o : Outcome Reply) → o ≡ Refuse why g → Relabels is_answer pid f o → Relabelled pid f g
 unfolding Ends
-refused pid f g why (Refuse r h) is k = let e : h ≡ g = cc in subst (λ (x : Frame). Relabelled pid f x) e k
+refused pid f g why (Refuse r h) is k = let e : h ≡ g = cc in subst (λ x. Relabelled pid f x) e k
 refused pid f g why (Pass r h) is k = cc
 
 module _ (b : Bool) (a : Around) (t u : Parts) (ps : List (Option Process)) (sound : Sound (world_of a t ps)) (back : u ≡ t) where
   -- the label stays raised
   pub leaves_raised : (qs : List (Option Process)) (told : LengthChecks) (c : Op) (why : Refusal) → row told a.place a.pid c (frame_of a t ps) ≡ Refuse why (frame_of a u qs) → Leaves b a t u ps qs
-  leaves_raised qs told c why is = left b a t u ps qs sound back (refused a.pid _ _ why _ is (refusing_row told a.place a.pid c (frame_of a t ps)))
+  leaves_raised qs told c why is = left b a t u ps qs sound back (refused _ _ _ _ _ is (refusing_row _ _ _ c _))
 
   -- the caller is set back
   pub leaves_all : (qs : List (Option Process)) → qs ≡ ps → Leaves b a t u ps qs
-  leaves_all qs same = left b a t u ps qs sound back (subst (λ (g : Frame). Relabelled a.pid (frame_of a t ps) g) (λ i. frame_of a (sym back i) (sym same i))
-      (relabelled_itself a.pid (frame_of a t ps)))
+  leaves_all qs same = left b a t u ps qs sound back (subst (λ g. Relabelled a.pid (frame_of a t ps) g) (λ i. frame_of a (sym back i) (sym same i))
+      (relabelled_itself _ _))
 
 -- ---- what a row that passes leaves
 on_ok : (r : Result Reply Refusal) (P : Type 0) → P → OnOk r P
@@ -41,11 +37,11 @@ on_ok (Err why) P p = tt
 -- a call that may let nothing go, and one that may
 pub leaves_kept : (c d : Call) (a : Around) (t u : Parts) (ps qs : List (Option Process)) (r : Result Reply Refusal) → c ≡ d → lets_go (op_of d) ≡ false
     → Keeps t u → OnOk r (Leaves (lets_go (op_of c)) a t u ps qs)
-leaves_kept c d a t u ps qs r is stays kept = subst (λ (b : Bool). OnOk r (Leaves b a t u ps qs)) (sym (ap (λ (x : Call). lets_go (op_of x)) is ∙ stays)) (on_ok r (Keeps t u) kept)
+leaves_kept c d a t u ps qs r is stays kept = subst (λ b. OnOk r (Leaves b a t u ps qs)) (sym (ap (λ x. lets_go (op_of x)) is ∙ stays)) (on_ok r _ kept)
 
 pub leaves_carried : (c d : Call) (a : Around) (t u : Parts) (ps qs : List (Option Process)) (r : Result Reply Refusal) → c ≡ d → lets_go (op_of d) ≡ true
     → OnOk r ((world_of a u qs).content ≡ carried (frame_of a t ps) (frame_of a u qs) (world_of a t ps).content) → OnOk r (Leaves (lets_go (op_of c)) a t u ps qs)
-leaves_carried c d a t u ps qs r is goes content = subst (λ (b : Bool). OnOk r (Leaves b a t u ps qs)) (sym (ap (λ (x : Call). lets_go (op_of x)) is ∙ goes)) content
+leaves_carried c d a t u ps qs r is goes content = subst (λ b. OnOk r (Leaves b a t u ps qs)) (sym (ap (λ x. lets_go (op_of x)) is ∙ goes)) content
 
 pub counted_all : (t u : Parts) (ps qs : List (Option Process)) → u ≡ t → qs ≡ ps → IsCounted t ps → IsCounted u qs
 counted_all t u ps qs back same c = rw (back, same) c

@@ -1,25 +1,22 @@
 -- A descriptor is given up: the row, the counts, and what remains.
-use Rattle.std.proofs.Common.{is_some, arith, inl, inr, ◌≡◌, ◌<◌, ◌-◌, ◌==◌, ◌&&◌, ℕ, Bool, true, false, not, List, length, Option, Some, None, refl, sym, ap}
-use Rattle.std.proofs.Common.{◌∙◌, subst, length-set, slice_set, slice_index_or, if◌then◌else◌}
-use Rattle.std.{specs.Option.option_map_or, proofs.lemmas.Bool.{eqb-true, or_cases, and_parts}}
-use Rattle.ix_model.specs.world.{World.{Frame, Object, Process, at, put, change, is_pipe, is_ended}, Owners.owned, Contents.{carried, holds_nothing}}
-use Rattle.ix_model.specs.{rows.Outcomes.{Pass, Row}, rows.Rows.{◌>>◌, on_pass, pass, only_if, change_process, change_object, put_object, put_open}}
-use Rattle.ix_model.specs.{rows.Walks.{OpenFile, behind}, rows.Lifetimes.{stays, has_lost, let_go, let_go_claim, let_go_open, let_go_object}, laws.Sound.Sound}
+use Rattle.std.proofs.Common.{is_some, arith, inl, inr, ◌≡◌, ◌<◌, ◌-◌, ◌==◌, ℕ, Bool, true, false, not, List, length, Option, Some, None, refl, sym, ap}
+use Rattle.std.{proofs.{Common.{◌∙◌, subst, length-set, slice_set, slice_index_or, if◌then◌else◌}, lemmas.Bool.{eqb-true, or_cases, and_parts}}, specs.Option.option_map_or}
+use Rattle.ix_model.specs.world.{World.{Frame, Object, Process, at, put, change, is_ended}, Owners.owned, Contents.{carried, holds_nothing}}
+use Rattle.ix_model.specs.rows.{Outcomes.{Pass, Row}, Rows.{◌>>◌, on_pass, pass, only_if, change_process, change_object, put_object, put_open}}
+use Rattle.ix_model.specs.{rows.{Walks.{OpenFile, behind}, Lifetimes.{stays, has_lost, let_go, let_go_claim, let_go_open, let_go_object}}, laws.Sound.Sound}
 use Rattle.ix_model.proofs.{tables.{Tables.seen_changed, Finds.in_table}, frames.Claimants.is_behind}
 use Rattle.ix_tables.specs.{Parts.{Parts, owners_of, homes_of}, Views.{frame_alone, released, without_object, object_let_go}}
-use Rattle.ix_fcalls.specs.{Around.{Around, frame_of, world_of}, Counted.IsCounted, Remaining.{Remains, Leaves}}
+use Rattle.ix_fcalls.{specs.{Around.{Around, frame_of, world_of}, Counted.IsCounted, Remaining.{Remains, Leaves}}, proofs.Releasing.{owners_fewer, last_is, homes_taken}}
 use Rattle.ix_fcalls.proofs.Remaining.{taken, cleared, remains_itself, remains_changed, remains_taken, left_carried}
-use Rattle.ix_fcalls.proofs.Releasing.{owners_fewer, last_is, homes_taken}
 
 -- ---- the parts
 released_is : (b : Bool) (id : ℕ) (t : Parts) → b ≡ (slice_index_or t.owners id 0 == 1) → released b id t ≡ record t {
   opens = taken b id t.opens;
-  offsets =
-      cleared b id 0 t.offsets;
+  offsets = cleared b id 0 t.offsets;
   owners = slice_set t.owners id (slice_index_or t.owners id 0 - 1);
 }
 released_is true id t is =
-    let one : slice_index_or t.owners id 0 ≡ 1 = eqb-true _ 1 (sym is) in
+    let one = eqb-true _ 1 (sym is) in
     ap (λ n. record t { opens = put t.opens id None; offsets = slice_set t.offsets id 0; owners = slice_set t.owners id (n - 1) }) (sym one)
 released_is false id t is = refl
 
@@ -27,7 +24,7 @@ abbrev pub goes : ℕ → Parts → Bool
 goes o t = option_map_or (λ x. not (stays (frame_alone t) o x)) (at t.objects o) false
 
 pub let_go_is : (o : ℕ) (t : Parts) → object_let_go o t ≡ record t { objects = taken (goes o t) o t.objects; holdings = cleared (goes o t) o holds_nothing t.holdings }
-let_go_is o t = go (goes o t)
+let_go_is o t = go _
   where
     go : (b : Bool) → (if b then without_object o t else t) ≡ record t { objects = taken b o t.objects; holdings = cleared b o holds_nothing t.holdings }
     go true = refl
@@ -58,7 +55,7 @@ object_step true o f = refl
 object_step false o f = refl
 
 remains_unclaimed : (b : Bool) (t : List (Option Object)) (hs : List _) (o : ℕ) (k : Object → Object) → Remains holds_nothing t t hs hs → Remains holds_nothing t (if b then change t o k else t) hs hs
-remains_unclaimed true t hs o k r = remains_changed holds_nothing t t hs hs o k r
+remains_unclaimed true t hs o k r = remains_changed _ t t hs hs o k r
 remains_unclaimed false t hs o k r = r
 
 -- ---- the whole
@@ -84,35 +81,33 @@ module _ (a : Around) (v : Parts) (ps : List (Option Process)) (fd : ℕ) (e : O
 
   pub left_is : (t u w : Parts) → t ≡ unclaimed → u ≡ released last e.id t → w ≡ object_let_go e.entry.object u → w ≡ left
   left_is t u w one two three =
-      three ∙ ap (object_let_go e.entry.object) (two ∙ ap (released last e.id) one ∙ released_is last e.id unclaimed was_last) ∙ let_go_is e.entry.object unowned
+      three ∙ ap (object_let_go e.entry.object) (two ∙ ap (released _ _) one ∙ released_is _ _ _ was_last) ∙ let_go_is e.entry.object unowned
 
   low : e.id < length v.opens
-  low = in_table v.opens e.id e.entry (is_behind (frame_of a v ps) a.pid fd e is).stands
+  low = in_table _ _ _ (is_behind (frame_of a v ps) a.pid fd e is).stands
 
   last_owned : not (owned processes e.id) ≡ last
   last_owned =
       let b = is_behind (frame_of a v ps) a.pid fd e is in
-      sym (was_last ∙ ap (λ (ns : List ℕ). slice_index_or ns e.id 0 == 1) c.owners ∙ last_is ps a.pid fd e.id b.process b.lives b.descriptor (length v.opens) low)
+      sym (was_last ∙ ap (λ ns. slice_index_or ns e.id 0 == 1) c.owners ∙ last_is ps _ fd _ _ b.lives b.descriptor _ low)
 
   row_left : let_go a.pid fd e (frame_of a v ps) ≡ Pass tt (frame_of a left processes)
   unfolding let_go let_go_claim let_go_open let_go_object change_process
   row_left =
-      then_is (frame_of a v ps) (frame_of a v processes) (frame_of a left processes) _ _ refl (
-      then_is (frame_of a v processes) (frame_of a unclaimed processes) (frame_of a left processes) _ _ (claim_step lost e.entry.object unclaiming (frame_of a v processes)) (
-      then_is (frame_of a unclaimed processes) (frame_of a unowned processes) (frame_of a left processes) _ _
-      (ap (λ b. only_if b (put_open e.id None) (frame_of a unclaimed processes)) last_owned ∙ open_step last e.id (frame_of a unclaimed processes)) (
-      object_step (goes e.entry.object unowned) e.entry.object (frame_of a unowned processes))))
+      then_is _ _ _ _ _ refl (
+      then_is _ _ _ _ _ (claim_step _ _ _ _) (
+      then_is _ _ _ _ _
+      (ap (λ b. only_if b (put_open e.id None) (frame_of a unclaimed processes)) last_owned ∙ open_step _ _ _) (
+      object_step _ _ _)))
 
   counted_left : IsCounted left processes
   counted_left =
       let b = is_behind (frame_of a v ps) a.pid fd e is in
-      let objects : length left.objects ≡ length v.objects = length-taken (goes e.entry.object unowned) e.entry.object unclaimed.objects ∙ go lost in
+      let objects = length-taken (goes e.entry.object unowned) e.entry.object unclaimed.objects ∙ go lost in
       record {
-        owners =
-            ap (λ (ns : List ℕ). slice_set ns e.id (slice_index_or ns e.id 0 - 1)) c.owners
-            ∙ sym (owners_fewer ps a.pid fd e.id b.process b.lives b.descriptor (length v.opens) low)
-            ∙ ap (λ n. owners_of n processes) (sym (length-taken last e.id v.opens));
-        homes = c.homes ∙ sym (homes_taken (length v.objects) ps a.pid fd) ∙ ap (λ n. homes_of n processes) (sym objects);
+        owners = ap (λ ns. slice_set ns e.id (slice_index_or ns e.id 0 - 1)) c.owners ∙ sym (owners_fewer ps _ fd _ _ b.lives b.descriptor _ low)
+            ∙ ap (λ n. owners_of n processes) (sym (length-taken _ _ _));
+        homes = c.homes ∙ sym (homes_taken _ ps _ fd) ∙ ap (λ n. homes_of n processes) (sym objects);
       }
     where
       go : (b : Bool) → length (if b then change v.objects e.entry.object unclaiming else v.objects) ≡ length v.objects
@@ -121,9 +116,8 @@ module _ (a : Around) (v : Parts) (ps : List (Option Process)) (fd : ℕ) (e : O
 
   leaves_left : Leaves (world_of a v ps) (world_of a left processes)
   leaves_left = record {
-    objects = remains_taken holds_nothing (goes e.entry.object unowned) v.objects unclaimed.objects v.holdings v.holdings e.entry.object
-        (remains_unclaimed lost v.objects v.holdings e.entry.object unclaiming (remains_itself holds_nothing v.objects v.holdings s.holdings.clean.holdings));
-    opens = remains_taken 0 last v.opens v.opens v.offsets v.offsets e.id (remains_itself 0 v.opens v.offsets s.holdings.clean.offsets);
+    objects = remains_taken _ _ _ _ _ _ _ (remains_unclaimed _ _ _ _ _ (remains_itself _ _ _ s.holdings.clean.holdings));
+    opens = remains_taken 0 _ _ _ _ _ _ (remains_itself 0 _ _ s.holdings.clean.offsets);
     ended = seen_changed is_ended (λ q. record q { fds = put q.fds fd None }) (λ q. refl) ps a.pid;
     processes = length-set ps a.pid _;
     statuses = refl;
@@ -137,30 +131,27 @@ pub record IsGivenUp (a : Around) (v : Parts) (ps : List (Option Process)) (fd :
   pub content : (world_of a w qs).content ≡ carried (frame_of a v ps) (frame_of a w qs) (world_of a v ps).content
 
 pub given_up : (a : Around) (v : Parts) (ps : List (Option Process)) (fd : ℕ) (e : OpenFile) (s : Sound (world_of a v ps)) → IsCounted v ps → behind (frame_of a v ps) a.pid fd ≡ Some e
-    → (qs : List (Option Process)) → qs ≡ change ps a.pid (λ q. record q { fds = put q.fds fd None })
-    → (t u w : Parts) (last : Bool)
+    → (qs : List (Option Process)) → qs ≡ change ps a.pid (λ q. record q { fds = put q.fds fd None }) → (t u w : Parts) (last : Bool)
     → t ≡ record v {
       objects = if has_lost (frame_of a v qs) a.pid e.entry.object e.entry.end then
           change v.objects e.entry.object (λ x. record x { claims = put x.claims e.entry.end None }) else v.objects;
-    }
-    → last ≡ (slice_index_or t.owners e.id 0 == 1) → u ≡ released last e.id t → w ≡ object_let_go e.entry.object u → IsGivenUp a v ps fd e w qs
+    } → last ≡ (slice_index_or t.owners e.id 0 == 1) → u ≡ released last e.id t → w ≡ object_let_go e.entry.object u → IsGivenUp a v ps fd e w qs
 given_up a v ps fd e s c is qs taking t u w last one lastly two three =
-    let was_last : last ≡ (slice_index_or v.owners e.id 0 == 1) = lastly ∙ ap (λ (z : Parts). slice_index_or z.owners e.id 0 == 1) one in
-    let first : t ≡ unclaimed a v ps fd e last s c is was_last =
-    one ∙ ap (λ (rs : List (Option Process)). record v {
+    let was_last = lastly ∙ ap (λ z. slice_index_or z.owners e.id 0 == 1) one in
+    let first =
+    one ∙ ap (λ rs. record v {
       objects = if has_lost (frame_of a v rs) a.pid e.entry.object e.entry.end then
           change v.objects e.entry.object (λ x. record x { claims = put x.claims e.entry.end None }) else v.objects;
     }) taking in
-    let whole : w ≡ left a v ps fd e last s c is was_last = left_is a v ps fd e last s c is was_last t u w first two three in
+    let whole = left_is a v ps fd e last s c is was_last t u w first two three in
     let leaves = leaves_left a v ps fd e last s c is was_last in
-    let content = left_carried (world_of a v ps) (world_of a (left a v ps fd e last s c is was_last) (processes a v ps fd e last s c is was_last)) s.holdings.clean leaves in
+    let content = left_carried _ _ s.holdings.clean leaves in
     let r : IsGivenUp a v ps fd e (left a v ps fd e last s c is was_last) (processes a v ps fd e last s c is was_last) =
     record {
       row = row_left a v ps fd e last s c is was_last;
       counted = counted_left a v ps fd e last s c is was_last;
       leaves = leaves;
-      content =
-          content;
+      content = content;
     } in
     subst (λ rs. IsGivenUp a v ps fd e w rs) (sym taking) (subst (λ z. IsGivenUp a v ps fd e z (processes a v ps fd e last s c is was_last)) (sym whole) r)
 
@@ -169,8 +160,7 @@ pub entry_stands : (a : Around) (v : Parts) (ps : List (Option Process)) (fd : �
 entry_stands a v ps fd e is = ap is_some (is_behind (frame_of a v ps) a.pid fd e is).stands
 
 pub entry_low : (a : Around) (v : Parts) (ps : List (Option Process)) (fd : ℕ) (e : OpenFile) → Sound (world_of a v ps) → behind (frame_of a v ps) a.pid fd ≡ Some e → e.entry.end < 2
-entry_low a v ps fd e s is =
-    elim (or_cases (e.entry.end == 0) (e.entry.end == 1 && option_map_or is_pipe (at v.objects e.entry.object) false)
+entry_low a v ps fd e s is = elim (or_cases _ _
     (s.opens.end e.id e.entry (is_behind (frame_of a v ps) a.pid fd e is).stands)) [
       | inl first ↦ let zero : e.entry.end ≡ 0 = eqb-true _ 0 first in omega (arith, zero)
       | inr second ↦ let one : e.entry.end ≡ 1 = eqb-true _ 1 (and_parts _ _ second).0 in omega (arith, one)

@@ -1,10 +1,8 @@
 -- What lengths tell of an open entry, from the parts alone.
 use Rattle.std.proofs.Common.{◌≡◌, ◌≤◌, ◌+◌, ◌-◌, ◌==◌, ◌&&◌, ◌||◌, ℕ, Bool, true, false, not, nat_le, nat_lt, List, length, drop, Option, Some, None, inl, inr}
-use Rattle.std.proofs.Common.{slice_index_or, if◌then◌else◌, refl, sym, ap, ◌∙◌, arith}
-use Rattle.std.specs.{Prelude.max, Option.option_map_or}
+use Rattle.std.{proofs.Common.{slice_index_or, if◌then◌else◌, refl, sym, ap, ◌∙◌, arith}, specs.{Prelude.max, Option.option_map_or}}
 use Rattle.std.proofs.lemmas.{Bool.{cases_lt, le-leb, lt-leb, lt-ltb, le-ltb, eq-eqb, ne_eqb, ltb-false, or_parts}, List.length-drop}
-use Rattle.ix_model.specs.{world.{World.{Process, Holding, at, is_pipe}, Contents.{holds_nothing, side, readable}}, rows.OnDescriptors.LengthChecks}
-use Rattle.ix_model.proofs.tables.Blocks.{blocks_from}
+use Rattle.ix_model.{specs.{world.{World.{Process, Holding, at, is_pipe}, Contents.{holds_nothing, side, readable}}, rows.OnDescriptors.LengthChecks}, proofs.tables.Blocks.blocks_from}
 use Rattle.ix_model.specs.rows.Telling.{nothing_told, told_of_read, told_of_write, told_of_file_write, told_of_pipe_write, told_of_cut, blocks_on, blocks_for}
 use Rattle.ix_model.specs.rows.Telling.{blocks_beside, lies_on, fs_of_object, length_then}
 use Rattle.ix_tables.specs.{Parts.Parts, Views.{frame_alone, content_alone, has_room}}
@@ -16,20 +14,20 @@ twice false = refl
 
 nothing_past : (n o : ℕ) → nat_le n o ≡ (n - o == 0)
 nothing_past n o = elim (cases_lt o n) [
-  | inl more ↦ lt-leb n o more ∙ sym (ne_eqb (n - o) 0 (λ e. absurd (omega arith)))
-  | inr low ↦ le-leb n o low ∙ sym (eq-eqb (n - o) 0 (omega arith))
+  | inl more ↦ lt-leb n o more ∙ sym (ne_eqb _ 0 (λ e. absurd (omega arith)))
+  | inr low ↦ le-leb n o low ∙ sym (eq-eqb _ 0 (omega arith))
 ]
 
 -- more than a pipe has room for
 pub past_left : (there n : ℕ) → there ≤ 4096 → nat_lt (4096 - there) n ≡ nat_lt 4096 (there + n)
-past_left there n few = elim (cases_lt (4096 - there) n) [
-  | inl more ↦ lt-ltb (4096 - there) n more ∙ sym (lt-ltb 4096 (there + n) (omega arith))
-  | inr low ↦ le-ltb (4096 - there) n low ∙ sym (le-ltb 4096 (there + n) (omega arith))
+past_left there n few = elim (cases_lt _ n) [
+  | inl more ↦ lt-ltb _ n more ∙ sym (lt-ltb 4096 _ (omega arith))
+  | inr low ↦ le-ltb _ n low ∙ sym (le-ltb 4096 _ (omega arith))
 ]
 
 -- a length that is within the greatest one
 pub then_low : (offset n old : ℕ) → old ≤ 1048576 → offset + n ≤ 1048576 → length_then offset n old ≤ 1048576
-then_low offset n old low past = go (n == 0)
+then_low offset n old low past = go _
   where
     go : (b : Bool) → (if b then old else max old (offset + n)) ≤ 1048576
     go true = low
@@ -38,10 +36,10 @@ then_low offset n old low past = go (n == 0)
 -- a write that isn't too big
 module _ (offset n : ℕ) (small : (nat_lt 4096 n || nat_lt 1048576 (offset + n)) ≡ false) where
   pub few_at : n ≤ 4096
-  few_at = ltb-false 4096 n (or_parts (nat_lt 4096 n) (nat_lt 1048576 (offset + n)) small).0
+  few_at = ltb-false 4096 n (or_parts _ _ small).0
 
   pub ends_at : offset + n ≤ 1048576
-  ends_at = ltb-false 1048576 (offset + n) (or_parts (nat_lt 4096 n) (nat_lt 1048576 (offset + n)) small).1
+  ends_at = ltb-false 1048576 _ (or_parts _ _ small).1
 
 module _ (a : Around) (t : Parts) (ps : List (Option Process)) where
   -- ---- room
@@ -54,7 +52,7 @@ module _ (a : Around) (t : Parts) (ps : List (Option Process)) where
   lies_alone (Some k) m = refl
 
   beside_alone : (o : ℕ) → blocks_beside (frame_alone t) (content_alone t) o ≡ blocks_beside (frame_of a t ps) (world_of a t ps).content o
-  beside_alone o = blocks_from _ _ 0 t.holdings (λ m low. ap (λ b. not (m == o) && b) (lies_alone (fs_of_object (frame_of a t ps) o) m))
+  beside_alone o = blocks_from _ _ 0 _ (λ m low. ap (λ b. not (m == o) && b) (lies_alone (fs_of_object (frame_of a t ps) o) m))
 
   -- whether a file system has too few blocks for a file of that length
   abbrev lacks : ℕ → ℕ → Bool
@@ -64,10 +62,10 @@ module _ (a : Around) (t : Parts) (ps : List (Option Process)) where
   room_is o len = λ i. not (nat_lt (blocks_alone (fs_of_object (frame_of a t ps) o) i) (beside_alone o i + blocks_for len))
 
   lacks_is : (o len : ℕ) (r : Bool) → r ≡ has_room o len t → not r ≡ lacks o len
-  lacks_is o len r is = ap not (is ∙ room_is o len) ∙ twice (lacks o len)
+  lacks_is o len r is = ap not (is ∙ room_is o _) ∙ twice _
 
   has_room_is : (o len : ℕ) → lacks o len ≡ false → has_room o len t ≡ true
-  has_room_is o len h = room_is o len ∙ ap not h
+  has_room_is o len h = room_is o _ ∙ ap not h
 
   module _ (b : OpenFile) where
     abbrev holding : Holding
@@ -91,19 +89,19 @@ module _ (a : Around) (t : Parts) (ps : List (Option Process)) where
     pub told_read_file : (n : ℕ) → Serves t b → on_pipe_there ≡ false → n ≡ length holding.first
         → record nothing_told { empty = nat_le n b.offset } ≡ told_of_read (frame_of a t ps) (world_of a t ps).content (Some (behind_of b))
     told_read_file n s file is =
-        let long : length (drop b.offset holding.first) ≡ n - b.offset = length-drop b.offset holding.first ∙ ap (λ k. k - b.offset) (sym is) in
+        let long = length-drop b.offset holding.first ∙ ap (λ k. k - b.offset) (sym is) in
         let there : drop (slice_index_or t.offsets b.id 0) (side b.end holding) ≡ drop b.offset holding.first = λ i. drop (sym s.offset i) (side (s.first file i) holding) in
-        let same : nat_le n b.offset ≡ (length (drop (slice_index_or t.offsets b.id 0) (side b.end holding)) == 0) = nothing_past n b.offset ∙ ap (λ k. k == 0) (sym long ∙ ap length (sym there)) in
+        let same = nothing_past n _ ∙ ap (λ k. k == 0) (sym long ∙ ap length (sym there)) in
         ap (λ e. record nothing_told { empty = e }) same ∙ sym (read_is ∙ ap read_tells file)
 
     -- ---- cuts
     pub told_cut : (len : ℕ) (r : Bool) → r ≡ has_room b.object len t → record nothing_told { no_space = not r } ≡ told_of_cut (frame_of a t ps) (world_of a t ps).content len (Some (behind_of b))
     unfolding told_of_cut
-    told_cut len r is = ap (λ x. record nothing_told { no_space = x }) (lacks_is b.object len r is)
+    told_cut len r is = ap (λ x. record nothing_told { no_space = x }) (lacks_is _ _ r is)
 
     pub cut_has_room : (len : ℕ) → told_of_cut (frame_of a t ps) (world_of a t ps).content len (Some (behind_of b)) ≡ nothing_told → has_room b.object len t ≡ true
     unfolding told_of_cut
-    cut_has_room len room = has_room_is b.object len (ap (λ (m : LengthChecks). m.no_space) room)
+    cut_has_room len room = has_room_is _ _ (ap (λ m. m.no_space) room)
 
     -- ---- writes
     -- whether a write is too big
@@ -129,7 +127,7 @@ module _ (a : Around) (t : Parts) (ps : List (Option Process)) where
     pub told_file_write : (n old : ℕ) (r : Bool) → Serves t b → on_pipe_there ≡ false → big b.offset n ≡ false → old ≡ length holding.first → r ≡ has_room b.object (length_then b.offset n old) t
         → record nothing_told { no_space = not r } ≡ told_of_file_write (frame_of a t ps) (world_of a t ps).content (behind_of b) n
     told_file_write n old r s file h is room =
-        ap (λ x. record nothing_told { no_space = x }) (lacks_is b.object (length_then b.offset n old) r room ∙ ap (λ k. lacks b.object (length_then b.offset n k)) is)
+        ap (λ x. record nothing_told { no_space = x }) (lacks_is _ _ r room ∙ ap (λ k. lacks b.object (length_then b.offset n k)) is)
         ∙ sym (file_write_here n s file ∙ ap (write_tells b.offset n (length holding.first)) h)
 
     abbrev pick : ℕ → Bool → LengthChecks
@@ -151,7 +149,7 @@ module _ (a : Around) (t : Parts) (ps : List (Option Process)) where
     -- ---- what there is room for
     module _ (n : ℕ) (room : told_of_write (frame_of a t ps) (world_of a t ps).content n (Some (behind_of b)) ≡ nothing_told) where
       pub pipe_room : on_pipe_there ≡ true → length (side (1 - b.end) holding) + n ≤ 4096
-      pipe_room pipe = ltb-false 4096 (length (side (1 - b.end) holding) + n) (ap (λ (m : LengthChecks). m.full) (sym (write_is n ∙ ap (pick n) pipe) ∙ room))
+      pipe_room pipe = ltb-false 4096 _ (ap (λ m. m.full) (sym (write_is n ∙ ap (pick n) pipe) ∙ room))
 
       -- to a file that the open entry is on
       module _ (s : Serves t b) (file : on_pipe_there ≡ false) where
@@ -159,7 +157,7 @@ module _ (a : Around) (t : Parts) (ps : List (Option Process)) where
         here = sym (file_write_here n s file) ∙ sym (write_is n ∙ ap (pick n) file) ∙ room
 
         small : big b.offset n ≡ false
-        small = ap (λ (m : LengthChecks). m.too_big) here
+        small = ap (λ m. m.too_big) here
 
         pub write_few : n ≤ 4096
         write_few = few_at b.offset n small
@@ -168,8 +166,8 @@ module _ (a : Around) (t : Parts) (ps : List (Option Process)) where
         write_ends = ends_at b.offset n small
 
         pub write_low : length_then b.offset n (length holding.first) ≤ 1048576
-        write_low = then_low b.offset n (length holding.first) s.short write_ends
+        write_low = then_low _ n _ s.short write_ends
 
         pub write_has_room : has_room b.object (length_then b.offset n (length holding.first)) t ≡ true
-        write_has_room = has_room_is b.object (length_then b.offset n (length holding.first))
-            (ap (λ p. not p && lacks b.object (length_then b.offset n (length holding.first))) (sym small) ∙ ap (λ (m : LengthChecks). m.no_space) here)
+        write_has_room = has_room_is _ _
+            (ap (λ p. not p && lacks b.object (length_then b.offset n (length holding.first))) (sym small) ∙ ap (λ m. m.no_space) here)

@@ -6,6 +6,6 @@ use Rattle.ix_fcalls.{specs.Counted.IsCounted, proofs.Counting.counted_same}
 
 -- the counts don't see the labels of open entries
 pub counted_marked : (t : Parts) (ps : List (Option Process)) (e : ℕ) (h : Open → Open) → IsCounted t ps → IsCounted (record t { opens = change t.opens e h }) ps
-counted_marked t ps e h c = counted_same t (record t { opens = change t.opens e h }) ps refl refl (length-set t.opens e _) refl c
+counted_marked t ps e h c = counted_same t _ ps refl refl (length-set t.opens e _) refl c
 
 pub ruleset marking = (counted_marked)

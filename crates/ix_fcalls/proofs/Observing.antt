@@ -1,6 +1,6 @@
 -- What the rule of floating says of a process that looks at something.
 use Rattle.std.proofs.Common.{◌≡◌, ℕ, Bool, true, false, not, Ok, Err, Some, None, if◌then◌else◌}
-use Rattle.ix_label.specs.Category.{Categories, join, leq, same}
+use Rattle.ix_label.specs.Category.{Categories, join}
 use Rattle.ix_model.specs.{world.World.{Frame, Process, at, living}, rows.Outcomes.{Refuse, Row}, declared.{refusal.Refusal.Refusal, views.Floating.Floating}}
 use Rattle.ix_model.specs.rows.Rows.{◌>>◌, ◌>>=◌, on_pass, need, some, only_if, pass, refuse, process, change_process, observe}
 use Rattle.ix_model.specs.declared.refusal.Refusal.TheVariants as refusal
@@ -21,6 +21,5 @@ pub looked_in_vain : (f : Frame) (pid : ℕ) (p : Process) (seen : Categories) (
     → p.label ≡ x.label → p.ceiling ≡ x.ceiling → p.frozen ≡ x.frozen
     → Err why ≡ floated refusal.ProcFrozen refusal.ProcCeiling x seen → observe pid seen f ≡ Refuse why f
 unfolding observe ◌>>=◌ on_pass process some pass
-looked_in_vain f pid p seen x why is label ceiling frozen h =
-    rw (is, label, ceiling, frozen) (tests_refuse (same (join x.label seen) x.label) x.frozen (leq (join x.label seen) x.ceiling)
-    (change_process pid (λ q. record q { label = join q.label seen })) f (join x.label seen) why h)
+looked_in_vain f pid p seen x why is label ceiling frozen h = rw (is, label, ceiling, frozen) (tests_refuse _ _ _
+    (change_process pid (λ q. record q { label = join q.label seen })) f _ _ h)

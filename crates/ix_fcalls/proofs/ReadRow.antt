@@ -22,7 +22,7 @@ module _ (t : LengthChecks) (pid fd count : ℕ) (f : Frame) (e : OpenFile) (x :
   pub read_refused : (s : Categories) (why : Refusal) (g : Frame) → s ≡ join x.label e.entry.label → observe pid s f ≡ Refuse why g → read_fd t pid fd count f ≡ Refuse why g
   unfolding read_fd opened frame object some ◌>>=◌ ◌>>◌ on_pass pass need refuse
   read_refused s why g is stops =
-      let refused : observe pid (join x.label e.entry.label) f ≡ Refuse why g = ap (λ (l : Categories). observe pid l f) (sym is) ∙ stops in
+      let refused = ap (λ l. observe pid l f) (sym is) ∙ stops in
       rw (tested.is_behind, tested.reads, tested.is_object, tested.free, tested.few, refused) refl
 
   module _ (g : Frame) (seen : observe pid (join x.label e.entry.label) f ≡ Pass tt g) where

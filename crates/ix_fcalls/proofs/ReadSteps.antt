@@ -1,16 +1,15 @@
 -- What a read comes to as a step of the world.
-use Rattle.std.proofs.Common.{◌≡◌, ◌≤◌, ℕ, true, nat_le, List, length, take, Option, Some, None, refl, sym, ap, subst, ◌∙◌}
-use Rattle.std.proofs.lemmas.Bool.{leb-true}
+use Rattle.std.proofs.{Common.{◌≡◌, ◌≤◌, ℕ, true, nat_le, List, length, take, Option, Some, None, refl, sym, ap, subst, ◌∙◌}, lemmas.Bool.leb-true}
 use Rattle.ix_model.specs.{world.{World.{World, Frame, Process}, Contents.{readable, after_read}}, laws.Sound.Sound, rows.OnDescriptors.{LengthChecks, read_fd}}
-use Rattle.ix_model.specs.{rows.Table.{verdict, row}, rows.Telling.{told, nothing_told, told_of_read}, rows.Walks.{OpenFile, behind}, rows.Rows.observe}
+use Rattle.ix_model.specs.rows.{Table.{verdict, row}, Telling.{told, nothing_told, told_of_read}, Walks.{OpenFile, behind}, Rows.observe}
 use Rattle.ix_model.specs.{history.{Step.{step, answer, plainly, edited, read_answer, put_front}, AuditLog.is_answer}, declared.reply.Reply.Reply}
-use Rattle.ix_model.specs.history.Events as op
-use Rattle.ix_model.specs.declared.reply.Reply.TheVariants as reply
 use Rattle.ix_model.proofs.{frames.Floats.Floats, words.{Ends.{Ends, Anything, ending}, Looks.{ends_observe, ends_float_entry}, Answered.passed}}
 use Rattle.ix_label.specs.Category.{Categories}
 use Rattle.ix_tables.specs.Parts.{Parts}
 use Rattle.ix_fcalls.specs.{Around.{Around, frame_of, world_of}, Counted.Keeps, Filed.Answers}
 use Rattle.ix_fcalls.proofs.{Answering.{answers_said, answers_edited}, Unmoved.{floats_read, readable_same, after_read_same, content_same}}
+use Rattle.ix_model.specs.history.Events as op
+use Rattle.ix_model.specs.declared.reply.Reply.TheVariants as reply
 
 read_none : (w : World) (place pid fd count : ℕ) → behind w.frame pid fd ≡ None → step w place pid (op.ReadFd fd count) ≡ plainly w (verdict nothing_told place pid (op.ReadFd fd count) w.frame)
 unfolding step answer told told_of_read read_answer
@@ -33,7 +32,7 @@ unfolding read_answer
 was_read w count e r g k is = rw is refl
 
 any_observe : (pid : ℕ) (seen : Categories) (f : Frame) (Q : Unit {0} → Frame → Type 0) → ((g : Frame) → Q tt g) → Ends (observe pid seen f) Anything Q
-any_observe pid seen f Q h = ends_observe pid seen f Anything Q (λ why. tt) (h f) (λ p lives low. h _)
+any_observe pid seen f Q h = ends_observe _ _ f _ Q (λ why. tt) (h f) (λ p lives low. h _)
 
 few_ends : (m : LengthChecks) (pid fd count : ℕ) (f : Frame) → Ends (read_fd m pid fd count f) Anything (λ r g. nat_le count 4096 ≡ true)
 unfolding read_fd
@@ -41,38 +40,37 @@ few_ends m pid fd count f = search (ending, any_observe, ends_float_entry) depth
 
 few_decided : (m : LengthChecks) (place pid fd count : ℕ) (f : Frame) (k : ℕ) → (verdict m place pid (op.ReadFd fd count) f).reply ≡ reply.Bytes k → count ≤ 4096
 unfolding row
-few_decided m place pid fd count f k h = leb-true count 4096 (passed m place pid (op.ReadFd fd count) f (λ r g. nat_le count 4096 ≡ true) (few_ends m pid fd count f) (ap is_answer h))
+few_decided m place pid fd count f k h = leb-true count 4096 (passed m _ _ _ f (λ r g. nat_le count 4096 ≡ true) (few_ends m _ fd _ f) (ap is_answer h))
 
 module _ (a : Around) (t u : Parts) (ps qs : List (Option Process)) (fd count : ℕ) (m : LengthChecks) (r : Reply) (sound : Sound (world_of a t ps)) (kept : Keeps t u)
     (said : r ≡ (verdict m a.place a.pid (op.ReadFd fd count) (frame_of a t ps)).reply) (stands : frame_of a u qs ≡ (verdict m a.place a.pid (op.ReadFd fd count) (frame_of a t ps)).frame) where
   pub read_floats : Floats (frame_of a t ps) (frame_of a u qs)
-  read_floats = subst (λ (g : Frame). Floats (frame_of a t ps) g) (sym stands) (floats_read m a.place a.pid fd count (frame_of a t ps))
+  read_floats = subst (λ g. Floats (frame_of a t ps) g) (sym stands) (floats_read m _ _ fd _ _)
 
   -- a read that passed asked for at most 4,096 bytes
   pub read_few : (k : ℕ) → r ≡ reply.Bytes k → count ≤ 4096
-  read_few k bytes = few_decided m a.place a.pid fd count (frame_of a t ps) k (sym said ∙ bytes)
+  read_few k bytes = few_decided m _ _ fd _ _ k (sym said ∙ bytes)
 
   pub answers_read_none : (buf : List ℕ) → behind (frame_of a t ps) a.pid fd ≡ None → m ≡ nothing_told → Answers (step (world_of a t ps) a.place a.pid (op.ReadFd fd count)) (world_of a u qs) r buf buf
-  answers_read_none buf none is = answers_said a t u ps qs (op.ReadFd fd count) m refl sound kept stands r buf said
-      (read_none (world_of a t ps) a.place a.pid fd count none ∙ ap (λ n. plainly (world_of a t ps) (verdict n a.place a.pid (op.ReadFd fd count) (frame_of a t ps))) (sym is))
+  answers_read_none buf none is = answers_said a t u ps qs _ m refl sound kept stands r _ said
+      (read_none _ _ _ fd _ none ∙ ap (λ n. plainly (world_of a t ps) (verdict n a.place a.pid (op.ReadFd fd count) (frame_of a t ps))) (sym is))
 
   module _ (e : OpenFile) (some : behind (frame_of a t ps) a.pid fd ≡ Some e) (is : m ≡ told_of_read (frame_of a t ps) (world_of a t ps).content (Some e)) where
     pub answers_unread : (buf : List ℕ) → ((k : ℕ) → r ≡ reply.Bytes k → ⊥) → Answers (step (world_of a t ps) a.place a.pid (op.ReadFd fd count)) (world_of a u qs) r buf buf
-    answers_unread buf not = answers_said a t u ps qs (op.ReadFd fd count) m refl sound kept stands r buf said
-        (read_some (world_of a t ps) a.place a.pid fd count e m some is ∙ unread (world_of a t ps) count e _ _ (λ k b. not k (said ∙ b)))
+    answers_unread buf not = answers_said a t u ps qs _ m refl sound kept stands r _ said
+        (read_some _ _ _ fd _ e m some is ∙ unread _ _ e _ _ (λ k b. not k (said ∙ b)))
 
     pub answers_read : (v : Parts) (k n : ℕ) (before after : List ℕ) → r ≡ reply.Bytes k → n ≡ length (take count (readable (frame_of a u qs) (world_of a u qs).content e))
         → after ≡ put_front (take count (readable (frame_of a u qs) (world_of a u qs).content e)) before
         → frame_of a v qs ≡ frame_of a u qs → (world_of a v qs).content ≡ after_read (frame_of a u qs) e n (world_of a u qs).content
         → Answers (step (world_of a t ps) a.place a.pid (op.ReadFd fd count)) (world_of a v qs) (reply.Bytes n) before after
     answers_read v k n before after bytes long front same moved =
-        let bs : List ℕ = take count (readable (frame_of a t ps) (world_of a t ps).content e) in
-        let there : take count (readable (frame_of a u qs) (world_of a u qs).content e) ≡ bs =
-        ap (take count) (readable_same (frame_of a t ps) (frame_of a u qs) read_floats (world_of a u qs).content e ∙ ap (λ c. readable (frame_of a t ps) c e) (content_same a t u ps qs kept)) in
-        let count_is : n ≡ length bs = long ∙ ap (λ (xs : List ℕ). length xs) there in
+        let bs = take _ _ in
+        let there =
+        ap (take _) (readable_same _ _ read_floats _ e ∙ ap (λ c. readable (frame_of a t ps) c e) (content_same a t u ps qs kept)) in
+        let count_is = long ∙ ap (λ xs. length xs) there in
         subst (λ j. Answers (step (world_of a t ps) a.place a.pid (op.ReadFd fd count)) (world_of a v qs) (reply.Bytes j) before after) (sym count_is)
-        (answers_edited a t u ps qs (op.ReadFd fd count) m refl sound kept stands v (reply.Bytes (length bs)) bs before after (after_read (frame_of a t ps) e (length bs))
-        (read_some (world_of a t ps) a.place a.pid fd count e m some is ∙ was_read (world_of a t ps) count e _ _ k (sym said ∙ bytes))
-        same
-        (moved ∙ after_read_same (frame_of a t ps) (frame_of a u qs) read_floats e n (world_of a u qs).content ∙ ap (λ j. after_read (frame_of a t ps) e j (world_of a u qs).content) count_is)
-        (front ∙ ap (λ (xs : List ℕ). put_front xs before) there))
+        (answers_edited a t u ps qs _ m refl sound kept stands v _ bs _ _ (after_read (frame_of a t ps) e (length bs))
+        (read_some _ _ _ fd _ e m some is ∙ was_read _ _ e _ _ k (sym said ∙ bytes))
+        same (moved ∙ after_read_same _ _ read_floats e n _ ∙ ap (λ j. after_read (frame_of a t ps) e j (world_of a u qs).content) count_is)
+        (front ∙ ap (λ xs. put_front xs before) there))

@@ -1,10 +1,8 @@
 -- What is carried over where some of what stood is gone.
 use Rattle.std.proofs.Common.{◌≡◌, ◌≢◌, ◌<◌, ◌&&◌, ℕ, zero, suc, Bool, true, false, List, [], ◌∷◌, length, Option, Some, None, is_some, refl, sym, ap, ◌∙◌, set}
-use Rattle.std.proofs.Common.{arith, get_or, length-set, if◌then◌else◌, inl, inr}
-use Rattle.std.proofs.lemmas.{Bool.Decides.eqb_tells, List.{same_lists, get_or_default, get_or-set_other}}
-use Rattle.ix_model.specs.{world.{World.{World, at, put, change}, Contents.{keep, carried, holds_nothing}}, laws.Clean.IsClean}
+use Rattle.std.proofs.{Common.{arith, get_or, length-set, if◌then◌else◌, inl, inr}, lemmas.{Bool.Decides.eqb_tells, List.{same_lists, get_or_default, get_or-set_other}}}
+use Rattle.ix_model.{specs.{world.{World.{World, at, put, change}, Contents.{keep, carried}}, laws.Clean.IsClean}, proofs.words.Lasts.{Lasts, lasting_itself}}
 use Rattle.ix_model.proofs.{tables.{Tables.seen_changed, Finds.{at_put, passes_some}}, clean.Carrying.{length-keep, get_or-keep, carried_same}}
-use Rattle.ix_model.proofs.words.Lasts.{Lasts, lasting_itself}
 use Rattle.ix_fcalls.specs.Remaining.{Remains, Leaves}
 
 -- ---- one table
@@ -35,7 +33,7 @@ module _ {A B : Type 0} (d : A) where
 
   pub remains_changed : (t u : List (Option B)) (xs ys : List A) (n : ℕ) (h : B → B) → Remains d t u xs ys → Remains d t (change u n h) xs ys
   remains_changed t u xs ys n h r =
-      let seen : (m : ℕ) → is_some (at (change u n h) m) ≡ is_some (at u m) = seen_changed is_some h (λ x. refl) u n in
+      let seen = seen_changed is_some h (λ x. refl) u n in
       record {
         count = r.count;
         stood = λ m is. r.stood m (sym (seen m) ∙ is);
@@ -45,8 +43,8 @@ module _ {A B : Type 0} (d : A) where
 
   stood_but : (u : List (Option B)) (n m : ℕ) → is_some (at (put u n None) m) ≡ true → (m ≢ n) × (is_some (at u m) ≡ true)
   stood_but u n m is =
-      let x = passes_some is_some refl (at (put u n None) m) is in
-      elim (at_put u n m None x.0 x.1) [
+      let x = passes_some is_some refl _ is in
+      elim (at_put u n m _ _ x.1) [
         | inl here ↦ let h : None ≡ Some x.0 = here.1 in cc
         | inr other ↦ (other.0, ap is_some other.1)
       ]
@@ -77,9 +75,8 @@ module _ {A B : Type 0} (d : A) where
   kept_remains : (t u : List (Option B)) (xs ys : List A) → Remains d t u xs ys → keep d (λ n. is_some (at t n) && is_some (at u n)) 0 xs ≡ ys
   kept_remains t u xs ys r = same_lists _ _ (length-keep d _ 0 xs ∙ sym r.count) (λ k e h.
       let within : k < length ys = omega (arith, length-keep d (λ n. is_some (at t n) && is_some (at u n)) 0 xs, r.count) in
-      get_or_default _ k e d h ∙ get_or-keep d (λ n. is_some (at t n) && is_some (at u n)) 0 xs k
-      ∙ ap (λ m. if is_some (at t m) && is_some (at u m) then get_or xs k d else d) (omega arith)
-      ∙ go k (is_some (at u k)) refl ∙ get_or_default ys k d e within)
+      get_or_default _ k e d h ∙ get_or-keep d _ 0 xs k ∙ ap (λ m. if is_some (at t m) && is_some (at u m) then get_or xs k d else d) (omega arith)
+      ∙ go k _ refl ∙ get_or_default ys k d e within)
     where
       dropped : (b : Bool) (x : A) → (if b && false then x else d) ≡ d
       dropped true x = refl
@@ -87,13 +84,13 @@ module _ {A B : Type 0} (d : A) where
 
       go : (k : ℕ) (b : Bool) → is_some (at u k) ≡ b → (if is_some (at t k) && is_some (at u k) then get_or xs k d else d) ≡ get_or ys k d
       go k true is = (λ i. if r.stood k is i && is i then get_or xs k d else d) ∙ sym (r.same k is)
-      go k false is = ap (λ c. if is_some (at t k) && c then get_or xs k d else d) is ∙ dropped (is_some (at t k)) (get_or xs k d) ∙ sym (r.gone k is)
+      go k false is = ap (λ c. if is_some (at t k) && c then get_or xs k d else d) is ∙ dropped _ _ ∙ sym (r.gone k is)
 
 -- ---- worlds
 pub leaves_itself : (w : World) → IsClean w → Leaves w w
 leaves_itself w clean = record {
-  objects = remains_itself holds_nothing w.frame.objects w.content.holdings clean.holdings;
-  opens = remains_itself 0 w.frame.opens w.content.offsets clean.offsets;
+  objects = remains_itself _ _ w.content.holdings clean.holdings;
+  opens = remains_itself 0 _ w.content.offsets clean.offsets;
   ended = λ p. refl;
   processes = refl;
   statuses = refl;
@@ -101,8 +98,8 @@ leaves_itself w clean = record {
 
 pub leaves_twice : (u v w : World) → Leaves u v → Leaves v w → Leaves u w
 leaves_twice u v w r s = record {
-  objects = remains_twice holds_nothing u.frame.objects v.frame.objects w.frame.objects _ _ _ r.objects s.objects;
-  opens = remains_twice 0 u.frame.opens v.frame.opens w.frame.opens _ _ _ r.opens s.opens;
+  objects = remains_twice _ _ _ _ _ _ _ r.objects s.objects;
+  opens = remains_twice 0 _ _ _ _ _ _ r.opens s.opens;
   ended = λ p. s.ended p ∙ r.ended p;
   processes = s.processes ∙ r.processes;
   statuses = s.statuses ∙ r.statuses;
@@ -113,7 +110,7 @@ pub leaves_clean : (v w : World) → IsClean v → Leaves v w → IsClean w
 leaves_clean v w clean r = record {
   holdings = r.objects.gone;
   offsets = r.opens.gone;
-  statuses = λ p alive. ap (λ (ss : List ℕ). get_or ss p 0) r.statuses ∙ clean.statuses p (sym (r.ended p) ∙ alive);
+  statuses = λ p alive. ap (λ ss. get_or ss p 0) r.statuses ∙ clean.statuses p (sym (r.ended p) ∙ alive);
   count = ap length r.statuses ∙ clean.count ∙ sym r.processes;
 }
 
@@ -121,11 +118,11 @@ pub left_carried : (v w : World) → IsClean v → Leaves v w → w.content ≡ 
 unfolding carried
 left_carried v w clean r =
     let lasts : Lasts v.frame (record v.frame { processes = w.frame.processes }) = record {
-      objects = lasting_itself v.frame.objects;
-      opens = lasting_itself v.frame.opens;
+      objects = lasting_itself _;
+      opens = lasting_itself _;
       processes = record { stays = λ p is. r.ended p ∙ is; count = r.processes };
     } in
-    let whole = carried_same v (record v.frame { processes = w.frame.processes }) lasts clean in
-    let hs = kept_remains holds_nothing v.frame.objects w.frame.objects v.content.holdings w.content.holdings r.objects in
-    let ps = kept_remains 0 v.frame.opens w.frame.opens v.content.offsets w.content.offsets r.opens in
+    let whole = carried_same v _ lasts clean in
+    let hs = kept_remains _ _ _ _ w.content.holdings r.objects in
+    let ps = kept_remains 0 _ _ _ w.content.offsets r.opens in
     λ i. record { holdings = sym hs i; offsets = sym ps i; statuses = (r.statuses ∙ sym (ap (λ c. c.statuses) whole)) i }

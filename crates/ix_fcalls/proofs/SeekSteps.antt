@@ -1,17 +1,15 @@
 -- What a seek comes to as a step of the world.
 use Rattle.std.proofs.Common.{◌≡◌, ℕ, true, false, nat_le, List, [], Option, Some, None, refl, sym, ap, subst, ◌∙◌, slice_set}
 use Rattle.ix_label.specs.Category.{join}
-use Rattle.ix_model.specs.{world.{World.{World, Frame, Object, Process, at, change, living, is_pipe}, Contents.after_seek}, laws.Sound.Sound}
-use Rattle.ix_model.specs.{rows.Outcomes.{Refuse, Pass}, rows.OnDescriptors.{seek_fd, float_entry}, rows.Table.verdict, rows.Telling.{told, nothing_told}}
+use Rattle.ix_model.{specs.{world.{World.{World, Frame, Object, Process, at, change, living, is_pipe}, Contents.after_seek}, laws.Sound.Sound}, proofs.frames.Floats.Floats}
+use Rattle.ix_model.specs.rows.{Outcomes.{Refuse, Pass}, OnDescriptors.{seek_fd, float_entry}, Table.verdict, Telling.{told, nothing_told}}
 use Rattle.ix_model.specs.{rows.Walks.{OpenFile, behind, opened}, history.Step.{step, answer, plainly, edited, seek_answer}, declared.reply.Reply.Reply}
-use Rattle.ix_model.specs.declared.refusal.Refusal.TheVariants as refusal
 use Rattle.ix_model.specs.rows.Rows.{◌>>=◌, ◌>>◌, on_pass, pass, need, some, only_if, refuse, frame, object, process, change_open}
+use Rattle.ix_tables.specs.Parts.{Parts}
+use Rattle.ix_fcalls.{specs.{Around.{Around, frame_of, world_of}, Counted.Keeps, Filed.Answers}, proofs.{Answering.{answers_said, answers_edited}, Unmoved.floats_seek}}
+use Rattle.ix_model.specs.declared.refusal.Refusal.TheVariants as refusal
 use Rattle.ix_model.specs.history.Events as op
 use Rattle.ix_model.specs.declared.reply.Reply.TheVariants as reply
-use Rattle.ix_model.proofs.frames.Floats.{Floats}
-use Rattle.ix_tables.specs.Parts.{Parts}
-use Rattle.ix_fcalls.specs.{Around.{Around, frame_of, world_of}, Counted.Keeps, Filed.Answers}
-use Rattle.ix_fcalls.proofs.{Answering.{answers_said, answers_edited}, Unmoved.floats_seek}
 
 -- ---- the row
 module _ (pid fd offset : ℕ) (f : Frame) (e : OpenFile) (x : Object) (is : behind f pid fd ≡ Some e) (there : at f.objects e.entry.object ≡ Some x) where
@@ -53,20 +51,18 @@ module _ (a : Around) (t u : Parts) (ps qs : List (Option Process)) (fd offset :
     (said : r ≡ (verdict nothing_told a.place a.pid (op.SeekFd fd offset) (frame_of a t ps)).reply) (stands : frame_of a u qs
     ≡ (verdict nothing_told a.place a.pid (op.SeekFd fd offset) (frame_of a t ps)).frame) where
   pub seek_floats : Floats (frame_of a t ps) (frame_of a u qs)
-  seek_floats = subst (λ (g : Frame). Floats (frame_of a t ps) g) (sym stands) (floats_seek nothing_told a.place a.pid fd offset (frame_of a t ps))
+  seek_floats = subst (λ g. Floats (frame_of a t ps) g) (sym stands) (floats_seek _ _ _ fd _ _)
 
   pub answers_seek_none : (buf : List ℕ) → behind (frame_of a t ps) a.pid fd ≡ None → Answers (step (world_of a t ps) a.place a.pid (op.SeekFd fd offset)) (world_of a u qs) r buf buf
-  answers_seek_none buf none = answers_said a t u ps qs (op.SeekFd fd offset) nothing_told refl sound kept stands r buf said (seek_none (world_of a t ps) a.place a.pid fd offset none)
+  answers_seek_none buf none = answers_said a t u ps qs _ _ refl sound kept stands r _ said (seek_none _ _ _ fd _ none)
 
   module _ (e : OpenFile) (some : behind (frame_of a t ps) a.pid fd ≡ Some e) where
     pub answers_unsought : (buf : List ℕ) → (r ≡ reply.Done → ⊥) → Answers (step (world_of a t ps) a.place a.pid (op.SeekFd fd offset)) (world_of a u qs) r buf buf
-    answers_unsought buf not = answers_said a t u ps qs (op.SeekFd fd offset) nothing_told refl sound kept stands r buf said
-        (seek_some (world_of a t ps) a.place a.pid fd offset e some ∙ unsought (world_of a t ps) offset e _ _ (λ done. not (said ∙ done)))
+    answers_unsought buf not = answers_said a t u ps qs _ _ refl sound kept stands r _ said
+        (seek_some _ _ _ fd _ e some ∙ unsought _ _ e _ _ (λ done. not (said ∙ done)))
 
     pub answers_seek : (v : Parts) (buf : List ℕ) → r ≡ reply.Done → v ≡ record u { offsets = slice_set u.offsets e.id offset }
         → Answers (step (world_of a t ps) a.place a.pid (op.SeekFd fd offset)) (world_of a v qs) reply.Done buf buf
     unfolding after_seek
-    answers_seek v buf done moved =
-        answers_edited a t u ps qs (op.SeekFd fd offset) nothing_told refl sound kept stands v reply.Done [] buf buf (after_seek e offset)
-        (seek_some (world_of a t ps) a.place a.pid fd offset e some ∙ did_seek (world_of a t ps) offset e _ _ (sym said ∙ done))
-        (ap (λ x. frame_of a x qs) moved) (ap (λ x. (world_of a x qs).content) moved) refl
+    answers_seek v buf done moved = answers_edited a t u ps qs _ _ refl sound kept stands v _ [] _ _ (after_seek e offset)
+        (seek_some _ _ _ fd _ e some ∙ did_seek _ _ e _ _ (sym said ∙ done)) (ap (λ x. frame_of a x qs) moved) (ap (λ x. (world_of a x qs).content) moved) refl

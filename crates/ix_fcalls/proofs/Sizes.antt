@@ -1,5 +1,5 @@
 -- How much there is at an end of an object, by what is told of it.
-use Rattle.std.proofs.Common.{◌≡◌, ◌<◌, ◌≤◌, ◌==◌, nat_lt, ◌&&◌, ◌||◌, ℕ, Bool, true, false, Option, Some, None, length, if◌then◌else◌, refl, sym, ap, ◌∙◌}
+use Rattle.std.proofs.Common.{◌≡◌, ◌<◌, ◌≤◌, ◌==◌, nat_lt, ◌||◌, ℕ, Bool, true, false, Some, None, length, if◌then◌else◌, refl, sym, ap, ◌∙◌}
 use Rattle.std.{specs.Option.option_and_then, proofs.lemmas.Bool.{eq-eqb, eqb-true, false_from_ne_true, le-ltb, lt-ltb}}
 use Rattle.ix_model.specs.{world.{World.{Object, at}, Contents.{held_at, side}}, history.Views.has_side, rows.Walks.node, declared.reply.Kind.Kind}
 use Rattle.ix_model.specs.declared.reply.Kind.TheVariants as kind
@@ -17,10 +17,10 @@ or_false true = refl
 or_false false = refl
 
 by_kind : (x : Object) (end : ℕ) → has_side x end ≡ kind_has x.kind end
-by_kind x end = go x.kind
+by_kind x end = go _
   where
     go : (k : Kind) → has_side (record x { kind = k }) end ≡ kind_has k end
-    go kind.File = or_false (end == 0)
+    go kind.File = or_false _
     go kind.Pipe = refl
     go kind.Dir = refl
 
@@ -31,8 +31,7 @@ module _ (t : Parts) (o end : ℕ) where
 
   told : (r : ObjectRow) → Shows t.objects o (Some r) → size_in t o end ≡ (if kind_has r.kind end then Some (length (side end (held_at t.holdings o))) else None)
   unfolding size_in
-  told r shown =
-      ap (λ a. option_and_then (λ x. if has_side x end then Some (length (side end (held_at t.holdings o))) else None) a) shown
+  told r shown = ap (λ a. option_and_then (λ x. if has_side x end then Some (length (side end (held_at t.holdings o))) else None) a) shown
       ∙ ap (λ b. if b then Some (length (side end (held_at t.holdings o))) else None) (by_kind (object_by (node t.objects o) r) end)
 
   there : (r : ObjectRow) (n : ℕ) → Shows t.objects o (Some r) → kind_has r.kind end ≡ true → n ≡ length (side end (held_at t.holdings o)) → Some n ≡ size_in t o end
@@ -48,7 +47,7 @@ module _ (t : Parts) (o end : ℕ) where
   size_of_pipe r n shown pipe low is = there r n shown (ap (λ k. kind_has k end) pipe ∙ lt-ltb end 2 low) is
 
   pub no_size_of_file : (r : ObjectRow) → Shows t.objects o (Some r) → r.kind ≡ kind.File → (end ≡ 0 → ⊥) → None ≡ size_in t o end
-  no_size_of_file r shown file other = not_there r shown (ap (λ k. kind_has k end) file ∙ false_from_ne_true (end == 0) (λ h. other (eqb-true end 0 h)))
+  no_size_of_file r shown file other = not_there r shown (ap (λ k. kind_has k end) file ∙ false_from_ne_true _ (λ h. other (eqb-true end 0 h)))
 
   pub no_size_of_pipe : (r : ObjectRow) → Shows t.objects o (Some r) → r.kind ≡ kind.Pipe → 2 ≤ end → None ≡ size_in t o end
   no_size_of_pipe r shown pipe high = not_there r shown (ap (λ k. kind_has k end) pipe ∙ le-ltb end 2 high)

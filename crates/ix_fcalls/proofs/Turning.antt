@@ -23,7 +23,7 @@ world_there place pid w t ps parts same = λ i. world_of (around place pid w) (p
 
 pub answers_there : (place pid : ℕ) (w : World) (c : Op) (t : Parts) (ps : List (Option Process)) (v : World) (r : Reply) (before after : List ℕ) → t ≡ parts_of w → ps ≡ w.frame.processes
     → Answers (step (world_of (around place pid w) t ps) place pid c) v r before after → Answers (step w place pid c) v r before after
-answers_there place pid w c t ps v r before after parts same = subst (λ (x : World). Answers (step x place pid c) v r before after) (world_there place pid w t ps parts same)
+answers_there place pid w c t ps v r before after parts same = subst (λ x. Answers (step x place pid c) v r before after) (world_there place pid w t ps parts same)
 
 -- parts that are counted are those of their world
 pub parts_after : (a : Around) (t : Parts) (ps : List (Option Process)) (w : World) → world_of a t ps ≡ w → IsCounted t ps → t ≡ parts_of w

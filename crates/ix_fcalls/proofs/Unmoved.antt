@@ -1,31 +1,28 @@
 -- What calls on bytes leave as it was: the frame but for labels, and so what lengths tell and what there is to read.
-use Rattle.std.proofs.Common.{◌≡◌, ◌==◌, ◌+◌, ◌-◌, ◌++◌, ℕ, Bool, false, not, ◌&&◌, ◌||◌, nat_lt, List, length, drop, Option, Some, None, refl, ap, ◌∙◌}
-use Rattle.std.proofs.Common.{if◌then◌else◌, slice_set}
+use Rattle.std.proofs.Common.{◌≡◌, ◌==◌, ◌+◌, ◌-◌, ◌++◌, ℕ, Bool, false, not, ◌&&◌, ◌||◌, nat_lt, List, length, drop, Option, Some, None, refl, ap, ◌∙◌, if◌then◌else◌, slice_set}
 use Rattle.std.specs.Option.{option_map_or, option_and_then}
-use Rattle.ix_model.specs.{world.World.{Frame, Content, Process, is_pipe, fs_at}, declared.config.FsSpec.FsSpec}
-use Rattle.ix_model.specs.rows.{OnDescriptors.{LengthChecks, seek_fd, float_entry}, Table.{verdict, row}, Walks.{OpenFile, opened}}
+use Rattle.ix_model.specs.{world.World.{Frame, Content, Process, is_pipe, fs_at}, rows.{OnDescriptors.{LengthChecks, seek_fd, float_entry}, Table.{verdict, row}, Walks.{OpenFile, opened}}}
 use Rattle.ix_model.specs.world.Contents.{on_pipe, readable, after_read, after_write, side, change_side, holding_of, offset_of, spliced}
 use Rattle.ix_model.specs.rows.Telling.{nothing_told, told_of_write, told_of_file_write, told_of_pipe_write, told_of_cut, blocks_on, blocks_beside, blocks_for}
-use Rattle.ix_model.specs.rows.Telling.{blocks_where, lies_on, fs_of_object, length_then}
-use Rattle.ix_model.specs.history.Events as op
+use Rattle.ix_model.{specs.rows.Telling.{blocks_where, lies_on, fs_of_object, length_then}, proofs.frames.Floats.{Floats, floats_itself, floats_change_open}}
 use Rattle.ix_model.proofs.{tables.{Blocks.blocks_from, Tables.seen_same}, words.{Keeps.{Keeps as KeepsRow, keeping}, Lasts.decided}}
-use Rattle.ix_model.proofs.frames.Floats.{Floats, floats_itself, floats_change_open, object_but}
 use Rattle.ix_model.proofs.sound.FloatingRows.{floats_read_fd, floats_write_fd, floats_cut_fd}
 use Rattle.ix_tables.specs.Parts.{Parts}
 use Rattle.ix_fcalls.specs.{Around.{Around, world_of}, Counted.Keeps}
+use Rattle.ix_model.specs.history.Events as op
 
 -- ---- these calls change labels alone in the frame
 pub floats_read : (m : LengthChecks) (place pid fd count : ℕ) (f : Frame) → Floats f (verdict m place pid (op.ReadFd fd count) f).frame
 unfolding row
-floats_read m place pid fd count f = decided (Floats f) m place pid (op.ReadFd fd count) f (floats_itself f) ((floats_read_fd f m pid fd count).led f (floats_itself f))
+floats_read m place pid fd count f = decided (Floats f) m place pid (op.ReadFd fd count) f (floats_itself f) ((floats_read_fd f m _ fd _).led f (floats_itself f))
 
 pub floats_write : (m : LengthChecks) (place pid fd : ℕ) (new : List ℕ) (f : Frame) → Floats f (verdict m place pid (op.WriteFd fd new) f).frame
 unfolding row
-floats_write m place pid fd new f = decided (Floats f) m place pid (op.WriteFd fd new) f (floats_itself f) ((floats_write_fd f m pid fd).led f (floats_itself f))
+floats_write m place pid fd new f = decided (Floats f) m place pid (op.WriteFd fd new) f (floats_itself f) ((floats_write_fd f m _ fd).led f (floats_itself f))
 
 pub floats_cut : (m : LengthChecks) (place pid fd len : ℕ) (f : Frame) → Floats f (verdict m place pid (op.CutFd fd len) f).frame
 unfolding row
-floats_cut m place pid fd len f = decided (Floats f) m place pid (op.CutFd fd len) f (floats_itself f) ((floats_cut_fd f m pid fd len).led f (floats_itself f))
+floats_cut m place pid fd len f = decided (Floats f) m place pid (op.CutFd fd len) f (floats_itself f) ((floats_cut_fd f m _ fd _).led f (floats_itself f))
 
 floats_seek_fd : (f : Frame) (pid fd offset : ℕ) → KeepsRow (Floats f) (seek_fd pid fd offset)
 unfolding seek_fd opened float_entry
@@ -33,37 +30,34 @@ floats_seek_fd f pid fd offset = search (keeping, floats_change_open) depth 40
 
 pub floats_seek : (m : LengthChecks) (place pid fd offset : ℕ) (f : Frame) → Floats f (verdict m place pid (op.SeekFd fd offset) f).frame
 unfolding row
-floats_seek m place pid fd offset f = decided (Floats f) m place pid (op.SeekFd fd offset) f (floats_itself f) ((floats_seek_fd f pid fd offset).led f (floats_itself f))
+floats_seek m place pid fd offset f = decided (Floats f) m place pid (op.SeekFd fd offset) f (floats_itself f) ((floats_seek_fd f _ fd _).led f (floats_itself f))
 
 -- ---- what labels don't change
 module _ (f g : Frame) (r : Floats f g) where
   pub pipe_same : (e : OpenFile) → on_pipe g e ≡ on_pipe f e
-  pipe_same e = seen_same object_but (λ x. option_map_or is_pipe x false) (λ x. refl) f.objects g.objects r.objects e.entry.object
+  pipe_same e = seen_same _ (λ x. option_map_or is_pipe x false) (λ x. refl) _ _ r.objects e.entry.object
 
   fs_same : (o : ℕ) → fs_of_object g o ≡ fs_of_object f o
-  fs_same o = seen_same object_but (λ x. option_and_then (λ y. y.fs) x) (λ x. refl) f.objects g.objects r.objects o
+  fs_same o = seen_same _ (λ x. option_and_then (λ y. y.fs) x) (λ x. refl) _ _ r.objects o
 
   lies_same : (k : Option ℕ) (o : ℕ) → lies_on g k o ≡ lies_on f k o
   lies_same None o = refl
-  lies_same (Some k) o = seen_same object_but (λ x. option_map_or (λ y. option_map_or (λ j. j == k) y.fs false) x false) (λ x. refl) f.objects g.objects r.objects o
+  lies_same (Some k) o = seen_same _ (λ x. option_map_or (λ y. option_map_or (λ j. j == k) y.fs false) x false) (λ x. refl) _ _ r.objects o
 
   blocks_same : (k : Option ℕ) → blocks_on g k ≡ blocks_on f k
   blocks_same None = refl
-  blocks_same (Some k) = ap (λ (fss : List FsSpec). (fs_at fss k).blocks) r.fss
+  blocks_same (Some k) = ap (λ fss. (fs_at fss k).blocks) r.fss
 
   all_same : (o : ℕ) → blocks_on g (fs_of_object g o) ≡ blocks_on f (fs_of_object f o)
-  all_same o = ap (blocks_on g) (fs_same o) ∙ blocks_same (fs_of_object f o)
+  all_same o = ap (blocks_on g) (fs_same o) ∙ blocks_same _
 
   beside_same : (c : Content) (o : ℕ) → blocks_beside g c o ≡ blocks_beside f c o
-  beside_same c o =
-      ap (λ k. blocks_where (λ m. not (m == o) && lies_on g k m) 0 c.holdings) (fs_same o)
-      ∙ blocks_from _ _ 0 c.holdings (λ m low. ap (λ b. not (m == o) && b) (lies_same (fs_of_object f o) m))
+  beside_same c o = ap (λ k. blocks_where (λ m. not (m == o) && lies_on g k m) 0 c.holdings) (fs_same o)
+      ∙ blocks_from _ _ 0 _ (λ m low. ap (λ b. not (m == o) && b) (lies_same (fs_of_object f o) m))
 
   pub told_write_same : (c : Content) (n : ℕ) (e : OpenFile) → told_of_write g c n (Some e) ≡ told_of_write f c n (Some e)
   unfolding told_of_write
-  told_write_same c n e =
-      ap (λ p. if p then piped else told_of_file_write g c e n) (pipe_same e)
-      ∙ ap (λ (t : LengthChecks). if on_pipe f e then piped else t) file
+  told_write_same c n e = ap (λ p. if p then piped else told_of_file_write g c e n) (pipe_same e) ∙ ap (λ t. if on_pipe f e then piped else t) file
     where
       piped : LengthChecks
       piped = told_of_pipe_write (length (side (1 - e.entry.end) (holding_of c e.entry.object))) n
@@ -74,8 +68,7 @@ module _ (f g : Frame) (r : Floats f g) where
       file : told_of_file_write g c e n ≡ told_of_file_write f c e n
       file = λ i. record nothing_told {
         too_big = big;
-        no_space =
-            not big && nat_lt (all_same e.entry.object i)
+        no_space = not big && nat_lt (all_same e.entry.object i)
             (beside_same c e.entry.object i + blocks_for (length_then (offset_of c e.id) n (length (side e.entry.end (holding_of c e.entry.object)))));
       }
 

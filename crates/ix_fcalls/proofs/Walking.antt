@@ -1,7 +1,7 @@
 -- One step of a walk, with the labels joined as it goes.
 use Rattle.std.proofs.Common.{◌≡◌, ℕ, List, [], ◌∷◌, Option, Some, None, true, false, refl, sym, ap, ◌∙◌}
 use Rattle.ix_label.specs.{Category.{Categories, bottom, join}, Lattice.{join-bottom, join-bottom_right, join-assoc}}
-use Rattle.ix_model.specs.{world.World.{Object, is_dir}, rows.Walks.{Walk, Sought, node, child, walk_from, looking_into, lacking, join_all}}
+use Rattle.ix_model.specs.{world.World.{Object, is_dir}, rows.Walks.{Walk, node, child, walk_from, looking_into, lacking, join_all}}
 use Rattle.ix_model.specs.rows.Walks as sought
 use Rattle.ix_fcalls.specs.Views.{Seen, seen_in}
 
@@ -11,12 +11,11 @@ raised label w = record { outcome = w.outcome; label = join label (join_all w.lo
 
 -- nothing is joined at first
 pub raised_none : (w : Walk) → raised bottom w ≡ seen_in w
-raised_none w = ap (λ l. let s : Seen = record { outcome = w.outcome; label = l } in s) (join-bottom (join_all w.looked))
+raised_none w = ap (λ l. let s : Seen = record { outcome = w.outcome; label = l } in s) (join-bottom _)
 
 raised_lacking : (label : Categories) (x : Object) (dir : ℕ) (names : List (List ℕ)) → record {
   outcome = (lacking dir names).outcome;
-  label =
-      join label x.label;
+  label = join label x.label;
 } ≡ raised label (looking_into x (lacking dir names))
 raised_lacking label x dir [] = rw join-bottom_right refl
 raised_lacking label x dir (name ∷ names) = rw join-bottom_right refl
@@ -30,10 +29,9 @@ module _ (t : List (Option Object)) (label : Categories) (n : ℕ) (dir : Option
       → record { outcome = (lacking n rest).outcome; label = join label (node t n).label } ≡ raised label (walk_from t n dir names)
   missing_here name rest h d m =
       let e : walk_from t n dir names ≡ looking_into (node t n) (lacking n rest) = rw (h, d, m) refl in
-      raised_lacking label (node t n) n rest ∙ ap (raised label) (sym e)
+      raised_lacking _ (node t n) n _ ∙ ap (raised label) (sym e)
 
-  pub goes_on : (name : List ℕ) (rest : List (List ℕ)) (next : ℕ) → names ≡ name ∷ rest → is_dir (node t n) ≡ true
-      → child (node t n) name ≡ Some next
+  pub goes_on : (name : List ℕ) (rest : List (List ℕ)) (next : ℕ) → names ≡ name ∷ rest → is_dir (node t n) ≡ true → child (node t n) name ≡ Some next
       → raised (join label (node t n).label) (walk_from t next (Some n) rest) ≡ raised label (walk_from t n dir names)
   goes_on name rest next h d m = rw (h, d, m, join-assoc) refl
 

@@ -1,11 +1,8 @@
 -- For callers: what the law of a pool says of an index at a place of a chain.
-use Rattle.std.proofs.Common.{◌≡◌, ◌≢◌, ℕ, zero, suc, ◌+◌, ◌<◌, ◌≤◌, List, [], ◌∷◌, ◌++◌, length, get_or, Some, refl, sym, ap, subst, arith, inl, inr}
-use Rattle.std.proofs.Common.{slice_get, length-append}
-use Rattle.std.specs.List.{Contains}
-use Rattle.std.proofs.{lemmas.Bool.{cases_eq, cases_lt}, lemmas.Bool.Decides.nat_tests, lemmas.List.get_or_past, lemmas.List.FromFn.length-range_with_len}
+use Rattle.std.proofs.Common.{◌≡◌, ◌≢◌, ℕ, zero, suc, ◌+◌, ◌<◌, ◌≤◌, List, [], ◌∷◌, ◌++◌, length, get_or, Some, refl, sym, ap, subst, arith, inl, inr, slice_get, length-append}
+use Rattle.std.{specs.List.Contains, proofs.lemmas.{Bool.{cases_eq, cases_lt, Decides.nat_tests}, List.{get_or_past, FromFn.length-range_with_len}}}
 use Rattle.std.proofs.lemmas.Option.{same_Some, slice_get_within, get_or_from_slice_get}
-use Rattle.ix_links.specs.Chains.{Chains, lists, total, times, pool, chain_of, all_free, pushed_front, pushed_back, front_moved, back_moved, removed, without}
-use Rattle.ix_links.specs.Whole.{IsPool}
+use Rattle.ix_links.specs.{Chains.{Chains, lists, total, times, pool, chain_of, all_free, pushed_front, pushed_back, front_moved, back_moved, removed, without}, Whole.IsPool}
 use Rattle.ix_links.proofs.{Running.{times_here, times_skip}, Making.total-empty, Listing.{part-le-total, total-set, split, times_contained}}
 
 -- an index at a place of a list
@@ -19,15 +16,15 @@ times_twice : (xs : List ℕ) (n p i : ℕ) → n < p → slice_get xs n ≡ Som
 times_twice [] n p i l e f = cc
 times_twice (x ∷ xs) n zero i l e f = absurd (omega arith)
 times_twice (x ∷ xs) zero (suc p) i l e f =
-    let same : x ≡ i = same_Some x i e in
+    let same = same_Some x i e in
     subst (λ y. 1 < times i (y ∷ xs)) (sym same) (omega (arith, times_here i xs, times_at xs p i f))
 times_twice (x ∷ xs) (suc n) (suc p) i l e f = omega (arith, times_skip i x xs, times_twice xs n p i (omega arith) e f)
 
 -- a place in a chain is one in a chain that there is
 pub chain_within : (s : Chains) (k n i : ℕ) → slice_get (chain_of k s) n ≡ Some i → k < length s.chains
-chain_within s k n i e = elim (cases_lt k (length s.chains)) [
+chain_within s k n i e = elim (cases_lt k _) [
   | inl low ↦ low
-  | inr past ↦ (let none : slice_get {X = ℕ} [] n ≡ Some i = subst (λ xs. slice_get xs n ≡ Some i) (get_or_past s.chains k [] past) e in cc)
+  | inr past ↦ (let none = subst (λ xs. slice_get xs n ≡ Some i) (get_or_past s.chains k [] past) e in cc)
 ]
 
 in_all : (s : Chains) (k n i : ℕ) → slice_get (chain_of k s) n ≡ Some i → times i (chain_of k s) + times i s.free ≤ total (times i) (lists s)
@@ -35,15 +32,15 @@ in_all s k n i e = omega (arith, part-le-total (times i) s.chains k (chain_withi
 
 -- an index in a chain is one of the pool
 pub held_below : (s : Chains) (k n i : ℕ) → IsPool s → slice_get (chain_of k s) n ≡ Some i → i < pool s
-held_below s k n i h e = let once = h.once i in let some = in_all s k n i e in let here = times_at (chain_of k s) n i e in grind (arith, nat_tests)
+held_below s k n i h e = let once = h.once i in let some = in_all s k n i e in let here = times_at _ n i e in grind (arith, nat_tests)
 
 -- and isn't free
 pub held-not_free : (s : Chains) (k n i : ℕ) → IsPool s → slice_get (chain_of k s) n ≡ Some i → times i s.free ≡ 0
-held-not_free s k n i h e = let once = h.once i in let some = in_all s k n i e in let here = times_at (chain_of k s) n i e in grind (arith, nat_tests)
+held-not_free s k n i h e = let once = h.once i in let some = in_all s k n i e in let here = times_at _ n i e in grind (arith, nat_tests)
 
 -- a free index is one of the pool
 pub free_below : (s : Chains) (n i : ℕ) → IsPool s → slice_get s.free n ≡ Some i → i < pool s
-free_below s n i h e = let once = h.once i in let here = times_at s.free n i e in grind (arith, nat_tests)
+free_below s n i h e = let once = h.once i in let here = times_at _ n i e in grind (arith, nat_tests)
 
 two-parts : (f : List ℕ → ℕ) (xss : List (List ℕ)) (k m : ℕ) → k < length xss → m < length xss → k ≢ m → f (get_or xss k []) + f (get_or xss m []) ≤ total f xss
 two-parts f [] k m l n ne = absurd (omega arith)
@@ -90,17 +87,17 @@ pool-front_moved k [] chains l = refl
 pool-front_moved k (i ∷ rest) chains l = omega (arith, total-set length chains k (i ∷ get_or chains k []) l)
 
 pub pool-pushed_front : (k : ℕ) (s : Chains) → k < length s.chains → pool (pushed_front k s) ≡ pool s
-pool-pushed_front k s l = pool-front_moved k s.free s.chains l
+pool-pushed_front k s l = pool-front_moved k _ _ l
 
 pool-back_moved : (k : ℕ) (free : List ℕ) (chains : List (List ℕ)) → k < length chains → pool (back_moved k free chains) ≡ length free + total length chains
 pool-back_moved k [] chains l = refl
 pool-back_moved k (i ∷ rest) chains l = omega (arith, total-set length chains k (get_or chains k [] ++ i ∷ []) l, length-append (get_or chains k []) (i ∷ []))
 
 pub pool-pushed_back : (k : ℕ) (s : Chains) → k < length s.chains → pool (pushed_back k s) ≡ pool s
-pool-pushed_back k s l = pool-back_moved k s.free s.chains l
+pool-pushed_back k s l = pool-back_moved k _ _ l
 
 pub length-without : (i : ℕ) (xs : List ℕ) → Contains xs i → length (without i xs) + 1 ≡ length xs
-length-without i xs h = let p = split i xs (times_contained i xs h.0 i h.1 h.2) in omega (arith, ap length p.2, ap length p.3, length-append p.0 (i ∷ p.1), length-append p.0 p.1)
+length-without i xs h = let p = split i xs (times_contained i xs _ i h.1 h.2) in omega (arith, ap length p.2, ap length p.3, length-append p.0 (i ∷ p.1), length-append p.0 p.1)
 
 pub pool-removed : (k i : ℕ) (s : Chains) → k < length s.chains → Contains (chain_of k s) i → pool (removed k i s) ≡ pool s
 pool-removed k i s l h = omega (arith, total-set length s.chains k (without i (chain_of k s)) l, length-without i (chain_of k s) h)

@@ -31,25 +31,25 @@ pub chains-length : (items : List Link) (es : List Ends) (xss : List (List ℕ))
 chains-length items [] [] h = refl
 chains-length items [] (xs ∷ xss) h = absurd h
 chains-length items (e ∷ es) [] h = absurd h
-chains-length items (e ∷ es) (xs ∷ xss) h = ap suc (chains-length items es xss h.1)
+chains-length items (e ∷ es) (xs ∷ xss) h = ap suc (chains-length _ es _ h.1)
 
 pub chain_at : (items : List Link) (es : List Ends) (xss : List (List ℕ)) (k : ℕ) (d : Ends) → AreChains items es xss → k < length xss → IsChain items (get_or es k d) (get_or xss k [])
 chain_at items [] [] k d h l = absurd (omega arith)
 chain_at items [] (xs ∷ xss) k d h l = absurd h
 chain_at items (e ∷ es) [] k d h l = absurd h
 chain_at items (e ∷ es) (xs ∷ xss) zero d h l = h.0
-chain_at items (e ∷ es) (xs ∷ xss) (suc k) d h l = chain_at items es xss k d h.1 (omega arith)
+chain_at items (e ∷ es) (xs ∷ xss) (suc k) d h l = chain_at _ es _ k d h.1 (omega arith)
 
 chain_kept : (items items' : List Link) (e : Ends) (xs : List ℕ) → Kept items items' xs → IsChain items e xs → IsChain items' e xs
-chain_kept items items' e xs k h = record { runs = runs_kept items items' None xs None k h.runs; first = h.first; last = h.last }
+chain_kept items items' e xs k h = record { runs = runs_kept _ _ _ xs _ k h.runs; first = h.first; last = h.last }
 
 chains_kept : (items items' : List Link) (es : List Ends) (xss : List (List ℕ)) → Kept items items' (joined xss) → AreChains items es xss → AreChains items' es xss
 chains_kept items items' [] [] k h = tt
 chains_kept items items' [] (xs ∷ xss) k h = absurd h
 chains_kept items items' (e ∷ es) [] k h = absurd h
 chains_kept items items' (e ∷ es) (xs ∷ xss) k h = (
-  chain_kept items items' e xs (λ j m. k j (omega (arith, times-append j xs (joined xss)))) h.0,
-  chains_kept items items' es xss (λ j m. k j (omega (arith, times-append j xs (joined xss)))) h.1,
+  chain_kept _ _ e xs (λ j m. k j (omega (arith, times-append j xs (joined xss)))) h.0,
+  chains_kept _ _ es _ (λ j m. k j (omega (arith, times-append j xs (joined xss)))) h.1,
 )
 
 -- one chain is another, and the others stay
@@ -58,10 +58,10 @@ chains_set : (items items' : List Link) (es : List Ends) (xss : List (List ℕ))
 chains_set items items' [] [] k e ys h l new kept = absurd (omega arith)
 chains_set items items' [] (xs ∷ xss) k e ys h l new kept = absurd h
 chains_set items items' (d ∷ es) [] k e ys h l new kept = absurd h
-chains_set items items' (d ∷ es) (xs ∷ xss) zero e ys h l new kept = (new, chains_kept items items' es xss kept h.1)
+chains_set items items' (d ∷ es) (xs ∷ xss) zero e ys h l new kept = (new, chains_kept _ _ es _ kept h.1)
 chains_set items items' (d ∷ es) (xs ∷ xss) (suc k) e ys h l new kept = (
-  chain_kept items items' d xs (λ j m. kept j (omega (arith, times-append j xs (joined (set xss k []))))) h.0,
-  chains_set items items' es xss k e ys h.1 (omega arith) new (λ j m. kept j (omega (arith, times-append j xs (joined (set xss k []))))),
+  chain_kept _ _ d xs (λ j m. kept j (omega (arith, times-append j xs (joined (set xss k []))))) h.0,
+  chains_set _ _ es _ k e ys h.1 (omega arith) new (λ j m. kept j (omega (arith, times-append j xs (joined (set xss k []))))),
 )
 
 -- how often an index stands beside a list of all of them
@@ -72,26 +72,23 @@ pub chains-unlinked : (items : List Link) (es : List Ends) (xss : List (List ℕ
     → get_or xss k [] ≡ xs ++ i ∷ ys → ((j : ℕ) → total (times j) xss ≤ 1)
     → AreChains (unlinked_items items (link_between xs ys)) (set es k (unlinked_ends (get_or es k d) (link_between xs ys))) (set xss k (xs ++ ys))
 chains-unlinked items es xss k i d xs ys h l is once =
-    let here : IsChain items (get_or es k d) (xs ++ i ∷ ys) = subst (λ zs. IsChain items (get_or es k d) zs) is (chain_at items es xss k d h l) in
+    let here = subst (λ zs. IsChain items (get_or es k d) zs) is (chain_at _ es _ k d h l) in
     let one : (j : ℕ) → times j (xs ++ i ∷ ys) + times j (joined (set xss k [])) ≤ 1 = λ j. omega (arith, once j, beside j xss k l, ap (times j) is) in
-    chains_set items _ es xss k _ (xs ++ ys) h l
-    (chain-unlinked items (get_or es k d) i xs ys here (λ j. omega (arith, one j)))
-    (kept-unlinked items i xs ys _ one)
+    chains_set _ _ es _ k _ _ h l (chain-unlinked _ _ i xs ys here (λ j. omega (arith, one j))) (kept-unlinked _ i xs ys _ one)
 
 pub chains-inserted : (items : List Link) (es : List Ends) (xss : List (List ℕ)) (k i : ℕ) (d : Ends) (xs ys : List ℕ) → AreChains items es xss → k < length xss
     → get_or xss k [] ≡ xs ++ ys → ((j : ℕ) → total (times j) xss ≤ 1) → total (times i) xss ≡ 0 → i < length items
     → AreChains (inserted_items items i (link_between xs ys)) (set es k (inserted_ends (get_or es k d) i (link_between xs ys))) (set xss k (xs ++ i ∷ ys))
 chains-inserted items es xss k i d xs ys h l is once none within =
-    let here : IsChain items (get_or es k d) (xs ++ ys) = subst (λ zs. IsChain items (get_or es k d) zs) is (chain_at items es xss k d h l) in
+    let here = subst (λ zs. IsChain items (get_or es k d) zs) is (chain_at _ es _ k d h l) in
     let alone : times i (joined (set xss k [])) + times i (xs ++ ys) ≡ 0 = omega (arith, none, beside i xss k l, ap (times i) is) in
     let one : (j : ℕ) → times j (xs ++ i ∷ ys) + times j (joined (set xss k [])) ≤ 1 = λ j. elim (cases_eq j i) [
       | inl same ↦ rw same (omega (arith, alone, times-append i xs ys, times-append i xs (i ∷ ys), times_here i ys))
       | inr other ↦ omega (arith, once j, beside j xss k l, ap (times j) is, times-append j xs ys, times-append j xs (i ∷ ys), times_other j i ys other)
     ] in
-    chains_set items _ es xss k _ (xs ++ i ∷ ys) h l
-    (chain-inserted items (get_or es k d) i xs ys here (λ j. omega (arith, once j, beside j xss k l, ap (times j) is)) (omega (arith, times-append i xs ys))
-    (omega (arith, times-append i xs ys)) within)
-    (kept-inserted items i xs ys _ one)
+    chains_set _ _ es _ k _ _ h l
+    (chain-inserted _ _ i xs ys here (λ j. omega (arith, once j, beside j xss k l, ap (times j) is)) (omega (arith, times-append i xs ys))
+    (omega (arith, times-append i xs ys)) within) (kept-inserted _ i xs ys _ one)
 
 -- what two changed lists do to a sum
 total-set-set : (f : List ℕ → ℕ) (xss : List (List ℕ)) (k m : ℕ) (ys zs : List ℕ) → k < length xss → m < length xss → m ≢ k
@@ -112,7 +109,7 @@ pub hold_moved : (items : List Link) (es : List Ends) (xss : List (List ℕ)) (k
     (set (set es k (unlinked_ends (get_or es k d) (link_between xs ys))) m (inserted_ends (get_or es m d') i (link_between ps qs)))
     (set (set xss k (xs ++ ys)) m (ps ++ i ∷ qs))
 hold_moved items es xss k m i d d' xs ys ps qs h l n ne from to =
-    let mid = chains-unlinked items es xss k i d xs ys h.chains l from (once_at_most items es xss h) in
+    let mid = chains-unlinked _ es _ k i d xs ys h.chains l from (once_at_most _ es _ h) in
     let mid_times : (j : ℕ) → total (times j) (set xss k (xs ++ ys)) + times j (xs ++ i ∷ ys) ≡ total (times j) xss + times j (xs ++ ys) =
     λ j. omega (arith, total-set (times j) xss k (xs ++ ys) l, ap (times j) from) in
     let mid_once : (j : ℕ) → total (times j) (set xss k (xs ++ ys)) ≤ 1 = λ j. omega (
@@ -125,12 +122,12 @@ hold_moved items es xss k m i d d' xs ys ps qs h l n ne from to =
     ) in
     let mid_none : total (times i) (set xss k (xs ++ ys)) ≡ 0 = omega (arith, mid_times i, once_at_most items es xss h i, times-append i xs ys, times-append i xs (i ∷ ys), times_here i ys) in
     let held : 0 < total (times i) xss = omega (arith, part-le-total (times i) xss k l, ap (times i) from, times-append i xs (i ∷ ys), times_here i ys) in
-    let within : i < length items = held_within items es xss i h held in
-    let len : length (unlinked_items items (link_between xs ys)) ≡ length items = length-unlinked items (link_between xs ys) in
+    let within : i < length items = held_within _ es _ i h held in
+    let len : length (unlinked_items items (link_between xs ys)) ≡ length items = length-unlinked _ _ in
     let len' : length (inserted_items (unlinked_items items (link_between xs ys)) i (link_between ps qs)) ≡ length items =
-    length-inserted (unlinked_items items (link_between xs ys)) i (link_between ps qs) ∙ len in
+    length-inserted _ i _ ∙ len in
     let ends : get_or (set es k (unlinked_ends (get_or es k d) (link_between xs ys))) m d' ≡ get_or es m d' = get_or-set_other es k m _ d' ne in
-    let chains = chains-inserted (unlinked_items items (link_between xs ys)) _ _ m i d' ps qs mid (omega (arith, length-set xss k (xs ++ ys)))
+    let chains = chains-inserted _ _ _ m i d' ps qs mid (omega (arith, length-set xss k (xs ++ ys)))
     (get_or-set_other xss k m (xs ++ ys) [] ne ∙ to) mid_once mid_none (omega arith) in
     record {
       chains = subst (λ e. AreChains (inserted_items (unlinked_items items (link_between xs ys)) i (link_between ps qs))
@@ -184,16 +181,16 @@ walk_runs items zero p [] l r = refl
 walk_runs items (suc n) p [] l r = refl
 walk_runs items zero p (x ∷ xs) l r = absurd (omega arith)
 walk_runs items (suc n) p (x ∷ xs) l r =
-    let next : (link_at items x).next ≡ head_or xs None = ap (λ (k : Link). k.next) (get_or_from_slice_get items x _ loose r.0) in
-    ap (λ ys. x ∷ ys) (ap (walk items n) next ∙ walk_runs items n (Some x) xs (omega arith) r.1)
+    let next = ap (λ k. k.next) (get_or_from_slice_get items x _ loose r.0) in
+    ap (λ ys. x ∷ ys) (ap (walk items n) next ∙ walk_runs _ n _ xs (omega arith) r.1)
 
 walked : (items : List Link) (n : ℕ) (es : List Ends) (xss : List (List ℕ)) → AreChains items es xss → total length xss ≤ n → map (λ (e : Ends). walk items n e.first) es ≡ xss
 walked items n [] [] h l = refl
 walked items n [] (xs ∷ xss) h l = absurd h
 walked items n (e ∷ es) [] h l = absurd h
 walked items n (e ∷ es) (xs ∷ xss) h l =
-    let here : walk items n e.first ≡ xs = ap (walk items n) h.0.first ∙ walk_runs items n None xs (omega arith) h.0.runs in
-    let rest : map (λ (e : Ends). walk items n e.first) es ≡ xss = walked items n es xss h.1 (omega arith) in
+    let here = ap (walk items n) h.0.first ∙ walk_runs _ n _ xs (omega arith) h.0.runs in
+    let rest = walked _ n es _ h.1 (omega arith) in
     cc
 
 pub shows : (s : Inside) (v : Chains) → Hold s.items.items (s.unused ∷ s.chains.items) (lists v) → links_view s ≡ v
@@ -207,7 +204,7 @@ shows s v h =
 pub sound : (s : Inside) (v : Chains) → Hold s.items.items (s.unused ∷ s.chains.items) (lists v) → s.free ≡ length v.free → length s.items.items < 2 ^ 32 → IsSound s
 sound s v h counted few =
     let e = sym (shows s v h) in
-    record { hold = subst (λ w. Hold s.items.items (s.unused ∷ s.chains.items) (lists w)) e h; counted = subst (λ (w : Chains). s.free ≡ length w.free) e counted; few = few }
+    record { hold = subst (λ w. Hold s.items.items (s.unused ∷ s.chains.items) (lists w)) e h; counted = subst (λ w. s.free ≡ length w.free) e counted; few = few }
 
 -- the first of the free list, and its link
 pub free_first : (s : Inside) → IsSound s → s.unused.first ≡ head_or (links_view s).free None
@@ -218,12 +215,10 @@ free_split i [] e = cc
 free_split i (z ∷ zs) e = (zs, ap (λ x. x ∷ zs) (sym (same_Some i z e)))
 
 pub some_free : (s : Inside) (i : ℕ) → IsSound s → s.unused.first ≡ Some i → (rest : List ℕ) × ((links_view s).free ≡ i ∷ rest)
-some_free s i h e = free_split i (links_view s).free (sym e ∙ free_first s h)
+some_free s i h e = free_split i _ (sym e ∙ free_first s h)
 
 pub link_of_free : (s : Inside) (i : ℕ) (rest : List ℕ) → IsSound s → (links_view s).free ≡ i ∷ rest → link_at s.items.items i ≡ link_between [] rest
-link_of_free s i rest h e =
-    get_or_from_slice_get s.items.items i _ loose
-    (link_in_chain s.items.items s.unused i [] rest (subst (λ zs. IsChain s.items.items s.unused zs) e h.hold.chains.0))
+link_of_free s i rest h e = get_or_from_slice_get _ i _ loose (link_in_chain _ _ i [] _ (subst (λ zs. IsChain s.items.items s.unused zs) e h.hold.chains.0))
 
 -- the first free index moved into a chain
 pub hold_pushed : (s : Inside) (k i : ℕ) (d : Ends) (rest xs ys : List ℕ) → IsSound s → (links_view s).free ≡ i ∷ rest → k < length (links_view s).chains → get_or (links_view s).chains k [] ≡ xs ++ ys
@@ -233,7 +228,7 @@ hold_pushed s k i d rest xs ys h free l is =
     let moved = hold_moved s.items.items (s.unused ∷ s.chains.items) (lists (links_view s)) 0 (suc k) i s.unused d [] rest xs ys h.hold (omega arith) (omega arith) (λ e. cc) free is in
     subst (λ n. Hold (inserted_items (unlinked_items s.items.items n) i (link_between xs ys)) (unlinked_ends s.unused n
     ∷ set s.chains.items k (inserted_ends (get_or s.chains.items k d) i (link_between xs ys))) (rest ∷ set (links_view s).chains k (xs ++ i ∷ ys)))
-    (sym (link_of_free s i rest h free)) moved
+    (sym (link_of_free s i _ h free)) moved
 
 -- an index moved from a chain to the front of the free list
 pub hold_removed : (s : Inside) (k i : ℕ) (d : Ends) (xs ys : List ℕ) → IsSound s → k < length (links_view s).chains → get_or (links_view s).chains k [] ≡ xs ++ i ∷ ys

@@ -1,6 +1,5 @@
 -- Whether an index stands in a list, a list from which one was taken, and a search among them.
-use Rattle.std.proofs.Common.{◌≡◌, ◌≤◌, ◌==◌, ◌||◌, not, ℕ, zero, suc, Bool, true, false, List, [], ◌∷◌, filter, find, Some, None, refl, sym, ap, ◌∙◌, arith}
-use Rattle.std.proofs.Common.{inl, inr, slice_get}
+use Rattle.std.proofs.Common.{◌≡◌, ◌≤◌, ◌==◌, ◌||◌, not, ℕ, zero, suc, Bool, true, false, List, [], ◌∷◌, filter, find, Some, None, refl, sym, ap, ◌∙◌, arith, inl, inr, slice_get}
 use Rattle.std.{specs.List.list_any, proofs.{lemmas.{Bool.{eqb-true, eq-eqb, ne_eqb, Decides.eqb_tells}, Option.same_Some}, Math.Bool.or-true}}
 use Rattle.ix_links.specs.Chains.{times, without}
 
@@ -46,14 +45,14 @@ dropped_none : (i : ℕ) (xs : List ℕ) → times i xs ≡ 0 → dropped i xs �
 dropped_none i [] none = refl
 dropped_none i (x ∷ xs) none = elim (eqb_tells x i) [
   | inl same ↦ (let one = rw same.0 at none in absurd (omega arith))
-  | inr other ↦ (let rest = rw other.0 at none in rw other.0 (ap (λ (ys : List ℕ). x ∷ ys) (dropped_none i xs (omega arith))))
+  | inr other ↦ (let rest = rw other.0 at none in rw other.0 (ap (λ ys. x ∷ ys) (dropped_none i xs (omega arith))))
 ]
 
 pub without_once : (i : ℕ) (xs : List ℕ) → times i xs ≤ 1 → without i xs ≡ dropped i xs
 without_once i [] few = refl
 without_once i (x ∷ xs) few = elim (eqb_tells x i) [
   | inl same ↦ (let one = rw same.0 at few in rw same.0 (sym (dropped_none i xs (omega arith))))
-  | inr other ↦ (let rest = rw other.0 at few in rw other.0 (ap (λ (ys : List ℕ). x ∷ ys) (without_once i xs (omega arith))))
+  | inr other ↦ (let rest = rw other.0 at few in rw other.0 (ap (λ ys. x ∷ ys) (without_once i xs (omega arith))))
 ]
 
 -- what a search finds passes its test, and where it finds none no member does

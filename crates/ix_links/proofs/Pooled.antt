@@ -7,22 +7,22 @@ use Rattle.ix_links.proofs.{Listing.part-le-total, Held.{contained, times_at, ch
 -- an index of a chain is a member of it, and there once
 module _ (s : Chains) (pooled : IsPool s) where
   pub once : (c : ℕ) (i : ℕ) → member i (chain_of c s) ≡ true → times i (chain_of c s) ≤ 1
-  once c i h = let p = place_of i (chain_of c s) h in omega (arith, at_most_once s i pooled, part-le-total (times i) s.chains c (chain_within s c p.0 i p.1))
+  once c i h = let p = place_of i _ h in omega (arith, at_most_once s i pooled, part-le-total (times i) s.chains c (chain_within s c p.0 i p.1))
 
   pub stands_within : (c i : ℕ) → member i (chain_of c s) ≡ true → c < length s.chains
-  stands_within c i h = let p = place_of i (chain_of c s) h in chain_within s c p.0 i p.1
+  stands_within c i h = let p = place_of i _ h in chain_within s c _ i p.1
 
   pub stands_contained : (c i : ℕ) → member i (chain_of c s) ≡ true → Contains (chain_of c s) i
-  stands_contained c i h = let p = place_of i (chain_of c s) h in contained (chain_of c s) p.0 i p.1
+  stands_contained c i h = let p = place_of i _ h in contained _ _ i p.1
 
   -- a free index stands in no chain
   pub fresh : (i : ℕ) → slice_get s.free 0 ≡ Some i → (c : ℕ) → member i (chain_of c s) ≡ false
-  fresh i free c = go (member i (chain_of c s)) refl
+  fresh i free c = go _ refl
     where
       go : (b : Bool) → member i (chain_of c s) ≡ b → member i (chain_of c s) ≡ false
       go false h = h
       go true h =
-          let p = place_of i (chain_of c s) h in
+          let p = place_of i _ h in
           absurd (omega (arith, held-not_free s c p.0 i pooled p.1, times_at s.free 0 i free))
 
 -- the first free index goes to the end of a chain

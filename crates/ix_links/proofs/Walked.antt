@@ -1,12 +1,11 @@
 -- A walk over a chain by place, and a search on the way.
-use Rattle.std.proofs.Common.{◌≡◌, ℕ, suc, ◌+◌, ◌<◌, ◌≤◌, Bool, true, false, List, ◌∷◌, length, find, drop, Some, None, refl, sym, ap, ◌∙◌, arith, inl, inr}
-use Rattle.std.proofs.Common.{slice_get, add-one, drop-cons}
+use Rattle.std.proofs.Common.{◌≡◌, ℕ, suc, ◌+◌, ◌<◌, ◌≤◌, Bool, true, false, List, ◌∷◌, length, find, drop, Some, None, refl, sym, ap, ◌∙◌, arith, inl, inr, slice_get, add-one, drop-cons}
 use Rattle.std.proofs.lemmas.{Bool.cases_lt, List.drop_all, Option.{slice_get_within, get_or_from_slice_get, slice_get-get_or, slice_get_past}}
 use Rattle.ix_links.{specs.Chains.{Chains, pool, chain_of}, proofs.Listing.part-le-total}
 
 -- a chain ends where nothing stands
 ended : (xs : List ℕ) (k : ℕ) → slice_get xs k ≡ None → length xs ≤ k
-ended xs k none = elim (cases_lt k (length xs)) [
+ended xs k none = elim (cases_lt k _) [
   | inl low ↦ absurd (let some = slice_get-get_or xs k 0 low in cc)
   | inr past ↦ past
 ]

@@ -1,7 +1,6 @@
 -- The first slot that passes a test is that of the lowest pid whose process passes it.
-use Rattle.std.proofs.Common.{◌≡◌, ◌<◌, ◌+◌, ◌==◌, ℕ, Bool, true, false, true≢false, ◌&&◌, List, [], ◌∷◌, length, position, cond, nat_lt, if◌then◌else◌, Option}
-use Rattle.std.proofs.Common.{Some, None, is_some, option_map, slice_get, refl, sym, ap, subst, ◌∙◌, arith, inl, inr}
-use Rattle.std.specs.{Option.option_map_or, List.{find, list_any, position_or_len}}
+use Rattle.std.proofs.Common.{◌≡◌, ◌<◌, ◌==◌, ℕ, Bool, true, false, true≢false, ◌&&◌, List, [], ◌∷◌, length, position, cond, if◌then◌else◌, Option}
+use Rattle.std.{proofs.Common.{Some, None, is_some, option_map, slice_get, refl, sym, ap, subst, ◌∙◌, arith, inl, inr}, specs.{Option.option_map_or, List.{find, list_any}}}
 use Rattle.std.proofs.lemmas.{List.{length-map, Sums.position_or_len_is}, Bool.{Decides.{eqb_tells, nat_tests}, lt-ltb, le-ltb, cases_lt}}
 use Rattle.ix_model.specs.{world.{Callers.number_of, World.{Process, at, living, is_ended}}, rows.OnProcesses.is_child, declared.ids.Pid.Pid}
 use Rattle.ix_proc.specs.{Table.ProcTable, Kin.linked, declared.slot.{Slot.Slot, Record.Record}}
@@ -19,8 +18,7 @@ any_position p (x ∷ xs) = go (p x) refl (any_position p xs)
   where
     go : (b : Bool) → p x ≡ b → list_any p xs ≡ is_some (position p xs) → list_any p (x ∷ xs) ≡ is_some (position p (x ∷ xs))
     go true e more = rw (e, lt-ltb 0 (length (x ∷ xs)) (omega arith)) refl
-    go false e more = rw e (more ∙ some_if (nat_lt (position_or_len p xs) (length xs)) (position_or_len p xs) ∙ grind (arith, nat_tests)
-        ∙ sym (some_if (nat_lt (1 + position_or_len p xs) (length (x ∷ xs))) (1 + position_or_len p xs)))
+    go false e more = rw e (more ∙ some_if _ _ ∙ grind (arith, nat_tests) ∙ sym (some_if _ _))
 
 abbrev passes : (Slot → Bool) → Option Slot → Bool
 passes T s = option_map_or T s false
@@ -46,12 +44,12 @@ first_more T x t s above fails f = record {
 
 pub first_found : (T : Slot → Bool) (t : List Slot) (s : Slot) → Rises t → find T t ≡ Some s → First T t s
 first_found T [] s h is = absurd (cc is)
-first_found T (x ∷ t) s h is = go (T x) refl is (λ more. first_found T t s h.1 more)
+first_found T (x ∷ t) s h is = go _ refl is (λ more. first_found T t s h.1 more)
   where
     go : (b : Bool) → T x ≡ b → (if b then Some x else find T t) ≡ Some s → (find T t ≡ Some s → First T t s) → First T (x ∷ t) s
     go true e is rest =
         let same : x ≡ s = cc in
-        subst (First T (x ∷ t)) same (record {
+        subst (First T _) same (record {
           here = grind (arith, nat_tests);
           yes_here = e;
           none_before = λ q less. let none = lookup_above t (pid_in x) q h.0 (omega arith) in elim (eqb_tells (pid_in x) q) [ inl s ↦ absurd (omega (arith, s.1)) | inr s ↦ rw (s.0, none) refl ];
@@ -60,7 +58,7 @@ first_found T (x ∷ t) s h is = go (T x) refl is (λ more. first_found T t s h.
 
 none_found : (T : Slot → Bool) (t : List Slot) (q : ℕ) → find T t ≡ None → passes T (lookup t q) ≡ false
 none_found T [] q is = refl
-none_found T (x ∷ t) q is = go (T x) refl is (λ more. none_found T t q more)
+none_found T (x ∷ t) q is = go _ refl is (λ more. none_found T t q more)
   where
     go : (b : Bool) → T x ≡ b → (if b then Some x else find T t) ≡ None → (find T t ≡ None → passes T (lookup t q) ≡ false) → passes T (lookup (x ∷ t) q) ≡ false
     go true e is rest = absurd (cc is)
@@ -74,7 +72,7 @@ module _ (T : Slot → Bool) (Q : Option Process → Bool) (t : List Slot) (rs :
   seen (Some s) = same s
 
   seen_at : (q : ℕ) → Q (at (table_of (laid t rs n) l).processes q) ≡ passes T (lookup t q)
-  seen_at q = ap Q (at_processes l (laid t rs n) q ∙ ap process_in (at_laid t rs n q are.below)) ∙ seen (lookup t q)
+  seen_at q = ap Q (at_processes l _ q ∙ ap process_in (at_laid t rs n q are.below)) ∙ seen _
 
   many : length (table_of (laid t rs n) l).processes ≡ n
   many = simp length-map (length_laid t rs n)
@@ -93,7 +91,7 @@ module _ (T : Slot → Bool) (Q : Option Process → Bool) (t : List Slot) (rs :
       rw (place, lt-ltb (pid_in s) (length (table_of (laid t rs n) l).processes) inside) refl
 
   pub any_is : list_any Q (table_of (laid t rs n) l).processes ≡ is_some (find T t)
-  any_is = any_position Q (table_of (laid t rs n) l).processes ∙ ap is_some (positioned (find T t) refl) ∙ some_pid (find T t)
+  any_is = any_position Q _ ∙ ap is_some (positioned _ refl) ∙ some_pid _
     where
       some_pid : (r : Option Slot) → is_some (option_map pid_in r) ≡ is_some r
       some_pid None = refl
@@ -102,7 +100,7 @@ module _ (T : Slot → Bool) (Q : Option Process → Bool) (t : List Slot) (rs :
 -- ---- the links of those that pass
 first_some : (P : Record → Bool) (t : List Slot) (rs : List Record) → is_some (slice_get (linked P t rs) 0) ≡ is_some (find (λ (s : Slot). P (record_at rs s.link)) t)
 first_some P [] rs = refl
-first_some P (s ∷ t) rs = go (P (record_at rs s.link)) (first_some P t rs)
+first_some P (s ∷ t) rs = go _ (first_some P t rs)
   where
     go : (b : Bool) → is_some (slice_get (linked P t rs) 0) ≡ is_some (find (λ (s : Slot). P (record_at rs s.link)) t)
         → is_some (slice_get (if b then s.link ∷ linked P t rs else linked P t rs) 0) ≡ is_some (if b then Some s else
@@ -113,19 +111,19 @@ first_some P (s ∷ t) rs = go (P (record_at rs s.link)) (first_some P t rs)
 pub find_linked : (P E : Record → Bool) (t : List Slot) (rs : List Record) → find (λ (i : ℕ). E (record_at rs i)) (linked P t rs)
     ≡ option_map (λ (s : Slot). s.link) (find (λ (s : Slot). P (record_at rs s.link) && E (record_at rs s.link)) t)
 find_linked P E [] rs = refl
-find_linked P E (s ∷ t) rs = go (P (record_at rs s.link)) (E (record_at rs s.link)) refl (find (λ (s : Slot). P (record_at rs s.link) && E (record_at rs s.link)) t) (find_linked P E t rs)
+find_linked P E (s ∷ t) rs = go _ _ refl _ (find_linked P E t rs)
   where
     go : (b e : Bool) → E (record_at rs s.link) ≡ e → (right : Option Slot) → find (λ (i : ℕ). E (record_at rs i)) (linked P t rs)
         ≡ option_map (λ (s : Slot). s.link) right → find (λ (i : ℕ). E (record_at rs i)) (if b then s.link ∷ linked P t rs else linked P t rs)
         ≡ option_map (λ (s : Slot). s.link) (if b && e then Some s else right)
-    go true true is right more = ap (λ (c : Bool). if c then Some s.link else find (λ (i : ℕ). E (record_at rs i)) (linked P t rs)) is
-    go true false is right more = ap (λ (c : Bool). if c then Some s.link else find (λ (i : ℕ). E (record_at rs i)) (linked P t rs)) is ∙ more
+    go true true is right more = ap (λ c. if c then Some s.link else find (λ i. E (record_at rs i)) (linked P t rs)) is
+    go true false is right more = ap (λ c. if c then Some s.link else find (λ i. E (record_at rs i)) (linked P t rs)) is ∙ more
     go false e is right more = more
 
 -- none passes where the links are none
 none_linked : (P : Record → Bool) (t : List Slot) (rs : List Record) → is_some (slice_get (linked P t rs) 0) ≡ false → (q : ℕ) (u : Slot) → lookup t q ≡ Some u → P (record_at rs u.link) ≡ false
 none_linked P [] rs empty q u is = absurd (cc is)
-none_linked P (s ∷ t) rs empty q u is = go (P (record_at rs s.link)) refl empty (λ more. none_linked P t rs more q u)
+none_linked P (s ∷ t) rs empty q u is = go (P _) refl empty (λ more. none_linked P t rs more q u)
   where
     go : (b : Bool) → P (record_at rs s.link) ≡ b → is_some (slice_get (if b then s.link ∷ linked P t rs else linked P t rs) 0) ≡ false
         → (is_some (slice_get (linked P t rs) 0) ≡ false → lookup t q ≡ Some u → P (record_at rs u.link) ≡ false) → P (record_at rs u.link) ≡ false
@@ -136,7 +134,7 @@ none_linked P (s ∷ t) rs empty q u is = go (P (record_at rs s.link)) refl empt
     ]
 
 child_seen : (pid : ℕ) (r : Record) → is_child pid (Some (process_of r)) ≡ is_child_record pid r
-child_seen pid r = go r.parent
+child_seen pid r = go _
   where
     go : (o : Option Pid) → option_map_or (λ q. q == pid) (option_map number_of o) false ≡ option_map_or (λ q. q.0 == pid) o false
     go None = refl
@@ -145,15 +143,15 @@ child_seen pid r = go r.parent
 -- ---- the children of a process in the tables
 module _ (t : List Slot) (rs : List Record) (n limit : ℕ) (are : AreSlots t rs n) (table : ProcTable) (view : table_of (laid t rs n) limit ≡ table) (p : ℕ) where
   pub has_child_is : list_any (is_child p) table.processes ≡ is_some (slice_get (linked (is_child_record p) t rs) 0)
-  has_child_is = ap (λ (u : ProcTable). list_any (is_child p) u.processes) (sym view)
-      ∙ any_is (λ (s : Slot). is_child_record p (record_at rs s.link)) (is_child p) t rs n limit are (λ s. child_seen p (record_at rs s.link)) refl
+  has_child_is = ap (λ u. list_any (is_child p) u.processes) (sym view)
+      ∙ any_is (λ s. is_child_record p (record_at rs s.link)) (is_child p) t rs n limit are (λ s. child_seen p (record_at rs s.link)) refl
       ∙ sym (first_some (is_child_record p) t rs)
 
   pub childless_from : list_any (is_child p) table.processes ≡ false → Childless t rs p
   childless_from none q u is = none_linked (is_child_record p) t rs (sym has_child_is ∙ none) q u is
 
   pub lives_in : (q : ℕ) → is_some (living (at table.processes q)) ≡ is_some (living (process_in (found t rs q)))
-  lives_in q = ap (λ (u : ProcTable). is_some (living (at u.processes q))) (sym view) ∙ ap (λ o. is_some (living o)) (at_processes limit (laid t rs n) q ∙ ap process_in (at_laid t rs n q are.below))
+  lives_in q = ap (λ u. is_some (living (at u.processes q))) (sym view) ∙ ap (λ o. is_some (living o)) (at_processes limit _ q ∙ ap process_in (at_laid t rs n q are.below))
 
   abbrev has_ended : Record → Bool
   has_ended r = is_some r.ended
@@ -162,20 +160,20 @@ module _ (t : List Slot) (rs : List Record) (n limit : ℕ) (are : AreSlots t rs
   ended_test s = is_child_record p (record_at rs s.link) && has_ended (record_at rs s.link)
 
   pub ended_is : (r : Option Slot) → find ended_test t ≡ r → position (λ q. is_child p q && is_ended q) table.processes ≡ option_map pid_in r
-  ended_is r is = ap (λ (u : ProcTable). position (λ q. is_child p q && is_ended q) u.processes) (sym view)
-      ∙ positioned ended_test (λ q. is_child p q && is_ended q) t rs n limit are (λ s. ap (λ b. b && has_ended (record_at rs s.link))
+  ended_is r is = ap (λ u. position (λ q. is_child p q && is_ended q) u.processes) (sym view)
+      ∙ positioned _ (λ q. is_child p q && is_ended q) t rs n limit are (λ s. ap (λ b. b && has_ended (record_at rs s.link))
       (child_seen p (record_at rs s.link))) refl r is
 
   -- the slot of the first link whose record has ended
   pub ended_slot : (i : ℕ) → find (λ (j : ℕ). is_some (record_at rs j).ended) (linked (is_child_record p) t rs) ≡ Some i → (s : Slot) × (find ended_test t ≡ Some s) × (s.link ≡ i)
-  ended_slot i is = go (find ended_test t) refl (sym (find_linked (is_child_record p) has_ended t rs) ∙ is)
+  ended_slot i is = go _ refl (sym (find_linked (is_child_record p) has_ended t rs) ∙ is)
     where
       go : (o : Option Slot) → find ended_test t ≡ o → option_map (λ (s : Slot). s.link) o ≡ Some i → (s : Slot) × (find ended_test t ≡ Some s) × (s.link ≡ i)
       go None e h = absurd (cc h)
-      go (Some s) e h = (s, e, (let same : Some s.link ≡ Some i = h in cc))
+      go (Some s) e h = (s, e, (let same = h in cc))
 
   pub none_ended : find (λ (j : ℕ). is_some (record_at rs j).ended) (linked (is_child_record p) t rs) ≡ None → find ended_test t ≡ None
-  none_ended is = go (find ended_test t) refl (sym (find_linked (is_child_record p) has_ended t rs) ∙ is)
+  none_ended is = go _ refl (sym (find_linked (is_child_record p) has_ended t rs) ∙ is)
     where
       go : (o : Option Slot) → find ended_test t ≡ o → option_map (λ (s : Slot). s.link) o ≡ None → find ended_test t ≡ None
       go None e h = e

@@ -1,6 +1,5 @@
 -- What the tables show of the slots and records that stand behind them.
-use Rattle.std.proofs.Common.{◌≡◌, ℕ, true, true≢false, List, length, Option, Some, None, is_some, option_map, sym, ap, ◌∙◌, subst, get_or, set}
-use Rattle.std.{specs.List.remove, proofs.lemmas.List.length-map}
+use Rattle.std.{proofs.{Common.{◌≡◌, ℕ, true, true≢false, List, length, Some, None, is_some, option_map, sym, ap, ◌∙◌, subst, get_or, set}, lemmas.List.length-map}, specs.List.remove}
 use Rattle.ix_model.specs.world.World.{at}
 use Rattle.ix_proc.specs.{Table.{ProcTable, collected}, declared.slot.{Slot.Slot, Record.Record}}
 use Rattle.ix_proc.specs.Slots.{record_at, process_of, process_in, status_in, table_of, with_record, lookup, laid, AreSlots, Finds}
@@ -10,43 +9,46 @@ use Rattle.ix_proc.proofs.Laying.{at_laid, length_laid, at_processes, at_statuse
 pub slot_of : (t : List Slot) (rs : List Record) (n : ℕ) → AreSlots t rs n → (k p : ℕ) (s : Slot) → Finds (Some k) t p → s ≡ get_or t k s → lookup t p ≡ Some s
 slot_of t rs n are k p s there read = found_slot t rs n are k p s there ∙ ap Some (sym read)
 
+-- one that was found in a slice of the slots
+pub slot_in : (t u : List Slot) (rs : List Record) (n : ℕ) → AreSlots t rs n → (k p : ℕ) (s : Slot) → u ≡ t → Finds (Some k) u p → s ≡ get_or t k s → lookup t p ≡ Some s
+slot_in t u rs n are k p s same there = slot_of t rs n are k p s (subst (λ us. Finds (Some k) us p) same there)
+
 module _ (t : List Slot) (rs : List Record) (n limit : ℕ) (are : AreSlots t rs n) (table : ProcTable) (view : table_of (laid t rs n) limit ≡ table) where
   -- no slot has the pid
   pub absent : (p : ℕ) → lookup t p ≡ None → at table.processes p ≡ None
-  absent p none = ap (λ (u : ProcTable). at u.processes p) (sym view) ∙ at_processes limit (laid t rs n) p
-      ∙ ap process_in (at_laid t rs n p are.below ∙ ap (λ (o : Option Slot). option_map (λ (x : Slot). record_at rs x.link) o) none)
+  absent p none = ap (λ u. at u.processes p) (sym view) ∙ at_processes limit _ p
+      ∙ ap process_in (at_laid t rs n p are.below ∙ ap (λ o. option_map (λ x. record_at rs x.link) o) none)
 
   pub no_status : (p : ℕ) → lookup t p ≡ None → get_or table.statuses p 0 ≡ 0
-  no_status p none = ap (λ (u : ProcTable). get_or u.statuses p 0) (sym view) ∙ at_statuses limit (laid t rs n) p
-      ∙ ap status_in (at_laid t rs n p are.below ∙ ap (λ (o : Option Slot). option_map (λ (x : Slot). record_at rs x.link) o) none)
+  no_status p none = ap (λ u. get_or u.statuses p 0) (sym view) ∙ at_statuses limit _ p
+      ∙ ap status_in (at_laid t rs n p are.below ∙ ap (λ o. option_map (λ x. record_at rs x.link) o) none)
 
   pub not_there : (p : ℕ) → lookup t p ≡ None → is_some (at table.processes p) ≡ true → ⊥
   not_there p none there = true≢false (sym there ∙ ap is_some (absent p none))
 
   -- the next pid
   pub next_is : length table.processes ≡ n
-  next_is = ap (λ (u : ProcTable). length u.processes) (sym view) ∙ simp length-map (length_laid t rs n)
+  next_is = ap (λ u. length u.processes) (sym view) ∙ simp length-map (length_laid t rs n)
 
   module _ (p : ℕ) (s : Slot) (is : lookup t p ≡ Some s) where
     pub process_is : at table.processes p ≡ Some (process_of (record_at rs s.link))
-    process_is = ap (λ (u : ProcTable). at u.processes p) (sym view) ∙ at_processes limit (laid t rs n) p ∙ ap process_in (record_of t rs n are p s is)
+    process_is = ap (λ u. at u.processes p) (sym view) ∙ at_processes limit _ p ∙ ap process_in (record_of t rs n are p s is)
 
     pub status_is : get_or table.statuses p 0 ≡ status_in (Some (record_at rs s.link))
-    status_is = ap (λ (u : ProcTable). get_or u.statuses p 0) (sym view) ∙ at_statuses limit (laid t rs n) p ∙ ap status_in (record_of t rs n are p s is)
+    status_is = ap (λ u. get_or u.statuses p 0) (sym view) ∙ at_statuses limit _ p ∙ ap status_in (record_of t rs n are p s is)
 
     -- its record changes, or goes
     pub record_set : (r : Record) → r.who.pid.0 ≡ p → table_of (laid t (set rs s.link r) n) limit ≡ with_record r table
     record_set r bears =
         let P : ProcTable → Type 0 = λ u. table_of (laid t (set rs s.link r) n) limit ≡ with_record r u in
-        subst P view (ap (λ es. table_of es limit) (laid_set t rs n are p s is r) ∙ tables_set limit (laid t rs n) p (Some r)
-        ∙ ap (λ (m : ℕ). record {
+        subst P view (ap (λ es. table_of es limit) (laid_set t rs n are p s is r) ∙ tables_set _ _ p _
+        ∙ ap (λ m. record {
           processes = set (table_of (laid t rs n) limit).processes m (Some (process_of r));
-          statuses =
-              set (table_of (laid t rs n) limit).statuses m (status_in (Some r));
+          statuses = set (table_of (laid t rs n) limit).statuses m (status_in (Some r));
           limit = limit;
         }) (sym bears))
 
   pub record_gone : (k p : ℕ) (d : Slot) → Finds (Some k) t p → table_of (laid (remove t k) rs n) limit ≡ collected p table
   record_gone k p d there =
       let P : ProcTable → Type 0 = λ u. table_of (laid (remove t k) rs n) limit ≡ collected p u in
-      subst P view (ap (λ es. table_of es limit) (laid_remove t rs n are k p d there) ∙ tables_set limit (laid t rs n) p None)
+      subst P view (ap (λ es. table_of es limit) (laid_remove t rs n are k p d there) ∙ tables_set _ _ p _)

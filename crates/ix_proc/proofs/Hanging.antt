@@ -3,14 +3,13 @@ use Rattle.std.proofs.Common.{◌≡◌, ◌≢◌, ◌<◌, ◌≤◌, ◌+◌,
 use Rattle.std.proofs.Common.{subst, arith, inl, inr, get_or, set}
 use Rattle.std.{specs.Option.option_map_or, proofs.lemmas.{List.{get_or-set_same, get_or-set_other}, Bool.{Decides.eqb_tells, cases_lt, lt-ltb, le-ltb}}}
 use Rattle.ix_links.specs.Chains.{Chains, times, chain_of}
-use Rattle.ix_proc.specs.{Slots.{lookup, led, process_in, is_child_record, AreSlots, Rises, Finds}, Kin.{linked, is_root, AreKin, Hangs}}
-use Rattle.ix_proc.specs.declared.slot.{Slot.Slot, Record.Record}
+use Rattle.ix_proc.specs.{Slots.{lookup, led, process_in, is_child_record, AreSlots, Rises, Finds}, Kin.{linked, is_root, AreKin, Hangs}, declared.slot.{Slot.Slot, Record.Record}}
 use Rattle.ix_model.specs.{world.World.living, declared.ids.Pid.Pid}
 use Rattle.ix_proc.proofs.{Looking.lookup_at, Linked.links, Family.found_times}
 
 -- a process that lives has a slot
 pub lives_there : (t : List Slot) (rs : List Record) (q : ℕ) → is_some (living (process_in (led rs (lookup t q)))) ≡ true → is_some (lookup t q) ≡ true
-lives_there t rs q lives = go (lookup t q) lives
+lives_there t rs q lives = go _ lives
   where
     go : (o : Option Slot) → is_some (living (process_in (led rs o))) ≡ true → is_some o ≡ true
     go None l = l
@@ -18,11 +17,11 @@ lives_there t rs q lives = go (lookup t q) lives
 
 -- what was found among the slots and behind the last link
 pub hangs_there : (t u : List Slot) (roots limit : ℕ) (o : Option Pid) (c : ℕ) → u ≡ t → roots ≡ limit → Hangs u roots o c → Hangs t limit o c
-hangs_there t u roots limit o c slots last hangs = subst (λ (m : ℕ). Hangs t m o c) last (subst (λ (l : List Slot). Hangs l roots o c) slots hangs)
+hangs_there t u roots limit o c slots last hangs = subst (λ m. Hangs t m o c) last (subst (λ l. Hangs l roots o c) slots hangs)
 
 -- the children of a pid that was found hang on the chain of its link
 pub hangs_found : (t : List Slot) (roots k : ℕ) (o : Option Pid) (q : Pid) (d : Slot) → Rises t → o ≡ Some q → Finds (Some k) t q.0 → Hangs t roots o (get_or t k d).link
-hangs_found t roots k o q d rises is there = subst (λ (o : Option Pid). Hangs t roots o (get_or t k d).link) (sym is) (
+hangs_found t roots k o q d rises is there = subst (λ o. Hangs t roots o (get_or t k d).link) (sym is) (
   get_or t k d,
   (ap (lookup t) (sym (there.1 d)) ∙ lookup_at t k d rises there.0, refl),
 )
@@ -49,7 +48,7 @@ module _ (t : List Slot) (rs : List Record) (n limit : ℕ) (k : Chains) (are : 
     pub child_not : (o : Option Pid) → Hangs t limit o c → (p : ℕ) (s : Slot) → lookup t p ≡ Some s → s.link ≢ c → option_map_or (λ q. q.0 == p) o false ≡ false
     child_not None at_end p s found differs = refl
     child_not (Some q) behind p s found differs = elim (eqb_tells q.0 p) [
-      | inl e ↦ absurd (let both : Some behind.0 ≡ Some s = sym behind.1.0 ∙ ap (lookup t) e.1 ∙ found in let same : behind.0 ≡ s = cc in differs (sym (behind.1.1 ∙ ap (λ (y : Slot). y.link) same)))
+      | inl e ↦ absurd (let both = sym behind.1.0 ∙ ap (lookup t) e.1 ∙ found in let same : behind.0 ≡ s = cc in differs (sym (behind.1.1 ∙ ap (λ y. y.link) same)))
       | inr e ↦ e.0
     ]
 
@@ -75,14 +74,14 @@ module _ (t : List Slot) (rs : List Record) (n limit : ℕ) (k : Chains) (are : 
         → new P ≡ f (linked P t rs)) (miss : (P : Record → Bool) → P r ≡ false → new P ≡ linked P t rs) where
       pub children_edited : (p : ℕ) (s : Slot) → lookup t p ≡ Some s → get_or (set k.chains c (f (chain_of c k))) s.link [] ≡ new (is_child_record p)
       children_edited p s found = elim (eqb_tells s.link c) [
-        | inl e ↦ ap (λ i. get_or (set k.chains c (f (chain_of c k))) i []) e.1 ∙ get_or-set_same k.chains c (f (chain_of c k)) [] (in_chains r.parent hangs)
-            ∙ ap f (ap (λ i. chain_of i k) (sym e.1) ∙ kin.children p s found) ∙ sym (hit (is_child_record p) (child_is r.parent hangs p s found e.1))
-        | inr e ↦ get_or-set_other k.chains c s.link (f (chain_of c k)) [] e.1 ∙ kin.children p s found ∙ sym (miss (is_child_record p) (child_not r.parent hangs p s found e.1))
+        | inl e ↦ ap (λ i. get_or (set k.chains c (f (chain_of c k))) i []) e.1 ∙ get_or-set_same k.chains c _ [] (in_chains _ hangs)
+            ∙ ap f (ap (λ i. chain_of i k) (sym e.1) ∙ kin.children p s found) ∙ sym (hit _ (child_is _ hangs p s found e.1))
+        | inr e ↦ get_or-set_other k.chains c s.link _ [] e.1 ∙ kin.children p s found ∙ sym (miss _ (child_not _ hangs p s found e.1))
       ]
 
       pub roots_edited : get_or (set k.chains c (f (chain_of c k))) limit [] ≡ new is_root
       roots_edited = elim (eqb_tells limit c) [
-        | inl e ↦ ap (λ i. get_or (set k.chains c (f (chain_of c k))) i []) e.1 ∙ get_or-set_same k.chains c (f (chain_of c k)) [] (in_chains r.parent hangs)
-            ∙ ap f (ap (λ i. chain_of i k) (sym e.1) ∙ kin.roots) ∙ sym (hit is_root (root_is r.parent hangs e.1))
-        | inr e ↦ get_or-set_other k.chains c limit (f (chain_of c k)) [] e.1 ∙ kin.roots ∙ sym (miss is_root (root_not r.parent hangs e.1))
+        | inl e ↦ ap (λ i. get_or (set k.chains c (f (chain_of c k))) i []) e.1 ∙ get_or-set_same k.chains c _ [] (in_chains _ hangs)
+            ∙ ap f (ap (λ i. chain_of i k) (sym e.1) ∙ kin.roots) ∙ sym (hit _ (root_is _ hangs e.1))
+        | inr e ↦ get_or-set_other k.chains c limit _ [] e.1 ∙ kin.roots ∙ sym (miss _ (root_not _ hangs e.1))
       ]

@@ -1,6 +1,5 @@
 -- Before there is any process.
-use Rattle.std.proofs.Common.{◌≡◌, ◌+◌, ℕ, zero, suc, List, [], length, replicate, refl, sym, subst, arith, get_or}
-use Rattle.std.proofs.lemmas.List.{length-replicate, FromFn.length-range_with_len}
+use Rattle.std.proofs.{Common.{◌≡◌, ◌+◌, ℕ, zero, suc, List, [], length, replicate, refl, sym, subst, arith, get_or}, lemmas.List.{length-replicate, FromFn.length-range_with_len}}
 use Rattle.ix_links.{specs.Chains.{Chains, all_free}, proofs.Making.{times-range, total-empty}}
 use Rattle.ix_proc.specs.{Kin.AreKin, declared.slot.{Slot.Slot, Record.Record}}
 

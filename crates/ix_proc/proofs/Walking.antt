@@ -1,7 +1,6 @@
 -- What is left of a chain from one of its links on.
 use Rattle.std.proofs.Common.{◌≡◌, ◌≢◌, ◌<◌, ◌≤◌, ◌+◌, ◌==◌, ℕ, zero, suc, Bool, true, false, List, [], ◌∷◌, length, Option, Some, None, if◌then◌else◌, refl}
-use Rattle.std.proofs.Common.{slice_get, sym, ap, subst, ◌∙◌, arith, inl, inr}
-use Rattle.std.{specs.List.find, proofs.lemmas.Bool.{Decides.eqb_tells, cases_lt, le-ltb}}
+use Rattle.std.{proofs.{Common.{slice_get, sym, ap, subst, ◌∙◌, arith, inl, inr}, lemmas.Bool.{Decides.eqb_tells, cases_lt, le-ltb}}, specs.List.find}
 use Rattle.ix_links.{specs.Chains.{Chains, times, chain_of}, proofs.Running.times_skip}
 use Rattle.ix_proc.specs.{Slots.{lookup, is_child_record, AreSlots}, Kin.{linked, AreKin, IsWalk}, declared.slot.{Slot.Slot, Record.Record}}
 use Rattle.ix_proc.proofs.{Linked.{links, times_same, linked_few}, Hanging.link_once}
@@ -27,7 +26,7 @@ other_than : (x : ℕ) (xs : List ℕ) (m i : ℕ) → Once (x ∷ xs) → slice
 other_than x xs m i once is same = omega (arith, once i, times_same x i xs same, there_times xs m i is)
 
 skip : (x : ℕ) (xs : List ℕ) (m : ℕ) → Once (x ∷ xs) → rest_from (slice_get xs m) (x ∷ xs) ≡ rest_from (slice_get xs m) xs
-skip x xs m once = go (slice_get xs m) refl
+skip x xs m once = go _ refl
   where
     go : (o : Option ℕ) → slice_get xs m ≡ o → rest_from o (x ∷ xs) ≡ rest_from o xs
     go None e = refl
@@ -43,7 +42,7 @@ rest_first (x ∷ xs) = elim (eqb_tells x x) [ inl h ↦ rw h.0 refl | inr h ↦
 pub rest_next : (xs : List ℕ) (m i : ℕ) → Once xs → slice_get xs m ≡ Some i → rest_from (Some i) xs ≡ i ∷ rest_from (slice_get xs (m + 1)) xs
 rest_next [] m i once is = absurd (cc is)
 rest_next (x ∷ xs) zero i once is =
-    let equal : Some x ≡ Some i = is in
+    let equal = is in
     let same : x ≡ i = cc in
     elim (eqb_tells x i) [
       | inl h ↦ rw h.0 (ap (λ y. y ∷ xs) same ∙ ap (λ ys. i ∷ ys) (sym (skip x xs 0 once ∙ rest_first xs)))
@@ -51,8 +50,8 @@ rest_next (x ∷ xs) zero i once is =
     ]
 rest_next (x ∷ xs) (suc m) i once is = elim (eqb_tells x i) [
   | inl h ↦ absurd (other_than x xs m i once is h.1)
-  | inr h ↦ rw h.0 (rest_next xs m i (once_less x xs once) is ∙ ap (λ ys. i ∷ ys) (sym (skip x xs (m + 1) once)) ∙ (let step : suc (m + 1) ≡ suc m + 1 =
-      omega arith in ap (λ (p : ℕ). i ∷ rest_from (slice_get (x ∷ xs) p) (x ∷ xs)) step))
+  | inr h ↦ rw h.0 (rest_next xs m i (once_less x xs once) is ∙ ap (λ ys. i ∷ ys) (sym (skip x xs _ once)) ∙ (let step : suc (m + 1) ≡ suc m + 1 =
+      omega arith in ap (λ p. i ∷ rest_from (slice_get (x ∷ xs) p) (x ∷ xs)) step))
 ]
 
 -- the links of a chain of records are a walk
@@ -73,10 +72,10 @@ module _ (t : List Slot) (rs : List Record) (n limit : ℕ) (k : Chains) (are : 
 -- ---- the search along a walk
 module _ (E : ℕ → Bool) (xs : List ℕ) (once : Once xs) where
   pub found_here : (m i : ℕ) → slice_get xs m ≡ Some i → find E xs ≡ find E (rest_from (Some i) xs) → E i ≡ true → Some i ≡ find E xs
-  found_here m i is before here = sym (before ∙ ap (find E) (rest_next xs m i once is) ∙ ap (λ (b : Bool). if b then Some i else find E (rest_from (slice_get xs (m + 1)) xs)) here)
+  found_here m i is before here = sym (before ∙ ap (find E) (rest_next xs m i once is) ∙ ap (λ b. if b then Some i else find E (rest_from (slice_get xs (m + 1)) xs)) here)
 
   pub found_later : (m i : ℕ) → slice_get xs m ≡ Some i → find E xs ≡ find E (rest_from (Some i) xs) → E i ≡ false → find E xs ≡ find E (rest_from (slice_get xs (m + 1)) xs)
-  found_later m i is before fails = before ∙ ap (find E) (rest_next xs m i once is) ∙ ap (λ (b : Bool). if b then Some i else find E (rest_from (slice_get xs (m + 1)) xs)) fails
+  found_later m i is before fails = before ∙ ap (find E) (rest_next xs m i once is) ∙ ap (λ b. if b then Some i else find E (rest_from (slice_get xs (m + 1)) xs)) fails
 
   pub less_left : (m i : ℕ) → slice_get xs m ≡ Some i → length (rest_from (slice_get xs (m + 1)) xs) < length (rest_from (Some i) xs)
   less_left m i is = omega (arith, ap length (rest_next xs m i once is))

@@ -1,4 +1,4 @@
-use Rattle.std.proofs.Common.{◌≡◌, ◌∙◌, ◌&&◌, ◌==◌, ◌||◌, not, ℕ, Bool, true, false, is_some, length, option_map, sym, ap, arith, Some, None, if◌then◌else◌}
+use Rattle.std.proofs.Common.{◌≡◌, ◌∙◌, ◌&&◌, ◌==◌, ◌||◌, not, ℕ, Bool, true, false, is_some, length, option_map, sym, ap, arith, None, if◌then◌else◌}
 use Rattle.ix_model.{specs.{history.{AuditLog.label_at, Calls.op_of, Events.Op, Step.{Given, step}}, world.World.{World, Frame}}, proofs.words.Fixed.fixed_step}
 use Rattle.ix_fresh.specs.Touched.{label_of_entry}
 use Rattle.ix_marks.specs.{Known.{Known, spot_of, has_row}, RowIndex.{RowOwners, row_of}}
@@ -8,25 +8,25 @@ use Rattle.ix_core.proofs.marking.call_checked.Goals as goal
 
 pub tell_object-requires-clause-object : goal.tell_object-requires-clause-object
 tell_object-requires-clause-object g c o named moved =
-    let w : World = c.args.machine.now in
-    let c_op : Op = op_of c.args.call.now in
+    let w = c.args.machine.now in
+    let c_op = op_of c.args.call.now in
     let b = c.seen_before-before.ensures in
-    let after = ap (λ (u : World). u.frame) c.call-reply.ensures.world in
-    let long = ap (λ (f : Frame). length f.objects) after ∙ (fixed_step w c.args.place c.args.pid.0 c_op).objects in
-    let was : c.seen_before-before.result.object_label ≡ label_at w.frame (Some o) = b.object_label ∙ ap (label_at w.frame) (sym b.object ∙ named) in
-    let low = object_inside w.frame c.call-reply.new.self.frame o c.seen_before-before.result.object_label long was moved in
+    let after = ap (λ u. u.frame) c.call-reply.ensures.world in
+    let long = ap (λ f. length f.objects) after ∙ (fixed_step w _ _ _).objects in
+    let was = b.object_label ∙ ap (label_at w.frame) (sym b.object ∙ named) in
+    let low = object_inside _ _ o _ long was moved in
     let sizes = ap (λ z. z.objects) (c.tell_process.ensures.sizes ∙ c.requires.ready.sizes) in
     omega (arith, low, sizes)
 
 pub tell_entry-requires-clause-entry : goal.tell_entry-requires-clause-entry
 tell_entry-requires-clause-entry g c e named moved =
-    let w : World = c.args.machine.now in
-    let c_op : Op = op_of c.args.call.now in
+    let w = c.args.machine.now in
+    let c_op = op_of c.args.call.now in
     let b = c.seen_before-before.ensures in
-    let after = ap (λ (u : World). u.frame) c.call-reply.ensures.world in
-    let long = ap (λ (f : Frame). length f.opens) after ∙ (fixed_step w c.args.place c.args.pid.0 c_op).opens in
-    let was : c.seen_before-before.result.entry_label ≡ label_of_entry w.frame (Some e) = b.entry_label ∙ ap (label_of_entry w.frame) (sym b.entry ∙ named) in
-    let low = entry_inside w.frame c.call-reply.new.self.frame e c.seen_before-before.result.entry_label long was moved in
+    let after = ap (λ u. u.frame) c.call-reply.ensures.world in
+    let long = ap (λ f. length f.opens) after ∙ (fixed_step w _ _ _).opens in
+    let was = b.entry_label ∙ ap (label_of_entry w.frame) (sym b.entry ∙ named) in
+    let low = entry_inside w.frame c.call-reply.new.self.frame e _ long was moved in
     let sizes = ap (λ z. z.opens) (c.tell_object.ensures.sizes ∙ c.tell_process.ensures.sizes ∙ c.requires.ready.sizes) in
     omega (arith, low, sizes)
 
@@ -73,8 +73,7 @@ returns-clause-told g c =
             by_entry = c.tell_entry.ensures.spots q d v ∙ (λ i. unless_entry (b.entry i) (other_entry (b.entry_label i) after (b.entry i)) (spot_of c.tell_object.new.marks q d v));
             by_close = c.close.ensures.spots q d v;
             by_refresh = c.refresh.ensures.spots q d v;
-          })
-          ∙ (λ i. left w.frame (frame i) pid o (said i) q d v (option_map spot_in (spot_of m q d v)));
+          }) ∙ (λ i. left w.frame (frame i) pid o (said i) q d v (option_map spot_in (spot_of m q d v)));
       ready = record {
         rows = rows_live w place pid o m c.close.new.marks c.refresh.new.marks c.requires.sound (omega (arith, c.requires.few)) c.requires.ready
             (λ q. c.close.ensures.rows q ∙ (λ i. not (q == pid && has_exited o (said i)) && is_some (row_of q (seats i).pids)))

@@ -1,10 +1,8 @@
-use Rattle.ix_model.specs.history.Calls.{op_of}
 use Rattle.ix_core.proofs.Marked.{known_call, told_known}
 use Rattle.ix_core.proofs.marking.known.Goals as goal
 
 pub call_fresh-requires-clause-known : goal.call_fresh-requires-clause-known
-call_fresh-requires-clause-known c = known_call c.args.marks.now c.args.machine.now.frame c.args.pid.0 (op_of c.args.call.now) c.requires.known c.requires.fresh
+call_fresh-requires-clause-known c = known_call _ _ _ _ c.requires.known c.requires.fresh
 
 pub returns-clause-told : goal.returns-clause-told
-returns-clause-told c = told_known c.known_changes_nothing.ensures.nothing c.args.marks.now c.args.machine.now c.args.place c.args.pid.0 (op_of c.args.call.now)
-    c.requires.ready c.requires.known c.requires.fresh
+returns-clause-told c = told_known c.known_changes_nothing.ensures.nothing _ _ _ _ _ c.requires.ready c.requires.known c.requires.fresh

@@ -4,12 +4,12 @@ use Rattle.ix_fcalls.proofs.taking.share_all.Goals as goal
 
 pub loop-fd-preserved : goal.loop-fd-preserved
 loop-fd-preserved c = elim c.match-fds-fd.branch [
-  | in-Some w ↦ shared_more c.args.tables.now c.loop-fd.tables c.match-fds-fd.tables c.args.fds.now c.loop-fd.fd (omega (
+  | in-Some w ↦ shared_more _ _ _ _ _ (omega (
     arith,
     c.told-fds,
     c.loop-fd-test.true,
-  )) c.loop-fd.invariant w.in-Some.id w.in-Some.is (c.requires.entries _ _ w.in-Some.is) c.requires.long (w.tables-is ∙ w.share.ensures)
-  | in_default w ↦ shared_same c.args.tables.now c.loop-fd.tables c.match-fds-fd.tables c.args.fds.now c.loop-fd.fd (omega (
+  )) c.loop-fd.invariant _ w.in-Some.is (c.requires.entries _ _ w.in-Some.is) c.requires.long (w.tables-is ∙ w.share.ensures)
+  | in_default w ↦ shared_same _ _ _ _ _ (omega (
     arith,
     c.told-fds,
     c.loop-fd-test.true,

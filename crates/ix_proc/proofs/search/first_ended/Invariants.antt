@@ -5,7 +5,7 @@ use Rattle.ix_proc.proofs.search.first_ended.Given as goal
 
 abbrev pub invariant-loop-next : goal.invariant-loop-next
 invariant-loop-next l = (m : ℕ) × (l.next ≡ slice_get (chain_of l.chain l.kin) m)
-    × (find (λ (i : ℕ). is_some (record_at l.records i).ended) (chain_of l.chain l.kin) ≡ find (λ (i : ℕ). is_some (record_at l.records i).ended)
+    × (find (λ i. is_some (record_at l.records i).ended) (chain_of l.chain l.kin) ≡ find (λ i. is_some (record_at l.records i).ended)
     (rest_from l.next (chain_of l.chain l.kin)))
 
 abbrev pub decreases-loop-next : goal.decreases-loop-next

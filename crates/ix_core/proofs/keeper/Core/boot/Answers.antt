@@ -1,5 +1,4 @@
 use Rattle.std.proofs.Common.{◌∙◌, ap, length}
-use Rattle.ix_model.specs.world.World.{World}
 use Rattle.ix_core.proofs.{Standing.{stands_first, small_journal}, Keeping.marked_first}
 use Rattle.ix_core.proofs.keeper.Core.boot.Goals as goal
 
@@ -7,10 +6,9 @@ pub invariant_of-result : goal.invariant_of-result
 invariant_of-result c =
     let m = c.in_ok-marks.ensures in
     rw c.in_ok-journal.ensures (record {
-      stands = stands_first c.args.config c.in_ok-machine.machine c.requires c.in_ok-machine.ensures;
-      marked = marked_first c.args.config c.in_ok-marks.marks c.objects.result c.requires (c.objects.ensures
-          ∙ ap (λ (w : World). length w.frame.objects) c.in_ok-machine.ensures) m.fresh m.rows m.sizes m.raised;
+      stands = stands_first _ _ c.requires c.in_ok-machine.ensures;
+      marked = marked_first _ _ _ c.requires (c.objects.ensures ∙ ap (λ w. length w.frame.objects) c.in_ok-machine.ensures) m.fresh m.rows m.sizes m.raised;
     })
 
 pub new-requires : goal.new-requires
-new-requires c = small_journal c.args.config c.requires
+new-requires c = small_journal _ c.requires

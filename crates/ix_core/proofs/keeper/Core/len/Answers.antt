@@ -1,10 +1,10 @@
 use Rattle.std.proofs.Common.{arith, subst}
-use Rattle.ix_model.specs.{laws.Sound.Sound, history.History.{History, world_of}}
+use Rattle.ix_model.specs.{laws.Sound.Sound, history.History.world_of}
 use Rattle.ix_core.proofs.Standing.{entries_are_few, small_journal, sound_core}
 use Rattle.ix_core.proofs.keeper.Core.len.Goals as goal
 
 pub returns-clause-sound : goal.returns-clause-sound
-returns-clause-sound c = subst (λ (h : History). Sound (world_of h)) c.self.view_is (sound_core c.self.inside.machine c.self.inside.journal _ c.self.invariant.stands)
+returns-clause-sound c = subst (λ h. Sound (world_of h)) c.self.view_is (sound_core _ _ _ c.self.invariant.stands)
 
 pub returns-clause-few : goal.returns-clause-few
 returns-clause-few c = omega (

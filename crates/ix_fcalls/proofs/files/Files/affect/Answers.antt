@@ -9,5 +9,5 @@ returns-in-Some-2-clause-names g c = ap (λ (v : Parts). names_in_all v.objects)
     ∙ names_relabelled c.self.inside.tables.objects c.args.object c.in-Some-2.label ∙ ap (λ (v : Parts). names_in_all v.objects) c.self.view_is
 
 pub returns-in-Some-2-clause-stand : goal.returns-in-Some-2-clause-stand
-returns-in-Some-2-clause-stand g c = ap (λ (v : Parts). map is_some v.objects) c.set_label.ensures
-    ∙ standing_relabelled c.self.inside.tables.objects c.args.object c.in-Some-2.label ∙ ap (λ (v : Parts). map is_some v.objects) c.self.view_is
+returns-in-Some-2-clause-stand g c = ap (λ v. map is_some v.objects) c.set_label.ensures
+    ∙ standing_relabelled _ _ _ ∙ ap (λ v. map is_some v.objects) c.self.view_is

@@ -26,13 +26,13 @@ returns-in-SeekFd-clause-step g c =
     (c.seek.ensures.step c.args.buf.now)
 
 pub look-requires-clause-look : goal.look-requires-clause-look
-look-requires-clause-look g c = subst (λ (x : Call). IsLook (op_of x)) (sym c.in-StatAt.is) tt
+look-requires-clause-look g c = subst (λ x. IsLook (op_of x)) (sym c.in-StatAt.is) tt
 
 pub returns-in-StatAt-clause-step : goal.returns-in-StatAt-clause-step
-returns-in-StatAt-clause-step g c = c.look.ensures.step c.args.buf.now
+returns-in-StatAt-clause-step g c = c.look.ensures.step _
 
 pub plain-requires-clause-plain : goal.plain-requires-clause-plain
-plain-requires-clause-plain g c = plain_left c.args.call.now c.requires.filed c.in_default.not-ReadFd c.in_default.not-WriteFd c.in_default.not-CutFd c.in_default.not-SeekFd c.in_default.not-StatAt
+plain-requires-clause-plain g c = plain_left _ c.requires.filed c.in_default.not-ReadFd c.in_default.not-WriteFd c.in_default.not-CutFd c.in_default.not-SeekFd c.in_default.not-StatAt
 
 pub returns-in_default-clause-step : goal.returns-in_default-clause-step
-returns-in_default-clause-step g c = c.plain.ensures.step c.args.buf.now
+returns-in_default-clause-step g c = c.plain.ensures.step _

@@ -25,8 +25,7 @@ returns-clause-step g c =
     let w = g.moment.world in
     subst (λ (ps : List (Option Process)). Answers (step w g.moment.place c.args.who.now.pid.0 (op_of c.args.call.now))
     (world_of (around g.moment.place c.args.who.now.pid.0 w) c.turn_known.new.self ps) (reply_of c.turn_known.result) c.args.buf.now c.turn_known.new.buf)
-    c.requires.1.1.1.0
-    (answers_there g.moment.place c.args.who.now.pid.0 w (op_of c.args.call.now) c.args.self.now (with_who w.frame.processes c.args.who.now)
+    c.requires.1.1.1.0 (answers_there g.moment.place c.args.who.now.pid.0 w (op_of c.args.call.now) c.args.self.now (with_who w.frame.processes c.args.who.now)
     (world_of (around g.moment.place c.args.who.now.pid.0 w) c.turn_known.new.self (with_who w.frame.processes c.args.who.now))
     (reply_of c.turn_known.result) c.args.buf.now c.turn_known.new.buf
     c.requires.1.1.0 c.requires.1.1.1.0 c.turn_known.ensures.step)
@@ -35,5 +34,4 @@ pub returns-clause-parts : goal.returns-clause-parts
 returns-clause-parts g c =
     let w = g.moment.world in
     parts_after (around g.moment.place c.args.who.now.pid.0 w) c.turn_known.new.self w.frame.processes (step w g.moment.place c.args.who.now.pid.0 (op_of c.args.call.now)).world
-    (returns-clause-step g c).world
-    (subst (λ (ps : List (Option Process)). IsCounted c.turn_known.new.self ps) c.requires.1.1.1.0 c.turn_known.ensures.counted)
+    (returns-clause-step g c).world (subst (λ (ps : List (Option Process)). IsCounted c.turn_known.new.self ps) c.requires.1.1.1.0 c.turn_known.ensures.counted)

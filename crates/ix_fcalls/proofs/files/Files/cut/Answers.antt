@@ -1,5 +1,5 @@
 use Rattle.std.proofs.{Common.{refl, sym, ◌∙◌, nat_lt}, lemmas.Bool.{ltb-false, or_parts}}
-use Rattle.ix_fcalls.{specs.{Around.frame_of, Views.behind_of, Telling.told_of}, proofs.Serving.{serves_found, serves_still}, proofs.Unmoved.pipe_same}
+use Rattle.ix_fcalls.{specs.{Around.frame_of, Views.behind_of, Telling.told_of}, proofs.{Serving.{serves_found, serves_still}, Unmoved.pipe_same}}
 use Rattle.ix_fcalls.proofs.CutSteps.{cut_floats, cut_room, answers_cut_none, answers_no_cut, answers_uncut, answers_cut}
 use Rattle.ix_fcalls.proofs.files.Files.cut.Goals as goal
 
@@ -19,10 +19,10 @@ told_of_cut-told-requires-clause-serves g c = serves_found g.R.Others.rest c.arg
     (sym c.in-Some.ensures.behind) c.in-Some.ensures.offset
 
 pub told_of_cut-told-requires-clause-file : goal.told_of_cut-told-requires-clause-file
-told_of_cut-told-requires-clause-file g c = (or_parts (nat_lt 1048576 c.args.len) _ (sym c.is_no_cut.ensures ∙ c.if-is_no_cut.false)).1
+told_of_cut-told-requires-clause-file g c = (or_parts _ _ (sym c.is_no_cut.ensures ∙ c.if-is_no_cut.false)).1
 
 pub told_of_cut-told-requires-clause-most : goal.told_of_cut-told-requires-clause-most
-told_of_cut-told-requires-clause-most g c = ltb-false 1048576 c.args.len (or_parts (nat_lt 1048576 c.args.len) _ (sym c.is_no_cut.ensures ∙ c.if-is_no_cut.false)).0
+told_of_cut-told-requires-clause-most g c = ltb-false 1048576 _ (or_parts _ _ (sym c.is_no_cut.ensures ∙ c.if-is_no_cut.false)).0
 
 pub cut_bytes-requires-clause-file : goal.cut_bytes-requires-clause-file
 cut_bytes-requires-clause-file g c =
@@ -32,7 +32,7 @@ cut_bytes-requires-clause-file g c =
     ∙ (or_parts (nat_lt 1048576 c.args.len) _ (sym c.is_no_cut.ensures ∙ c.if-is_no_cut.false)).1
 
 pub cut_bytes-requires-clause-most : goal.cut_bytes-requires-clause-most
-cut_bytes-requires-clause-most g c = ltb-false 1048576 c.args.len (or_parts (nat_lt 1048576 c.args.len) _ (sym c.is_no_cut.ensures ∙ c.if-is_no_cut.false)).0
+cut_bytes-requires-clause-most g c = ltb-false 1048576 _ (or_parts _ _ (sym c.is_no_cut.ensures ∙ c.if-is_no_cut.false)).0
 
 pub cut_bytes-requires-clause-serves : goal.cut_bytes-requires-clause-serves
 cut_bytes-requires-clause-serves g c = serves_still g.R.Others.rest c.args.self.now c.decide-2.new.self c.args.who.now c.decide-2.new.who c.in-Some.e

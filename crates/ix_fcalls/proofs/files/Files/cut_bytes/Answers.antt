@@ -18,18 +18,12 @@ cut-requires-clause-room g c = subst (λ (v : Parts). has_room c.args.e.now.obje
     (cut_has_room g.R.Others.rest c.args.self.now c.args.who.now c.args.e.now c.args.len c.requires.room)
 
 pub returns-clause-frame : goal.returns-clause-frame
-returns-clause-frame g c =
-    edited_frame c.args.self.now c.cut.new.self _ _
-    (c.cut.ensures ∙ ap (with_cut c.args.e.now.object c.args.len) c.self.view_is)
+returns-clause-frame g c = edited_frame c.args.self.now c.cut.new.self _ _ (c.cut.ensures ∙ ap (with_cut c.args.e.now.object c.args.len) c.self.view_is)
     g.R.Others.rest c.args.who.now
 
 pub returns-clause-content : goal.returns-clause-content
-returns-clause-content g c =
-    cut_short g.R.Others.rest c.args.self.now c.args.who.now c.args.e.now c.cut.new.self c.args.len c.requires.serves c.requires.file
+returns-clause-content g c = cut_short g.R.Others.rest c.args.self.now c.args.who.now c.args.e.now c.cut.new.self c.args.len c.requires.serves c.requires.file
     (c.cut.ensures ∙ ap (with_cut c.args.e.now.object c.args.len) c.self.view_is)
 
 pub returns-clause-counted : goal.returns-clause-counted
-returns-clause-counted g c =
-    edited_counted c.args.self.now c.cut.new.self _ _
-    (c.cut.ensures ∙ ap (with_cut c.args.e.now.object c.args.len) c.self.view_is)
-    c.args.who.now c.requires.counted
+returns-clause-counted g c = edited_counted _ _ _ _ (c.cut.ensures ∙ ap (with_cut c.args.e.now.object c.args.len) c.self.view_is) _ c.requires.counted

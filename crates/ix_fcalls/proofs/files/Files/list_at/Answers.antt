@@ -10,8 +10,7 @@ returns-in_default-name_at-clause-row g c =
     list_ends g.R.Others.rest.pid c.args.index (path_of c.args.path.now) (frame_of g.R.Others.rest c.args.self.now c.args.who.now)
     (frame_of g.R.Others.rest c.args.self.now c.object_row_at.new.who) (frame_of g.R.Others.rest c.args.self.now c.observe.new.who) c.in_ok-object.object x
     c.in_ok-object.ensures.row
-    c.in_ok-object.ensures.object
-    (ap (λ (k : Kind). is_dir (record nothing { kind = k })) c.in-Dir.is)
+    c.in_ok-object.ensures.object (ap (λ (k : Kind). is_dir (record nothing { kind = k })) c.in-Dir.is)
     c.in_ok-observe.ensures.row
     (ap (λ (v : Parts). slice_get (node v.objects c.in_ok-object.object).names c.args.index) (sym c.self.view_is) ∙ sym c.name_at.ensures ∙ c.in_default-name_at.is)
 
@@ -22,8 +21,7 @@ returns-clause-row g c =
     (frame_of g.R.Others.rest c.args.self.now c.object_row_at.new.who) (frame_of g.R.Others.rest c.args.self.now c.observe.new.who) c.in_ok-object.object x
     _
     c.in_ok-object.ensures.row
-    c.in_ok-object.ensures.object
-    (ap (λ (k : Kind). is_dir (record nothing { kind = k })) c.in-Dir.is)
+    c.in_ok-object.ensures.object (ap (λ (k : Kind). is_dir (record nothing { kind = k })) c.in-Dir.is)
     c.in_ok-observe.ensures.row
     (ap (λ (v : Parts). slice_get (node v.objects c.in_ok-object.object).names c.args.index) (sym c.self.view_is) ∙ sym c.name_at.ensures ∙ c.in-Some.is) in
     grind (arith, whole, c.in-Some.name-is, c.in-Some.obj-is)

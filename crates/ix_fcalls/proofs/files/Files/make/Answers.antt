@@ -1,16 +1,14 @@
 use Rattle.std.proofs.Common.{◌<◌, ◌∙◌, ℕ, Some, None, length, nat_lt, sym, ap, subst}
 use Rattle.ix_label.specs.Category.{Categories}
-use Rattle.ix_model.specs.{world.World.{Frame, Object, at, put, change}, world.Naming.last_name, world.Numbers.fs_number, world.Directories.with_name}
-use Rattle.ix_model.specs.{world.Owners.names_in_all, world.Paths.path_of, rows.{OnPaths.new_object, Rows.affect, Walks.{node, child}}}
+use Rattle.ix_model.specs.world.{World.{Frame, Object, at, put, change}, Naming.last_name, Numbers.fs_number, Directories.with_name}
+use Rattle.ix_model.specs.{world.{Owners.names_in_all, Paths.path_of}, rows.{OnPaths.new_object, Rows.affect, Walks.{node, child}}}
 use Rattle.ix_tables.specs.{Parts.Parts, Views.{object_by, vacant_inode}}
-use Rattle.ix_fcalls.{specs.Around.frame_of, proofs.Chaining.make_is}
+use Rattle.ix_fcalls.{specs.Around.frame_of, proofs.{Chaining.make_is, Leading.{kept_made, room_is}}}
 use Rattle.ix_fcalls.proofs.Leading.{fs_missing, dir_missing, absent_missing, dir_still, child_still, room_still, fs_still, vacant_still, counted_made, free_is}
-use Rattle.ix_fcalls.proofs.Leading.{kept_made, room_is}
 use Rattle.ix_fcalls.proofs.files.Files.make.Goals as goal
 
 pub vacant_inode-requires : goal.vacant_inode-requires
-vacant_inode-requires g c =
-    subst (λ (v : Parts). c.fs_number-fs.result < length v.fss) (sym c.self.view_is)
+vacant_inode-requires g c = subst (λ (v : Parts). c.fs_number-fs.result < length v.fss) (sym c.self.view_is)
     (subst (λ (k : ℕ). k < length c.args.self.now.fss) (sym c.fs_number-fs.ensures)
     (fs_missing g.R.Others.rest c.args.self.now c.args.who.now c.missing.new.who (path_of c.args.path.now) c.requires.sound c.in_ok-dir.dir
     c.in_ok-dir.ensures.row _ (ap (λ (v : Parts). at v.objects c.in_ok-dir.dir) (sym c.self.view_is) ∙ c.in-Some.ensures.object)))
@@ -21,14 +19,12 @@ put_named-requires-clause-dir g c =
     (dir_missing g.R.Others.rest c.args.self.now c.args.who.now c.missing.new.who (path_of c.args.path.now) c.requires.sound c.in_ok-dir.dir c.in_ok-dir.ensures.row)
 
 pub put_named-requires-clause-absent : goal.put_named-requires-clause-absent
-put_named-requires-clause-absent g c =
-    ap (child (node c.affect.new.self.objects c.in_ok-dir.dir)) c.last_name.ensures
+put_named-requires-clause-absent g c = ap (child (node c.affect.new.self.objects c.in_ok-dir.dir)) c.last_name.ensures
     ∙ child_still g.R.Others.rest c.args.self.now c.affect.new.self c.missing.new.who c.in_ok-dir.dir _ c.in_ok-affect.ensures.row c.in_ok-dir.dir (last_name (path_of c.args.path.now).names) None
     (absent_missing g.R.Others.rest c.args.self.now c.args.who.now c.missing.new.who (path_of c.args.path.now) c.requires.sound c.in_ok-dir.dir c.in_ok-dir.ensures.row)
 
 pub put_named-requires-clause-room : goal.put_named-requires-clause-room
-put_named-requires-clause-room g c =
-    room_still g.R.Others.rest c.args.self.now c.affect.new.self c.missing.new.who c.in_ok-dir.dir _ c.in_ok-affect.ensures.row
+put_named-requires-clause-room g c = room_still g.R.Others.rest c.args.self.now c.affect.new.self c.missing.new.who c.in_ok-dir.dir _ c.in_ok-affect.ensures.row
     (ap (λ (v : Parts). nat_lt (names_in_all v.objects) v.limits.names) (sym c.self.view_is) ∙ sym c.has_room_for_a_name.ensures ∙ c.if-not-has_room_for_a_name.false)
 
 pub put_named-requires-clause-fs : goal.put_named-requires-clause-fs
@@ -50,21 +46,19 @@ returns-clause-row g c =
     let x : Object = object_by (node c.self.inside.tables.objects c.in_ok-dir.dir) c.in-Some.x in
     make_is g.R.Others.rest.pid (path_of c.args.path.now) c.args.kind (frame_of g.R.Others.rest c.args.self.now c.args.who.now) m h
     (frame_of g.R.Others.rest c.put_named.new.self c.missing.new.who) c.in_ok-dir.dir c.in-Some-vacant_inode.n x
-    c.in_ok-dir.ensures.row
-    (ap (λ (v : Parts). at v.objects c.in_ok-dir.dir) (sym c.self.view_is) ∙ c.in-Some.ensures.object)
+    c.in_ok-dir.ensures.row (ap (λ (v : Parts). at v.objects c.in_ok-dir.dir) (sym c.self.view_is) ∙ c.in-Some.ensures.object)
     (free_is m (fs_number x) ∙ ap (λ (k : ℕ). vacant_inode c.args.self.now.fss c.args.self.now.objects k) (sym c.fs_number-fs.ensures)
     ∙ ap (λ (v : Parts). vacant_inode v.fss v.objects c.fs_number-fs.result) (sym c.self.view_is) ∙ sym c.in-Some-vacant_inode.ensures.vacant)
     (room_is m ∙ ap (λ (v : Parts). nat_lt (names_in_all v.objects) v.limits.names) (sym c.self.view_is) ∙ sym c.has_room_for_a_name.ensures ∙ c.if-not-has_room_for_a_name.false)
     (ap (λ (l : Categories). affect g.R.Others.rest.pid c.in_ok-dir.dir l m) (sym c.bottom.ensures) ∙ c.in_ok-affect.ensures.row)
     (ap (λ (v : Parts). frame_of g.R.Others.rest v c.missing.new.who) c.put_named.ensures
     ∙ (λ i. let k : Frame = record h {
-      objects =
-          change (put h.objects c.in-Some-vacant_inode.n (Some (new_object c.args.kind (Some (c.fs_number-fs.ensures i))))) c.in_ok-dir.dir
+      objects = change (put h.objects c.in-Some-vacant_inode.n (Some (new_object c.args.kind (Some (c.fs_number-fs.ensures i))))) c.in_ok-dir.dir
           (with_name (c.last_name.ensures i) c.in-Some-vacant_inode.n);
     } in k))
 
 pub returns-clause-counted : goal.returns-clause-counted
-returns-clause-counted g c = counted_made c.affect.new.self c.put_named.new.self c.missing.new.who c.in_ok-dir.dir c.in-Some-vacant_inode.n _ _ _ c.in_ok-affect.ensures.counted c.put_named.ensures
+returns-clause-counted g c = counted_made _ _ _ _ _ _ _ _ c.in_ok-affect.ensures.counted c.put_named.ensures
 
 pub returns-clause-kept : goal.returns-clause-kept
 returns-clause-kept g c =

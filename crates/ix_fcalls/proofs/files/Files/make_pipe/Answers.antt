@@ -1,11 +1,10 @@
-use Rattle.std.proofs.Common.{◌≡◌, ◌<◌, ◌∙◌, ℕ, [], Option, Some, refl, sym, ap, subst, inl, inr, count_by, is_none, arith}
-use Rattle.std.specs.Option.{option_map_or}
+use Rattle.std.{proofs.Common.{◌≡◌, ◌<◌, ◌∙◌, ℕ, [], Option, Some, refl, sym, ap, subst, inl, inr, count_by, is_none, arith}, specs.Option.option_map_or}
 use Rattle.ix_label.specs.Category.{bottom}
 use Rattle.ix_model.specs.{laws.Sound.Sound, world.World.{Frame, Process, at, put, living, lowest_free}, rows.{Outcomes.Refuse, OnDescriptors.make_pipe}}
+use Rattle.ix_tables.specs.{Parts.Parts, Views.vacant_pipe}
+use Rattle.ix_fcalls.{specs.{Around.world_of, Counted.Keeps}, proofs.{Ends.{few_free, kept_made}, Giving.free_there}}
 use Rattle.ix_model.specs.declared.call.Mode.TheVariants as mode
 use Rattle.ix_model.specs.declared.refusal.Refusal.TheVariants as refusal
-use Rattle.ix_tables.specs.{Parts.Parts, Views.vacant_pipe}
-use Rattle.ix_fcalls.{specs.{Around.{frame_of, world_of, process_of}, Counted.Keeps}, proofs.{Ends.{few_free, kept_made}, Giving.free_there}}
 use Rattle.ix_fcalls.proofs.files.Files.make_pipe.Goals as goal
 
 -- with a pipe and both descriptors found, the row refuses where fewer than two entries are free
@@ -25,11 +24,10 @@ too_few f pid n a b p q pipe lives again first second few =
 
 pub returns-then-free_opens-lt2-clause-row : goal.returns-then-free_opens-lt2-clause-row
 returns-then-free_opens-lt2-clause-row g c =
-    let vacant : Some c.in_ok-n.n ≡ vacant_pipe c.self.inside.tables.fss c.self.inside.tables.objects = sym c.in_ok-n.ensures.ok_part ∙ c.vacant_pipe.ensures.vacant in
+    let vacant = sym c.in_ok-n.ensures.ok_part ∙ c.vacant_pipe.ensures.vacant in
     let few : count_by is_none c.args.self.now.opens < 2 = omega (arith, c.if-free_opens-lt2.true, c.free_opens.ensures, ap (λ (v : Parts). count_by is_none v.opens) c.self.view_is) in
-    too_few (frame_of g.R.Others.rest c.args.self.now c.args.who.now) g.R.Others.rest.pid c.in_ok-n.n c.in_ok-a.a c.in_ok-b.b
-    (process_of g.R.Others.rest c.caller.result.now) (process_of g.R.Others.rest c.caller-2.result.now)
-    (vacant ∙ ap (λ (v : Parts). vacant_pipe v.fss v.objects) c.self.view_is) c.caller.ensures.living c.caller-2.ensures.living (sym c.free_fd.ensures.free
+    too_few _ _ _ _ _
+    _ _ (vacant ∙ ap (λ v. vacant_pipe v.fss v.objects) c.self.view_is) c.caller.ensures.living c.caller-2.ensures.living (sym c.free_fd.ensures.free
     ∙ c.in_ok-a.ensures.ok_part) (sym c.second_fd.ensures.second ∙ c.in_ok-b.ensures.ok_part) few
 
 pub open_both-requires-clause-first : goal.open_both-requires-clause-first

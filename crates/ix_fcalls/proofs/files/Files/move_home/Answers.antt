@@ -5,7 +5,7 @@ use Rattle.ix_fcalls.proofs.files.Files.move_home.Goals as goal
 
 pub leave-requires-clause-within : goal.leave-requires-clause-within
 leave-requires-clause-within g c =
-    let home : c.caller.result.now.cwd.0 < length c.args.self.now.objects = c.requires.home _ c.caller.ensures.living in
+    let home = c.requires.home _ c.caller.ensures.living in
     omega (arith, home, homes_long c.args.self.now c.args.who.now c.requires.counted, ap (λ (v : Parts). length v.homes) c.self.view_is)
 
 pub leave-requires-clause-some : goal.leave-requires-clause-some
@@ -46,6 +46,6 @@ returns-clause-homes g c =
 
 pub returns-clause-counted : goal.returns-clause-counted
 returns-clause-counted g c =
-    let home : c.caller.result.now.cwd.0 < length c.args.self.now.objects = c.requires.home _ c.caller.ensures.living in
-    counted_moved c.args.self.now c.args.who.now c.requires.counted _ _ c.caller.ensures.living home c.args.dir c.requires.within c.settle.new.self
-    c.set_cwd.new.self (returns-clause-homes g c) c.set_cwd.ensures
+    let home = c.requires.home _ c.caller.ensures.living in
+    counted_moved _ _ c.requires.counted _ _ c.caller.ensures.living home _ c.requires.within _
+    _ (returns-clause-homes g c) c.set_cwd.ensures

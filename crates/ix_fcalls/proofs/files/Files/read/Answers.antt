@@ -31,5 +31,4 @@ returns-in-Bytes-clause-step g c = answers_read g.R.Others.rest c.args.self.now 
 pub returns-in_default-decide-clause-step : goal.returns-in_default-decide-clause-step
 returns-in_default-decide-clause-step g c = answers_unread g.R.Others.rest c.args.self.now c.decide-2.new.self c.args.who.now c.decide-2.new.who c.args.fd.0
     c.args.count (told_of c.told_of_read-told.result) c.decide-2.result c.requires.sound c.decide-2.ensures.content c.decide-2.ensures.reply
-    c.decide-2.ensures.frame
-    (behind_of c.in-Some.e) (sym c.in-Some.ensures.behind) c.told_of_read-told.ensures c.args.buf.now c.in_default-decide.not-Bytes
+    c.decide-2.ensures.frame (behind_of c.in-Some.e) (sym c.in-Some.ensures.behind) c.told_of_read-told.ensures c.args.buf.now c.in_default-decide.not-Bytes

@@ -1,4 +1,4 @@
-use Rattle.std.proofs.Common.{◌≡◌, ◌∙◌, Some, None, sym}
+use Rattle.std.proofs.Common.{◌∙◌, sym}
 use Rattle.ix_fcalls.{specs.{Views.behind_of, Telling.told_of}, proofs.{Serving.serves_found, KnownSteps.{known_few, known_read, known_unread}}}
 use Rattle.ix_fcalls.proofs.files.Files.read_known.Goals as goal
 
@@ -23,4 +23,4 @@ returns-in-Err-clause-step g c = known_unread g.R.Others.rest c.args.self.now c.
     c.in-Err.ensures.row
 
 pub unreachable-requires : goal.unreachable-requires
-unreachable-requires g c = let h : None ≡ Some c.requires.known.entry = c.in_default.ensures.behind ∙ c.requires.known.is_behind in cc
+unreachable-requires g c = let h = c.in_default.ensures.behind ∙ c.requires.known.is_behind in cc

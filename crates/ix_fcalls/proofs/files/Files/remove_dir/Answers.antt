@@ -1,10 +1,9 @@
 use Rattle.std.proofs.{Common.{◌≡◌, ◌<◌, ◌==◌, ◌∙◌, ℕ, Some, None, true, length, unwrap_or, sym, ap, subst}, lemmas.{Bool.eqb-true, List.nil_from_length}}
 use Rattle.ix_label.specs.Category.{Categories}
-use Rattle.ix_model.specs.{world.World.{Frame, Object, at, put, change, is_dir}, world.Naming.last_name, world.Numbers.first_inode, world.NameRefs.name_of}
-use Rattle.ix_model.specs.{world.Directories.without_name, world.Paths.path_of, rows.{Rows.affect, Walks.{node, nothing, child}}, declared.reply.Kind.Kind}
+use Rattle.ix_model.specs.world.{World.{Frame, Object, at, put, change, is_dir}, Naming.last_name, Numbers.first_inode, NameRefs.name_of}
+use Rattle.ix_model.specs.{world.{Directories.without_name, Paths.path_of}, rows.{Rows.affect, Walks.{node, nothing, child}}, declared.reply.Kind.Kind}
 use Rattle.ix_tables.specs.{Parts.Parts, Views.object_by}
-use Rattle.ix_fcalls.specs.{Around.frame_of, Views.spot_of}
-use Rattle.ix_fcalls.proofs.{Chaining.remove_is, Leading.{dir_spot, child_spot, processes_spot, dir_still, child_still, fs_of_dir}}
+use Rattle.ix_fcalls.{specs.{Around.frame_of, Views.spot_of}, proofs.{Chaining.remove_is, Leading.{dir_spot, child_spot, processes_spot, dir_still, child_still, fs_of_dir}}}
 use Rattle.ix_fcalls.proofs.Unnaming.{counted_left, content_left, processes_seen, processes_twice}
 use Rattle.ix_fcalls.proofs.files.Files.remove_dir.Goals as goal
 
@@ -12,15 +11,14 @@ pub is_root-requires : goal.is_root-requires
 is_root-requires g c =
     let x : Object = object_by (node c.self.inside.tables.objects c.in_ok-spot.spot.object) c.in-Some.x in
     let there : at c.args.self.now.objects c.in_ok-spot.spot.object ≡ Some x = ap (λ (v : Parts). at v.objects c.in_ok-spot.spot.object) (sym c.self.view_is) ∙ c.in-Some.ensures.object in
-    subst (λ (v : Parts). c.fs_number.result < length v.fss) (sym c.self.view_is)
-    (subst (λ (k : ℕ). k < length c.args.self.now.fss) (sym c.fs_number.ensures)
+    subst (λ (v : Parts). c.fs_number.result < length v.fss) (sym c.self.view_is) (subst (λ (k : ℕ). k < length c.args.self.now.fss) (sym c.fs_number.ensures)
     (fs_of_dir g.R.Others.rest c.args.self.now c.args.who.now c.requires.sound c.in_ok-spot.spot.object x there (ap (λ (k : Kind). is_dir (record nothing { kind = k })) c.in-Dir.is)))
 
 pub is_bare-requires : goal.is_bare-requires
-is_bare-requires g c = ap (λ o. is_dir (unwrap_or o nothing)) c.in-Some.ensures.object ∙ ap (λ (k : Kind). is_dir (record nothing { kind = k })) c.in-Dir.is
+is_bare-requires g c = ap (λ o. is_dir (unwrap_or o nothing)) c.in-Some.ensures.object ∙ ap (λ k. is_dir (record nothing { kind = k })) c.in-Dir.is
 
 pub is_home-requires-clause-within : goal.is_home-requires-clause-within
-is_home-requires-clause-within g c = subst (λ (v : Parts). c.in_ok-spot.spot.object < length v.objects) c.self.view_is c.in-Some.ensures.within
+is_home-requires-clause-within g c = subst (λ v. c.in_ok-spot.spot.object < length v.objects) c.self.view_is c.in-Some.ensures.within
 
 pub drop_dir-requires-clause-dir : goal.drop_dir-requires-clause-dir
 drop_dir-requires-clause-dir g c =
@@ -29,17 +27,15 @@ drop_dir-requires-clause-dir g c =
     c.in-Some-dir.dir c.in_ok-spot.ensures.row c.in-Some-dir.is)
 
 pub drop_dir-requires-clause-child : goal.drop_dir-requires-clause-child
-drop_dir-requires-clause-child g c =
-    ap (child (node c.affect.new.self.objects c.in-Some-dir.dir)) c.last_name.ensures
+drop_dir-requires-clause-child g c = ap (child (node c.affect.new.self.objects c.in-Some-dir.dir)) c.last_name.ensures
     ∙ child_still g.R.Others.rest c.args.self.now c.affect.new.self c.observe.new.who c.in-Some-dir.dir _ c.in_ok-affect.ensures.row c.in-Some-dir.dir
     (last_name (path_of c.args.path.now).names) (Some c.in_ok-spot.spot.object)
     (child_spot g.R.Others.rest c.args.self.now c.args.who.now c.spot_at.new.who (path_of c.args.path.now) c.requires.sound (spot_of c.in_ok-spot.spot)
     c.in-Some-dir.dir c.in_ok-spot.ensures.row c.in-Some-dir.is)
 
 pub drop_dir-requires-clause-bare : goal.drop_dir-requires-clause-bare
-drop_dir-requires-clause-bare g c =
-    c.in_ok-affect.ensures.kept_names c.in_ok-spot.spot.object
-    ∙ ap (λ (v : Parts). (node v.objects c.in_ok-spot.spot.object).names) (sym c.self.view_is)
+drop_dir-requires-clause-bare g c = c.in_ok-affect.ensures.kept_names c.in_ok-spot.spot.object
+    ∙ ap (λ v. (node v.objects c.in_ok-spot.spot.object).names) (sym c.self.view_is)
     ∙ nil_from_length _ (eqb-true _ 0 (sym c.is_bare.ensures ∙ c.if-not-is_bare.false))
 
 pub drop_dir-requires-clause-is_dir : goal.drop_dir-requires-clause-is_dir
@@ -57,16 +53,12 @@ returns-clause-row g c =
     let x : Object = object_by (node c.self.inside.tables.objects c.in_ok-spot.spot.object) c.in-Some.x in
     remove_is g.R.Others.rest.pid (path_of c.args.path.now) (frame_of g.R.Others.rest c.args.self.now c.args.who.now) m l h
     (frame_of g.R.Others.rest c.drop_dir.new.self c.observe.new.who) (spot_of c.in_ok-spot.spot) c.in-Some-dir.dir x
-    c.in_ok-spot.ensures.row
-    (ap (λ (v : Parts). at v.objects n) (sym c.self.view_is) ∙ c.in-Some.ensures.object)
+    c.in_ok-spot.ensures.row (ap (λ (v : Parts). at v.objects n) (sym c.self.view_is) ∙ c.in-Some.ensures.object)
     (ap (λ (k : Kind). is_dir (record nothing { kind = k })) c.in-Dir.is)
-    c.in_ok-observe.ensures.row
-    (ap (λ (k : ℕ). n == first_inode c.args.self.now.fss k) (sym c.fs_number.ensures)
+    c.in_ok-observe.ensures.row (ap (λ (k : ℕ). n == first_inode c.args.self.now.fss k) (sym c.fs_number.ensures)
     ∙ ap (λ (v : Parts). n == first_inode v.fss c.fs_number.result) (sym c.self.view_is) ∙ sym c.is_root.ensures ∙ c.if-is_root.false)
-    (sym c.is_bare.ensures ∙ c.if-not-is_bare.false)
-    (sym c.is_home.ensures ∙ c.if-is_home.false)
-    c.in-Some-dir.is
-    (ap (λ (z : Categories). affect g.R.Others.rest.pid c.in-Some-dir.dir z l) (sym c.bottom.ensures) ∙ c.in_ok-affect.ensures.row)
+    (sym c.is_bare.ensures ∙ c.if-not-is_bare.false) (sym c.is_home.ensures ∙ c.if-is_home.false)
+    c.in-Some-dir.is (ap (λ (z : Categories). affect g.R.Others.rest.pid c.in-Some-dir.dir z l) (sym c.bottom.ensures) ∙ c.in_ok-affect.ensures.row)
     (ap (λ (v : Parts). frame_of g.R.Others.rest v c.observe.new.who) c.drop_dir.ensures
     ∙ (λ i. let k : Frame = record h { objects = put (change h.objects c.in-Some-dir.dir (without_name (c.last_name.ensures i))) n None } in k))
 
@@ -75,8 +67,7 @@ returns-clause-counted g c = counted_left c.affect.new.self c.drop_dir.new.self 
     (without_name (name_of c.last_name.result)) _ c.in_ok-affect.ensures.counted c.drop_dir.ensures
 
 pub returns-clause-content : goal.returns-clause-content
-returns-clause-content g c =
-    content_left g.R.Others.rest c.args.self.now c.affect.new.self c.args.who.now c.observe.new.who c.requires.sound
+returns-clause-content g c = content_left g.R.Others.rest c.args.self.now c.affect.new.self c.args.who.now c.observe.new.who c.requires.sound
     (processes_twice c.args.who.now c.spot_at.new.who c.observe.new.who
     (processes_spot g.R.Others.rest c.args.self.now c.args.who.now c.spot_at.new.who (path_of c.args.path.now) c.requires.sound (spot_of c.in_ok-spot.spot) c.in_ok-spot.ensures.row)
     (processes_seen g.R.Others.rest c.args.self.now c.spot_at.new.who c.observe.new.who _ c.in_ok-observe.ensures.row))

@@ -1,8 +1,7 @@
 use Rattle.std.proofs.Common.{◌≡◌, sym, ap, subst, is_some, true, slice_set, ◌∙◌}
 use Rattle.ix_model.specs.world.World.{at}
 use Rattle.ix_tables.specs.Parts.{Parts}
-use Rattle.ix_fcalls.specs.Views.{behind_of}
-use Rattle.ix_fcalls.proofs.{Serving.{serves_found, serves_still}, SeekSteps.{seek_floats, answers_seek_none, answers_unsought, answers_seek}}
+use Rattle.ix_fcalls.{specs.Views.behind_of, proofs.{Serving.{serves_found, serves_still}, SeekSteps.{seek_floats, answers_seek_none, answers_unsought, answers_seek}}}
 use Rattle.ix_fcalls.proofs.files.Files.seek.Goals as goal
 
 pub returns-in_default-clause-step : goal.returns-in_default-clause-step

@@ -5,7 +5,7 @@ use Rattle.ix_fcalls.proofs.Sizes.{size_nothing, size_of_file, size_of_pipe, no_
 use Rattle.ix_fcalls.proofs.files.Files.size.Goals as goal
 
 pub returns-in_err-kind : goal.returns-in_err-kind
-returns-in_err-kind c = c.from_residual.ensures ∙ size_nothing c.args.self.now c.args.obj.0 c.args.end c.in_err-kind.ensures.object
+returns-in_err-kind c = c.from_residual.ensures ∙ size_nothing _ _ _ c.in_err-kind.ensures.object
 
 pub returns-in-File : goal.returns-in-File
 returns-in-File c = size_of_file c.args.self.now c.args.obj.0 c.args.end c.in_ok-kind.field-0 _ c.in_ok-kind.ensures.object c.in-File.is c.if-end-eq0.true

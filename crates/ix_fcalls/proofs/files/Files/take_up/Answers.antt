@@ -4,15 +4,15 @@ use Rattle.ix_fcalls.{specs.Counted.IsCounted, proofs.{Counting.{owners_long, ho
 use Rattle.ix_fcalls.proofs.files.Files.take_up.Goals as goal
 
 pub share_all-requires-clause-long : goal.share_all-requires-clause-long
-share_all-requires-clause-long g c = owners_long c.self.inside.tables g.processes (subst (λ (v : Parts). IsCounted v g.processes) (sym c.self.view_is) c.requires.0)
+share_all-requires-clause-long g c = owners_long _ _ (subst (λ v. IsCounted v g.processes) (sym c.self.view_is) c.requires.0)
 
 pub share_all-requires-clause-few : goal.share_all-requires-clause-few
-share_all-requires-clause-few g c = owners_bounded c.self.inside.tables g.processes (subst (λ (v : Parts). IsCounted v g.processes) (sym c.self.view_is) c.requires.0) c.requires.1.0 c.requires.1.1.0
+share_all-requires-clause-few g c = owners_bounded _ _ (subst (λ v. IsCounted v g.processes) (sym c.self.view_is) c.requires.0) c.requires.1.0 c.requires.1.1.0
 
 pub settle-requires-clause-within : goal.settle-requires-clause-within
 settle-requires-clause-within g c =
-    let long = homes_long c.args.self.now g.processes c.requires.0 in
-    let same = ap (λ (v : Parts). length v.homes) c.share_all.ensures.rest ∙ ap (λ (v : Parts). length v.homes) c.self.view_is in
+    let long = homes_long _ _ c.requires.0 in
+    let same = ap (λ v. length v.homes) c.share_all.ensures.rest ∙ ap (λ v. length v.homes) c.self.view_is in
     omega (arith, long, same, c.requires.1.1.1.1)
 
 pub settle-requires-clause-few : goal.settle-requires-clause-few
@@ -20,6 +20,6 @@ settle-requires-clause-few g c = rw (ap (λ (v : Parts). v.homes) c.share_all.en
     (homes_bounded c.args.self.now g.processes c.requires.0 c.requires.1.0 c.args.child.now.cwd.0 c.requires.1.1.1.1)
 
 pub returns-clause-counted : goal.returns-clause-counted
-returns-clause-counted g c = counted_taken c.self.inside.tables c.share_all.new.tables c.settle.new.self g.processes c.args.child.now.fds c.args.child.now.cwd.0
-    (subst (λ (v : Parts). IsCounted v g.processes) (sym c.self.view_is) c.requires.0) (subst (λ (v : Parts). c.args.child.now.cwd.0 < length v.objects) (sym c.self.view_is) c.requires.1.1.1.1)
+returns-clause-counted g c = counted_taken _ _ _ _ _ _
+    (subst (λ v. IsCounted v g.processes) (sym c.self.view_is) c.requires.0) (subst (λ v. c.args.child.now.cwd.0 < length v.objects) (sym c.self.view_is) c.requires.1.1.1.1)
     c.share_all.ensures.owners c.share_all.ensures.long c.share_all.ensures.rest c.settle.ensures

@@ -12,7 +12,7 @@ size-old-requires g c = subst (λ (v : Parts). option_map_or is_file (at v.objec
     (serves_file c.args.self.now c.args.e.now c.requires.serves c.requires.file)
 
 pub length_then-len-requires : goal.length_then-len-requires
-length_then-len-requires g c = few_at c.args.e.now.offset c.args.n (sym c.is_too_big.ensures ∙ c.if-is_too_big.false)
+length_then-len-requires g c = few_at _ _ (sym c.is_too_big.ensures ∙ c.if-is_too_big.false)
 
 pub has_room-room-requires-clause-file : goal.has_room-room-requires-clause-file
 has_room-room-requires-clause-file g c = subst (λ (v : Parts). option_map_or is_file (at v.objects c.args.e.now.object) false ≡ true) (sym c.self.view_is)
@@ -27,8 +27,7 @@ has_room-room-requires-clause-most g c =
     (ends_at c.args.e.now.offset c.args.n (sym c.is_too_big.ensures ∙ c.if-is_too_big.false)))
 
 pub returns : goal.returns
-returns g c =
-    told_file_write g.R.Others.rest c.args.self.now c.args.who.now c.args.e.now c.args.n c.size-old.result c.has_room-room.result c.requires.serves
+returns g c = told_file_write g.R.Others.rest c.args.self.now c.args.who.now c.args.e.now c.args.n c.size-old.result c.has_room-room.result c.requires.serves
     c.requires.file (sym c.is_too_big.ensures ∙ c.if-is_too_big.false)
     (c.size-old.ensures ∙ ap (λ (v : Parts). length (slice_index_or v.holdings c.args.e.now.object holds_nothing).first) c.self.view_is)
     (c.has_room-room.ensures ∙ (λ i. has_room c.args.e.now.object (c.length_then-len.ensures i) (c.self.view_is i)))

@@ -5,8 +5,8 @@ use Rattle.ix_fcalls.proofs.{Serving.{serves_pipe, serves_file}, Lengths.{told_r
 use Rattle.ix_fcalls.proofs.files.Files.told_of_read.Goals as goal
 
 pub left-there-requires-clause-pipe : goal.left-there-requires-clause-pipe
-left-there-requires-clause-pipe g c = subst (λ (v : Parts). is_pipe (node v.objects c.args.e.now.object) ≡ true) (sym c.self.view_is)
-    (serves_pipe c.args.self.now c.args.e.now c.requires (sym c.is_on_pipe.ensures ∙ c.if-is_on_pipe.true))
+left-there-requires-clause-pipe g c = subst (λ v. is_pipe (node v.objects c.args.e.now.object) ≡ true) (sym c.self.view_is)
+    (serves_pipe _ _ c.requires (sym c.is_on_pipe.ensures ∙ c.if-is_on_pipe.true))
 
 pub left-there-requires-clause-end : goal.left-there-requires-clause-end
 left-there-requires-clause-end g c = c.requires.end

@@ -1,12 +1,11 @@
 use Rattle.std.proofs.Common.{◌≡◌, ◌∙◌, sym, subst, true, length, slice_index_or}
 use Rattle.ix_model.specs.{world.{World.is_pipe, Contents.{holds_nothing, side}}, rows.Walks.node}
-use Rattle.ix_tables.specs.Parts.{Parts}
 use Rattle.ix_fcalls.{specs.Telling.told_of, proofs.{Serving.serves_pipe, Lengths.{told_write_pipe, told_write_file}}}
 use Rattle.ix_fcalls.proofs.files.Files.told_of_write.Goals as goal
 
 pub left-there-requires-clause-pipe : goal.left-there-requires-clause-pipe
-left-there-requires-clause-pipe g c = subst (λ (v : Parts). is_pipe (node v.objects c.args.e.now.object) ≡ true) (sym c.self.view_is)
-    (serves_pipe c.args.self.now c.args.e.now c.requires (sym c.is_on_pipe.ensures ∙ c.if-is_on_pipe.true))
+left-there-requires-clause-pipe g c = subst (λ v. is_pipe (node v.objects c.args.e.now.object) ≡ true) (sym c.self.view_is)
+    (serves_pipe _ _ c.requires (sym c.is_on_pipe.ensures ∙ c.if-is_on_pipe.true))
 
 pub returns-then-is_on_pipe : goal.returns-then-is_on_pipe
 returns-then-is_on_pipe g c = told_write_pipe g.R.Others.rest c.args.self.now c.args.who.now c.args.e.now c.args.n c.left-there.result

@@ -16,5 +16,5 @@ returns-clause-step g c =
 pub returns-clause-counted : goal.returns-clause-counted
 returns-clause-counted g c =
     let a = g.R.Others.rest in
-    let new : with_who a.processes c.caller.result.now ≡ c.answer-reply.new.who = who_set a c.caller.result.now c.caller.ensures.pid ∙ sym c.caller.ensures.table in
-    subst (λ (ps : List (Option Process)). IsCounted c.answer-reply.new.self ps) (sym new) c.answer-reply.ensures.counted
+    let new = who_set a _ c.caller.ensures.pid ∙ sym c.caller.ensures.table in
+    subst (λ ps. IsCounted c.answer-reply.new.self ps) (sym new) c.answer-reply.ensures.counted

@@ -4,8 +4,7 @@ use Rattle.ix_fcalls.specs.{Around.{frame_of, world_of}, Filed.Answers, Moving.r
 use Rattle.ix_fcalls.proofs.files.Files.turn_known.Goals as goal
 
 pub answer_known-requires-clause-known : goal.answer_known-requires-clause-known
-answer_known-requires-clause-known g c =
-    subst (λ (ps : List (Option Process)). IsKnown (frame_of g.R.Others.rest c.args.self.now ps) g.R.Others.rest.pid (op_of c.args.call.now))
+answer_known-requires-clause-known g c = subst (λ ps. IsKnown (frame_of g.R.Others.rest c.args.self.now ps) g.R.Others.rest.pid (op_of c.args.call.now))
     (sym c.new-who.ensures) c.requires.known
 
 pub returns-clause-step : goal.returns-clause-step

@@ -1,5 +1,4 @@
-use Rattle.std.proofs.Common.{◌≡◌, ◌+◌, ◌-◌, ◌≤◌, ◌∙◌, ◌++◌, ℕ, List, sym, ap, subst, true, false, length, is_some, slice_set, slice_index_or, arith}
-use Rattle.std.specs.Option.{option_map_or}
+use Rattle.std.{proofs.Common.{◌≡◌, ◌+◌, ◌-◌, ◌≤◌, ◌∙◌, ◌++◌, ℕ, List, sym, ap, subst, true, false, length, is_some, slice_set, slice_index_or, arith}, specs.Option.option_map_or}
 use Rattle.ix_model.specs.{world.{World.{at, is_pipe, is_file}, Contents.{holds_nothing, side, with_side, spliced}}, rows.{Telling.length_then, Walks.node}}
 use Rattle.ix_tables.specs.{Views.has_room, Parts.Parts}
 use Rattle.ix_fcalls.proofs.{Serving.{serves_pipe, serves_file}, Lengths.{pipe_room, write_few, write_ends, write_low, write_has_room}}
@@ -20,8 +19,8 @@ abbrev with_offset : ℕ → ℕ → Parts → Parts
 with_offset e offset v = record v { offsets = slice_set v.offsets e offset }
 
 pub append-requires-clause-pipe : goal.append-requires-clause-pipe
-append-requires-clause-pipe g c = subst (λ (v : Parts). is_pipe (node v.objects c.args.e.now.object) ≡ true) (sym c.self.view_is)
-    (serves_pipe c.args.self.now c.args.e.now c.requires.serves (sym c.is_on_pipe.ensures ∙ c.if-is_on_pipe.true))
+append-requires-clause-pipe g c = subst (λ v. is_pipe (node v.objects c.args.e.now.object) ≡ true) (sym c.self.view_is)
+    (serves_pipe _ _ c.requires.serves (sym c.is_on_pipe.ensures ∙ c.if-is_on_pipe.true))
 
 pub append-requires-clause-end : goal.append-requires-clause-end
 append-requires-clause-end g c = c.requires.serves.end
@@ -32,8 +31,7 @@ append-requires-clause-room g c =
     (pipe_room g.R.Others.rest c.args.self.now c.args.who.now c.args.e.now (length c.args.bytes.now) c.requires.room (sym c.is_on_pipe.ensures ∙ c.if-is_on_pipe.true))
 
 pub returns-then-is_on_pipe-clause-frame : goal.returns-then-is_on_pipe-clause-frame
-returns-then-is_on_pipe-clause-frame g c =
-    edited_frame c.args.self.now c.append.new.self _ _
+returns-then-is_on_pipe-clause-frame g c = edited_frame c.args.self.now c.append.new.self _ _
     (c.append.ensures ∙ ap (with_sent c.args.e.now.object (1 - c.args.e.now.end) c.args.bytes.now) c.self.view_is)
     g.R.Others.rest c.args.who.now
 
@@ -43,10 +41,9 @@ returns-then-is_on_pipe-clause-content g c =
     (c.append.ensures ∙ ap (with_sent c.args.e.now.object (1 - c.args.e.now.end) c.args.bytes.now) c.self.view_is)
 
 pub returns-then-is_on_pipe-clause-counted : goal.returns-then-is_on_pipe-clause-counted
-returns-then-is_on_pipe-clause-counted g c =
-    edited_counted c.args.self.now c.append.new.self _ _
+returns-then-is_on_pipe-clause-counted g c = edited_counted _ _ _ _
     (c.append.ensures ∙ ap (with_sent c.args.e.now.object (1 - c.args.e.now.end) c.args.bytes.now) c.self.view_is)
-    c.args.who.now c.requires.counted
+    _ c.requires.counted
 
 pub overflow_cast-n : goal.overflow_cast-n
 overflow_cast-n g c =
@@ -68,19 +65,16 @@ write-requires-clause-most g c =
     (write_low g.R.Others.rest c.args.self.now c.args.who.now c.args.e.now (length c.args.bytes.now) c.requires.room c.requires.serves (sym c.is_on_pipe.ensures ∙ c.if-is_on_pipe.false))
 
 pub write-requires-clause-room : goal.write-requires-clause-room
-write-requires-clause-room g c =
-    subst (λ (v : Parts). has_room c.args.e.now.object (length_then c.args.e.now.offset (length c.args.bytes.now)
+write-requires-clause-room g c = subst (λ (v : Parts). has_room c.args.e.now.object (length_then c.args.e.now.offset (length c.args.bytes.now)
     (length (slice_index_or v.holdings c.args.e.now.object holds_nothing).first)) v ≡ true) (sym c.self.view_is)
     (write_has_room g.R.Others.rest c.args.self.now c.args.who.now c.args.e.now (length c.args.bytes.now) c.requires.room c.requires.serves (sym c.is_on_pipe.ensures ∙ c.if-is_on_pipe.false))
 
 pub seek-requires : goal.seek-requires
-seek-requires g c =
-    subst (λ (v : Parts). is_some (at v.opens c.args.e.now.id) ≡ true) (sym c.write.ensures)
+seek-requires g c = subst (λ (v : Parts). is_some (at v.opens c.args.e.now.id) ≡ true) (sym c.write.ensures)
     (subst (λ (v : Parts). is_some (at v.opens c.args.e.now.id) ≡ true) (sym c.self.view_is) c.requires.serves.entry)
 
 pub returns-clause-frame : goal.returns-clause-frame
-returns-clause-frame g c =
-    edited_frame c.args.self.now c.seek.new.self _ _
+returns-clause-frame g c = edited_frame c.args.self.now c.seek.new.self _ _
     (c.seek.ensures ∙ ap (with_offset c.args.e.now.id (c.args.e.now.offset + length c.args.bytes.now))
     (c.write.ensures ∙ ap (with_bytes c.args.e.now.object c.args.e.now.offset c.args.bytes.now) c.self.view_is))
     g.R.Others.rest c.args.who.now
@@ -92,8 +86,6 @@ returns-clause-content g c =
     (c.write.ensures ∙ ap (with_bytes c.args.e.now.object c.args.e.now.offset c.args.bytes.now) c.self.view_is))
 
 pub returns-clause-counted : goal.returns-clause-counted
-returns-clause-counted g c =
-    edited_counted c.args.self.now c.seek.new.self _ _
-    (c.seek.ensures ∙ ap (with_offset c.args.e.now.id (c.args.e.now.offset + length c.args.bytes.now))
+returns-clause-counted g c = edited_counted _ _ _ _ (c.seek.ensures ∙ ap (with_offset c.args.e.now.id (c.args.e.now.offset + length _))
     (c.write.ensures ∙ ap (with_bytes c.args.e.now.object c.args.e.now.offset c.args.bytes.now) c.self.view_is))
-    c.args.who.now c.requires.counted
+    _ c.requires.counted

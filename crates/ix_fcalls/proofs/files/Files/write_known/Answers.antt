@@ -1,4 +1,4 @@
-use Rattle.std.proofs.Common.{◌≡◌, ◌∙◌, Some, None, sym}
+use Rattle.std.proofs.Common.{◌∙◌, sym}
 use Rattle.ix_fcalls.{specs.{Views.behind_of, Telling.told_of}, proofs.{Serving.serves_found, KnownSteps.{known_room, known_write, known_unwritten}}}
 use Rattle.ix_fcalls.proofs.files.Files.write_known.Goals as goal
 
@@ -25,4 +25,4 @@ returns-in-Err-clause-step g c buf = known_unwritten g.R.Others.rest c.args.self
     c.told_of_write-told.ensures c.in-Err.why buf c.in-Err.ensures.row
 
 pub unreachable-requires : goal.unreachable-requires
-unreachable-requires g c = let h : None ≡ Some c.requires.known.entry = c.in_default.ensures.behind ∙ c.requires.known.is_behind in cc
+unreachable-requires g c = let h = c.in_default.ensures.behind ∙ c.requires.known.is_behind in cc

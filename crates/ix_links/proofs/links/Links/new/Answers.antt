@@ -3,11 +3,11 @@ use Rattle.ix_links.{specs.{declared.link.Ends.Ends, Standing.IsChain}, proofs.M
 use Rattle.ix_links.proofs.links.Links.new.Goals as goal
 
 pub insert-requires-clause-previous : goal.insert-requires-clause-previous
-insert-requires-clause-previous c = last_of_range c.loop-index.slots _ c.loop-index.unused c.loop-index.index c.loop-index.invariant.1 (omega (arith, c.loop-index.invariant.0, c.loop-index-test.true))
+insert-requires-clause-previous c = last_of_range _ _ _ _ c.loop-index.invariant.1 (omega (arith, c.loop-index.invariant.0, c.loop-index-test.true))
 
 pub loop-index-preserved : goal.loop-index-preserved
 loop-index-preserved c =
-    let more = one_more c.loop-index.slots c.insert.new.items c.loop-index.unused c.insert.new.ends c.loop-index.index c.loop-index.invariant.1 (omega (
+    let more = one_more _ _ _ _ _ c.loop-index.invariant.1 (omega (
       arith,
       c.loop-index.invariant.0,
       c.loop-index-test.true,
@@ -26,9 +26,8 @@ invariant_of-result c =
       items = with_items c.in_ok-pool.pool c.loop-index.slots;
       chains = c.in_ok-ends.ends;
       unused = c.loop-index.unused;
-      free =
-          c.args.items;
-    }) no_ends c.args.items c.args.chains c.loop-index.slots (omega arith) (with_items_is c.in_ok-pool.pool c.loop-index.slots (omega (
+      free = c.args.items;
+    }) _ _ _ _ (omega arith) (with_items_is c.in_ok-pool.pool c.loop-index.slots (omega (
       arith,
       c.loop-index.invariant.0,
       c.in_ok-pool.ensures.len,
@@ -43,9 +42,8 @@ returns c =
       items = with_items c.in_ok-pool.pool c.loop-index.slots;
       chains = c.in_ok-ends.ends;
       unused = c.loop-index.unused;
-      free =
-          c.args.items;
-    }) no_ends c.args.items c.args.chains c.loop-index.slots (omega arith) (with_items_is c.in_ok-pool.pool c.loop-index.slots (omega (
+      free = c.args.items;
+    }) _ _ _ _ (omega arith) (with_items_is c.in_ok-pool.pool c.loop-index.slots (omega (
       arith,
       c.loop-index.invariant.0,
       c.in_ok-pool.ensures.len,

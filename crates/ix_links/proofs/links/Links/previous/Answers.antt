@@ -1,17 +1,15 @@
 use Rattle.std.proofs.Common.{◌≡◌, Some, sym, subst, ap, ◌∙◌, slice_get}
-use Rattle.ix_links.{specs.Chains.{Chains, chain_of, before}, proofs.Calls.{previous_in_chain, previous_in_free}}
+use Rattle.ix_links.{specs.Chains.{chain_of, before}, proofs.Calls.{previous_in_chain, previous_in_free}}
 use Rattle.ix_links.proofs.links.Links.previous.Goals as goal
 
 pub returns-clause-chain : goal.returns-clause-chain
 returns-clause-chain c =
     λ k n e.
-    previous_in_chain c.self.inside k c.args.index n c.index.result.now c.self.invariant c.index.ensures
-    (subst (λ v. slice_get (chain_of k v) n ≡ Some c.args.index) (sym c.self.view_is) e)
+    previous_in_chain _ k _ n _ c.self.invariant c.index.ensures (subst (λ v. slice_get (chain_of k v) n ≡ Some c.args.index) (sym c.self.view_is) e)
     ∙ ap (λ v. before (chain_of k v) n) c.self.view_is
 
 pub returns-clause-free : goal.returns-clause-free
 returns-clause-free c =
     λ n e.
-    previous_in_free c.self.inside c.args.index n c.index.result.now c.self.invariant c.index.ensures
-    (subst (λ (v : Chains). slice_get v.free n ≡ Some c.args.index) (sym c.self.view_is) e)
-    ∙ ap (λ (v : Chains). before v.free n) c.self.view_is
+    previous_in_free _ _ n _ c.self.invariant c.index.ensures (subst (λ v. slice_get v.free n ≡ Some c.args.index) (sym c.self.view_is) e)
+    ∙ ap (λ v. before v.free n) c.self.view_is
