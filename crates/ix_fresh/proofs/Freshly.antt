@@ -1,18 +1,16 @@
 -- What is known of fresh descriptors, and what keeps them so.
 use Rattle.std.proofs.Common.{◌≡◌, ◌==◌, ◌+◌, ◌++◌, length, arith, ◌&&◌, ◌||◌, not, ℕ, suc, Bool, true, false, true≢false, List, [], ◌∷◌, Option, Some, None}
-use Rattle.std.proofs.Common.{is_some, option_map, refl, sym, ap, ◌∙◌, subst, inl, inr}
-use Rattle.std.proofs.lemmas.Bool.{and_parts, and_right, or_cases, eqb-true, not-true, not-false}
+use Rattle.std.proofs.{Common.{is_some, option_map, refl, sym, ap, ◌∙◌, subst, inl, inr}, lemmas.Bool.{and_parts, and_right, or_cases, eqb-true, not-true, not-false}}
 use Rattle.ix_label.specs.{Category.{Categories, bottom, leq, same}, Lattice.{same-decides, join-least}}
-use Rattle.ix_model.specs.{world.World.{World, Frame, Open, at, is_pipe}, rows.{Walks.{OpenFile, behind}, Telling.told, Table.row}, history.Events.{Op, Event}}
-use Rattle.ix_model.specs.{history.AuditLog.{label_at, of_process, is_answer}, history.Step.{step, step_of, run, answer, plainly, read_answer, write_answer}}
-use Rattle.ix_model.specs.{laws.Sound.Sound, declared.reply.Reply.Reply}
-use Rattle.ix_model.specs.history.Freshness.{Way, Reading, Writing, refreshes, relabels, label_through, fresh_after, fresh_from, is_fresh}
-use Rattle.ix_model.specs.history.Events as op
-use Rattle.ix_model.specs.declared.reply.Reply.TheVariants as reply
+use Rattle.ix_model.specs.{world.World.{World, Frame, at, is_pipe}, rows.{Walks.{OpenFile, behind}, Telling.told, Table.row}, history.Events.{Op, Event}}
+use Rattle.ix_model.specs.history.{AuditLog.{label_at, of_process, is_answer}, Step.{step, step_of, run, answer, plainly, read_answer, write_answer}}
+use Rattle.ix_model.specs.{laws.Sound.Sound, declared.reply.Reply.Reply, history.Freshness.{Way, Reading, Writing, refreshes, relabels, label_through, fresh_after, fresh_from, is_fresh}}
 use Rattle.ix_model.proofs.{words.{Answered.{passed, step_frame}, Transfers.one_there}, sound.{Soundly.sound_step, Reaching.sound_run}}
-use Rattle.ix_fresh.{specs.Known.{Known, is_level}, specs.Laws.{is_closed, fresh_by_touch}, proofs.Through.{ReadFacts, WriteFacts, read_known, write_known}}
+use Rattle.ix_fresh.{specs.{Known.{Known, is_level}, Laws.{is_closed, fresh_by_touch}}, proofs.Through.{ReadFacts, WriteFacts, read_known, write_known}}
 use Rattle.ix_fresh.specs.Touched.{target, entry_target, is_one, label_of_entry, touches, moved_process, moved_object, moved_entry}
 use Rattle.ix_fresh.proofs.Remaining.{Remains, remains, process_label, object_label, entry_label, labels_stay_but}
+use Rattle.ix_model.specs.history.Events as op
+use Rattle.ix_model.specs.declared.reply.Reply.TheVariants as reply
 
 -- ---- what a refreshing call leaves known
 read_answered : (w : World) (count : ℕ) (b : Option OpenFile) (r : Reply) (g : Frame) (k : ℕ) → (read_answer w count b r g).reply ≡ reply.Bytes k → is_answer r ≡ true
@@ -31,23 +29,23 @@ module _ (w : World) (place pid : ℕ) where
   pub read_facts : (fd count k : ℕ) → (step w place pid (op.ReadFd fd count)).reply ≡ reply.Bytes k → ReadFacts pid fd w.frame (step w place pid (op.ReadFd fd count)).world.frame
   unfolding step answer row
   read_facts fd count k h =
-      let t = told w pid (op.ReadFd fd count) in
-      subst (λ (g : Frame). ReadFacts pid fd w.frame g) (sym (step_frame w place pid (op.ReadFd fd count)))
-      (passed t place pid (op.ReadFd fd count) w.frame (λ r g. ReadFacts pid fd w.frame g) (read_known t pid fd count w.frame) (read_answered w count (behind w.frame pid fd) _ _ k h))
+      let t = told w _ _ in
+      subst (λ g. ReadFacts pid fd w.frame g) (sym (step_frame w place pid (op.ReadFd fd count)))
+      (passed t _ _ _ _ (λ r g. ReadFacts pid fd w.frame g) (read_known t _ fd _ _) (read_answered w _ _ _ _ k h))
 
   pub write_facts : (fd : ℕ) (bytes : List ℕ) (k : ℕ) → (step w place pid (op.WriteFd fd bytes)).reply ≡ reply.Number k → WriteFacts pid fd w.frame (step w place pid (op.WriteFd fd bytes)).world.frame
   unfolding step answer row
   write_facts fd bytes k h =
-      let t = told w pid (op.WriteFd fd bytes) in
-      subst (λ (g : Frame). WriteFacts pid fd w.frame g) (sym (step_frame w place pid (op.WriteFd fd bytes)))
-      (passed t place pid (op.WriteFd fd bytes) w.frame (λ r g. WriteFacts pid fd w.frame g) (write_known t pid fd w.frame) (write_answered w bytes (behind w.frame pid fd) _ _ k h))
+      let t = told w _ _ in
+      subst (λ g. WriteFacts pid fd w.frame g) (sym (step_frame w place pid (op.WriteFd fd bytes)))
+      (passed t _ _ _ _ (λ r g. WriteFacts pid fd w.frame g) (write_known t _ fd _) (write_answered w _ _ _ _ k h))
 
 place_of : {to through : Option ℕ} {b : OpenFile} {f g : Frame} {pid fd : ℕ} (r : Remains to through b f g pid fd) → r.entry.object ≡ b.entry.object
-place_of r = ap (λ (z : Open). z.object) r.same_entry.plain
+place_of r = ap (λ z. z.object) r.same_entry.plain
 
 module _ (w : World) (s : Sound w) (place : ℕ) (seat line pid : ℕ) where
   entry_of : Op → Event
-  entry_of c = record { seat = seat; line = line; pid = pid; op = c }
+  entry_of c = search
 
   read_leaves : (fd count k : ℕ) → (step w place pid (op.ReadFd fd count)).reply ≡ reply.Bytes k → Known Reading (step w place pid (op.ReadFd fd count)).world.frame pid fd
   unfolding entry_of
@@ -116,7 +114,7 @@ module _ (w : World) (s : Sound w) (place : ℕ) (e : Event) where
       && same (label_at w.frame (Some b.entry.object)) (label_at after (Some b.entry.object))
       && same (label_of_entry w.frame (Some b.id)) (label_of_entry after (Some b.id)))
   relabels_there pid fd b is =
-      ap (λ (x : Option OpenFile). not (same (of_process (λ p. p.label) bottom w.frame pid) (of_process (λ p. p.label) bottom after pid)
+      ap (λ x. not (same (of_process (λ p. p.label) bottom w.frame pid) (of_process (λ p. p.label) bottom after pid)
       && same (label_at w.frame (option_map (λ y. y.entry.object) x)) (label_at after (option_map (λ y. y.entry.object) x))
       && same (label_through w.frame x) (label_through after x))) is
 
@@ -227,9 +225,9 @@ fresh_push : (was : Bool) (w : World) (place : ℕ) (events : List Event) (e : E
 unfolding fresh_from
 fresh_push was w place [] e pid fd way = ap (λ n. fresh_after w e (step_of w n e) pid fd way was) (let z : place ≡ 0 + place = omega arith in z)
 fresh_push was w place (x ∷ events) e pid fd way =
-    let first : Bool = fresh_after w x (step_of w place x) pid fd way was in
-    let v : World = (step_of w place x).world in
-    fresh_push first v (suc place) events e pid fd way
+    let first = fresh_after w x (step_of w place x) pid fd way was in
+    let v = (step_of w place x).world in
+    fresh_push first v _ events e pid fd way
     ∙ ap (λ n. fresh_after (run v (suc place) events) e (step_of (run v (suc place) events) n e) pid fd way (fresh_from first v (suc place) events pid fd way))
     (let z : length events + suc place ≡ suc (length events) + place = omega arith in z)
 
@@ -237,7 +235,7 @@ pub fresh_more : (w : World) (events : List Event) (e : Event) (pid fd : ℕ) (w
     → is_fresh w (events ++ e ∷ []) pid fd way ≡ fresh_after (run w 1 events) e (step_of (run w 1 events) (length events + 1) e) pid fd way
     (is_fresh w events pid fd way)
 unfolding is_fresh
-fresh_more w events e pid fd way = fresh_push false w 1 events e pid fd way
+fresh_more w events e pid fd way = fresh_push _ w 1 _ e _ fd _
 
 pub fresh_along : (w : World) (events : List Event) (e : Event) (pid fd : ℕ) (way : Way) → Sound w
     → is_fresh w (events ++ e ∷ []) pid fd way ≡ fresh_by_touch (run w 1 events) (length events + 1) e pid fd way (is_fresh w events pid fd way)

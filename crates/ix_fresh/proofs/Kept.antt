@@ -1,15 +1,14 @@
 -- The step of every call leaves descriptors, and what stands behind them.
 use Rattle.std.proofs.Common.{◌≡◌, ◌==◌, ◌&&◌, ℕ, Bool, true, false, refl, sym, ap, ◌∙◌, subst, if◌then◌else◌}
-use Rattle.ix_model.specs.{rows.Refusals.keeps_label, rows.Outcomes.{Outcome, Refuse, Pass}, rows.OnDescriptors.{LengthChecks, close_fd}, rows.OnProcesses.exit}
-use Rattle.ix_model.specs.{rows.Table.{Decision, row, settled, verdict}, rows.Telling.told, world.World.{World, Frame, lives}, declared.reply.Reply.Reply}
+use Rattle.ix_model.{specs.rows.{Outcomes.{Outcome, Refuse, Pass}, OnDescriptors.{LengthChecks, close_fd}, OnProcesses.exit}, proofs.refused.Refusing.{Relabelled, refusing_row}}
+use Rattle.ix_model.specs.{rows.{Table.{Decision, row, settled, verdict}, Telling.told}, world.World.{World, Frame, lives}, declared.reply.Reply.Reply}
 use Rattle.ix_model.specs.history.{Step.{step, answer, plainly, exit_answer}, Freshness.closes, AuditLog.is_answer, Events.Op}
+use Rattle.ix_model.proofs.words.{Keeps.Holds, Ends.{Ends, Anything, ends_bind, ends_then, ends_pass, ends_frame, ends_need, ends_opened}}
+use Rattle.ix_model.proofs.words.{RowEnds.{ends_let_go, ends_let_go_all, ends_end_process}, Answered.step_frame}
+use Rattle.ix_fresh.{specs.Touched.{target, entry_target}, proofs.{Tables.has_changed, Staying.{Kept, kept_itself}, StayingRows.{given_up, KeptBy, row_keeps}}}
 use Rattle.ix_model.specs.history.Events as op
 use Rattle.ix_model.specs.declared.reply.Reply.TheVariants as reply
 use Rattle.ix_model.specs.declared.refusal.Refusal.TheVariants as refusal
-use Rattle.ix_model.proofs.{words.Keeps.Holds, words.Ends.{Ends, Anything, ends_bind, ends_then, ends_pass, ends_frame, ends_need, ends_opened}}
-use Rattle.ix_model.proofs.{words.RowEnds.{ends_let_go, ends_let_go_all, ends_end_process}, words.Answered.step_frame}
-use Rattle.ix_model.proofs.refused.Refusing.{Relabelled, refusing_row}
-use Rattle.ix_fresh.{specs.Touched.{target, entry_target}, proofs.{Tables.has_changed, Staying.{Kept, kept_itself}, StayingRows.{given_up, KeptBy, row_keeps}}}
 
 -- what a call with that reply leaves
 abbrev pub KeptAs : Frame → ℕ → Op → Reply → Frame → Type 0
@@ -23,17 +22,17 @@ close_gives : (pid fd : ℕ) (f : Frame) → Ends (close_fd pid fd f) Anything (
 unfolding close_fd
 close_gives pid fd f =
     let Q : Reply → Frame → Type 0 = λ a g. Gives (op.CloseFd fd) a in
-    ends_bind _ _ f Anything Q (ends_opened pid fd f Anything _ (λ e is.
-    ends_then _ _ f Anything Q (ends_let_go Anything pid fd e f _ (λ g. ends_pass reply.Done g Anything Q (λ n. refl)))) tt)
+    ends_bind _ _ f _ Q (ends_opened _ fd f _ _ (λ e is.
+    ends_then _ _ f _ Q (ends_let_go _ _ fd e f _ (λ g. ends_pass _ g _ Q (λ n. refl)))) tt)
 
 exit_gives : (pid status : ℕ) (f : Frame) → Ends (exit pid f) Anything (λ a g. Gives (op.Exit status) a)
 unfolding exit
 exit_gives pid status f =
     let Q : Reply → Frame → Type 0 = λ a g. Gives (op.Exit status) a in
-    ends_bind _ _ f Anything Q (ends_frame f Anything _ (
-    ends_then _ _ f Anything Q (ends_need _ _ f Anything _ (λ none.
-    ends_then _ _ f Anything Q (ends_let_go_all Anything pid f _ (λ g.
-    ends_then _ _ g Anything Q (ends_end_process pid g Anything _ (ends_pass reply.Done _ Anything Q (λ n. refl)))))) tt)))
+    ends_bind _ _ f _ Q (ends_frame f _ _ (
+    ends_then _ _ f _ Q (ends_need _ _ f _ _ (λ none.
+    ends_then _ _ f _ Q (ends_let_go_all _ _ f _ (λ g.
+    ends_then _ _ g _ Q (ends_end_process _ g _ _ (ends_pass _ _ _ Q (λ n. refl)))))) tt)))
 
 ends_all : {A : Type 0} (o : Outcome A) (Q : A → Frame → Type 0) → ((a : A) (g : Frame) → Q a g) → Ends o Anything Q
 unfolding Ends
@@ -42,31 +41,31 @@ ends_all (Pass a g) Q h = h a g
 
 row_gives : (t : LengthChecks) (place pid : ℕ) (c : Op) (f : Frame) → Ends (row t place pid c f) Anything (λ a g. Gives c a)
 unfolding row
-row_gives t place pid (op.CloseFd fd) f = close_gives pid fd f
-row_gives t place pid (op.Exit status) f = exit_gives pid status f
-row_gives t place pid c f = ends_all _ (λ a g. Gives c a) (λ a g fd. refl)
+row_gives t place pid (op.CloseFd fd) f = close_gives _ fd f
+row_gives t place pid (op.Exit status) f = exit_gives _ status f
+row_gives t place pid c f = ends_all _ _ (λ a g fd. refl)
 
 -- ---- the decision
 module _ (f : Frame) (pid : ℕ) (c : Op) where
   -- a refusal gives nothing up
   relabelled_kept : (gone : ℕ → Bool) (g : Frame) → Relabelled pid f g → Kept f pid (target f pid c) (entry_target f pid c) gone g
   relabelled_kept gone g r = subst (Kept f pid (target f pid c) (entry_target f pid c) gone) (sym r.is) (record {
-    descriptors = λ n fd d q lives is stays. has_changed f.processes pid (λ p. record p { label = r.label }) n fd d (λ p. refl) (λ here p on. on) (kept.descriptors n fd d q lives is stays);
+    descriptors = λ n fd d q lives is stays. has_changed _ _ _ n fd d (λ p. refl) (λ here p on. on) (kept.descriptors n fd d q lives is stays);
     objects = kept.objects;
     opens = kept.opens;
   })
     where
       kept : Kept f pid (target f pid c) (entry_target f pid c) gone f
-      kept = kept_itself f pid (target f pid c) (entry_target f pid c) gone
+      kept = kept_itself f _ _ _ _
 
   settled_kept : (o : Outcome Reply) → Ends o (λ r g. Relabelled pid f g) (λ a g. is_answer a ≡ true) → Ends o Anything (λ a g. Gives c a)
       → Holds o (KeptBy f pid c) → KeptAs f pid c (settled f o).reply (settled f o).frame
   unfolding Ends Holds
-  settled_kept (Refuse r g) relabels gives k = go (keeps_label r)
+  settled_kept (Refuse r g) relabels gives k = go _
     where
       go : (b : Bool) → KeptAs f pid c (reply.No r) (if b then g else f)
       go true = relabelled_kept _ g relabels
-      go false = kept_itself f pid _ _ _
+      go false = kept_itself f _ _ _ _
   settled_kept (Pass a g) relabels gives k = record {
     descriptors = λ n fd d q lives is stays. k.descriptors n fd d q lives is (ap (λ b. n == pid && b) (sym (gives fd)) ∙ stays);
     objects = k.objects;

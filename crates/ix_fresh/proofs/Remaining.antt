@@ -2,10 +2,9 @@
 use Rattle.std.proofs.Common.{◌≡◌, ◌==◌, ◌&&◌, ℕ, false, true≢false, Option, Some, option_map, refl, sym, ap, ◌∙◌, inl, inr}
 use Rattle.std.{specs.Option.option_map_or, proofs.lemmas.Bool.{not-true, eq-eqb, Decides.eqb_tells}}
 use Rattle.ix_label.specs.Category.{bottom}
-use Rattle.ix_model.specs.{world.World.{World, Frame, Object, Process, Open, at, living, is_dir}, rows.Walks.{OpenFile, behind, behind_of, entry_at}}
+use Rattle.ix_model.{specs.{world.World.{World, Frame, Object, Process, Open, at, living, is_dir}, rows.Walks.{OpenFile, behind, behind_of, entry_at}}, proofs.told.Touching.few_labels}
 use Rattle.ix_model.specs.{history.{Step.step_of, AuditLog.{label_at, of_process}, Freshness.closes, Events.Event}, laws.Sound.Sound}
 use Rattle.ix_model.proofs.{words.{Living.is_living, Standing.stands}, frames.Claimants.is_behind, sound.{Carried.there_is, Soundly.sound_step}}
-use Rattle.ix_model.proofs.told.Touching.{few_labels}
 use Rattle.ix_fresh.specs.{Touched.{Stays, LabelsStayBut, target, entry_target, is_one, label_of_entry}, Laws.is_closed}
 use Rattle.ix_fresh.proofs.{Tables.HasFd, Staying.{SameObject, SameOpen}, Kept.step_kept}
 
@@ -38,10 +37,10 @@ pub record Remains (to through : Option ℕ) (b : OpenFile) (f g : Frame) (pid f
 
 seen_behind : (g : Frame) (pid fd d : ℕ) (y : Open) (h : HasFd g.processes pid fd d) → at g.opens d ≡ Some y → behind g pid fd ≡ Some (record { id = d; entry = y })
 unfolding behind
-seen_behind g pid fd d y h is = ap (λ p. behind_of p g fd) h.lives ∙ ap (entry_at g) h.descriptor ∙ ap (option_map (λ x. let b : OpenFile = record { id = d; entry = x } in b)) is
+seen_behind g pid fd d y h is = ap (λ p. behind_of p g fd) h.lives ∙ ap (entry_at g) h.descriptor ∙ ap (option_map (λ x. let b : OpenFile = search in b)) is
 
 same_place : (x y : Open) → record y { label = bottom } ≡ record x { label = bottom } → y.object ≡ x.object
-same_place x y h = ap (λ (z : Open). z.object) h
+same_place x y h = ap (λ z. z.object) h
 
 module _ (w : World) (s : Sound w) (place : ℕ) (e : Event) where
   pub remains : (pid fd : ℕ) (b : OpenFile) → behind w.frame pid fd ≡ Some b → is_closed w place e pid fd ≡ false

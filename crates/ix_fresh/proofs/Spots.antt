@@ -1,15 +1,12 @@
 -- The spots of fresh descriptors, along histories.
 use Rattle.std.proofs.Common.{◌≡◌, ◌==◌, ◌+◌, ◌++◌, length, arith, ◌&&◌, ◌||◌, not, ℕ, suc, Bool, true, false, true≢false, List, [], ◌∷◌, Option, Some, None}
-use Rattle.std.proofs.Common.{is_some, option_map, if◌then◌else◌, refl, sym, ap, ◌∙◌}
-use Rattle.std.proofs.lemmas.Bool.{and_parts, and_right, eqb-true}
-use Rattle.ix_model.specs.{world.World.{World, Frame, Open}, rows.Walks.{OpenFile, behind}, history.Step.{step, step_of, run}, history.Events.{Op, Event}}
-use Rattle.ix_model.specs.{history.Freshness.{Way, Reading, Writing, refreshes, closes, relabels, fresh_after, is_fresh}, laws.Sound.Sound}
-use Rattle.ix_model.specs.declared.reply.Reply.{Reply}
-use Rattle.ix_model.specs.history.Events as op
-use Rattle.ix_model.specs.declared.reply.Reply.TheVariants as reply
-use Rattle.ix_model.proofs.sound.Reaching.{sound_run}
+use Rattle.std.proofs.{Common.{is_some, option_map, if◌then◌else◌, refl, sym, ap, ◌∙◌}, lemmas.Bool.{and_parts, and_right, eqb-true}}
+use Rattle.ix_model.specs.{world.World.{World, Frame, Open}, rows.Walks.{OpenFile, behind}, history.{Step.{step, step_of, run}, Events.{Op, Event}}, declared.reply.Reply.Reply}
+use Rattle.ix_model.{specs.{history.Freshness.{Way, Reading, Writing, refreshes, closes, relabels, fresh_after, is_fresh}, laws.Sound.Sound}, proofs.sound.Reaching.sound_run}
 use Rattle.ix_fresh.specs.{Touched.touches, Laws.{Spot, is_closed, spot_behind, fresh_spot, unless, spot_after}}
 use Rattle.ix_fresh.proofs.{Remaining.remains, Freshly.{read_facts, write_facts, relabels_as_touched, fresh_is_known, fresh_more}}
+use Rattle.ix_model.specs.history.Events as op
+use Rattle.ix_model.specs.declared.reply.Reply.TheVariants as reply
 
 abbrev spot_of : OpenFile → Spot
 spot_of b = record { entry = b.id; object = b.entry.object }
@@ -23,19 +20,19 @@ record Stood (w : World) (pid fd : ℕ) (c : Op) (r : Reply) : Type 0 where
 module _ (w : World) (place pid : ℕ) where
   stood_read : (fd d count : ℕ) (r : Reply) → (step w place pid (op.ReadFd d count)).reply ≡ r → refreshes Reading fd (op.ReadFd d count) r ≡ true → Stood w pid fd (op.ReadFd d count) r
   stood_read fd d count (reply.Bytes k) is h =
-      let facts = read_facts w place pid d count k is in
-      record { through = facts.through; is_behind = ap (behind w.frame pid) (sym (eqb-true d fd h)) ∙ facts.is_behind; open_still = refl }
+      let facts = read_facts w _ _ d _ k is in
+      let is_behind = ap (behind w.frame pid) (sym (eqb-true d fd h)) ∙ facts.is_behind in search
   stood_read fd d count _ is h = cc
 
   stood_write : (fd d : ℕ) (bytes : List ℕ) (r : Reply) → (step w place pid (op.WriteFd d bytes)).reply ≡ r → refreshes Writing fd (op.WriteFd d bytes) r ≡ true → Stood w pid fd (op.WriteFd d bytes) r
   stood_write fd d bytes (reply.Number k) is h =
-      let facts = write_facts w place pid d bytes k is in
-      record { through = facts.through; is_behind = ap (behind w.frame pid) (sym (eqb-true d fd h)) ∙ facts.is_behind; open_still = refl }
+      let facts = write_facts w _ _ d _ k is in
+      let is_behind = ap (behind w.frame pid) (sym (eqb-true d fd h)) ∙ facts.is_behind in search
   stood_write fd d bytes _ is h = cc
 
   stood : (way : Way) (fd : ℕ) (c : Op) → refreshes way fd c (step w place pid c).reply ≡ true → Stood w pid fd c (step w place pid c).reply
-  stood Reading fd (op.ReadFd d count) h = stood_read fd d count _ refl h
-  stood Writing fd (op.WriteFd d bytes) h = stood_write fd d bytes _ refl h
+  stood Reading fd (op.ReadFd d count) h = stood_read fd d _ _ refl h
+  stood Writing fd (op.WriteFd d bytes) h = stood_write fd d _ _ refl h
   stood Reading fd c h = cc
   stood Writing fd c h = cc
 
@@ -84,7 +81,7 @@ module _ (w : World) (s : Sound w) (place : ℕ) (e : Event) where
 run_more : (w : World) (place : ℕ) (events : List Event) (e : Event) → run w place (events ++ e ∷ []) ≡ (step_of (run w place events) (length events + place) e).world
 run_more w place [] e = ap (λ n. (step_of w n e).world) (let z : place ≡ 0 + place = omega arith in z)
 run_more w place (x ∷ events) e =
-    run_more (step_of w place x).world (suc place) events e
+    run_more (step_of w place x).world _ events e
     ∙ ap (λ n. (step_of (run (step_of w place x).world (suc place) events) n e).world) (let z : length events + suc place ≡ suc (length events) + place = omega arith in z)
 
 pub spots_along : (w : World) (events : List Event) (e : Event) (pid fd : ℕ) (way : Way) → Sound w

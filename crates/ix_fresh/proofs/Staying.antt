@@ -1,22 +1,18 @@
 -- What every row leaves of descriptors, of the open entries and objects behind them, and of their labels.
-use Rattle.std.proofs.Common.{◌≡◌, ◌==◌, ◌&&◌, ℕ, Bool, true, false, true≢false, List, [], ◌∷◌, position, Option, Some, None, is_some, if◌then◌else◌, refl, sym}
-use Rattle.std.proofs.Common.{ap, ◌∙◌, inl, inr}
-use Rattle.std.specs.Option.{option_map_or}
-use Rattle.std.proofs.lemmas.{Bool.{and_parts, eq-eqb, Decides.eqb_tells}, List.{get_or-set_same, get_or-set_other, Quantifiers.position-Some}}
+use Rattle.std.proofs.Common.{◌≡◌, ◌==◌, ◌&&◌, ℕ, Bool, true, false, true≢false, List, [], ◌∷◌, position, Option, Some, None, is_some, if◌then◌else◌, refl, sym, ap, ◌∙◌, inl, inr}
+use Rattle.std.{specs.Option.option_map_or, proofs.lemmas.{Bool.{and_parts, eq-eqb, Decides.eqb_tells}, List.{get_or-set_same, get_or-set_other, Quantifiers.position-Some}}}
 use Rattle.ix_label.specs.Category.{Categories, bottom, join}
-use Rattle.ix_model.specs.{world.Naming.PathOf, world.Privs.no_privileges, world.Numbers.{free_inode, free_pipe}, rows.Outcomes.{Outcome, Refuse, Pass, Row}}
+use Rattle.ix_model.specs.{world.{Naming.PathOf, Privs.no_privileges, Numbers.{free_inode, free_pipe}}, rows.{Outcomes.{Outcome, Refuse, Pass, Row}, Rows.{observe, affect}}}
 use Rattle.ix_model.specs.{world.World.{Frame, Object, Process, Open, at, put, lowest_free, living, is_dir, is_ended, no_claims}, rows.Auditing.logged}
-use Rattle.ix_model.specs.{rows.OnPaths.new_object, rows.OnDescriptors.float_entry, rows.OnProcesses.{is_child, end_process}}
-use Rattle.ix_model.specs.declared.{audit.AuditLine.AuditLine, reply.Kind.Kind}
+use Rattle.ix_model.specs.{rows.{OnPaths.new_object, OnDescriptors.float_entry, OnProcesses.{is_child, end_process}}, declared.{audit.AuditLine.AuditLine, reply.Kind.Kind}}
 use Rattle.ix_model.specs.rows.Rows.{◌>>=◌, on_pass, process, change_process, change_object, put_object, put_process, add_process, put_open, change_open}
-use Rattle.ix_model.specs.rows.Rows.{observe, affect}
-use Rattle.ix_model.specs.rows.Walks.{OpenFile, behind, node, child, lacking, looking_into, walk_from, walk, walked_to, object_at, opened}
+use Rattle.ix_model.specs.rows.Walks.{OpenFile, node, lacking, looking_into, walk_from, walked_to, object_at, opened}
+use Rattle.ix_model.proofs.{tables.FreeNumbers.{lowest_free_is, free_inode_is, free_pipe_is}, words.Living.{is_living, not_ended}}
+use Rattle.ix_model.proofs.words.{Keeps.{Holds, Keeps, keeping, keeping_tests, keeps_only_if}, Ends.{Ends, ends_more, ends_bind}}
+use Rattle.ix_model.proofs.words.{Lasts.{Lasting, lasting_itself, lasting_change, lasting_put}, Rowwise.{keeps_bind_frame, keeps_bind_some}}
+use Rattle.ix_fresh.proofs.Tables.{Both, both_itself, both_change, both_gone, both_new, HasFd, has_elsewhere, has_changed, has_pushed}
 use Rattle.ix_model.specs.rows.Walks as sought
 use Rattle.ix_model.specs.declared.reply.Kind.TheVariants as kind
-use Rattle.ix_model.proofs.{tables.FreeNumbers.{lowest_free_is, free_inode_is, free_pipe_is}, words.Living.{is_living, not_ended}}
-use Rattle.ix_model.proofs.{words.Keeps.{Holds, Keeps, keeping, keeping_tests, keeps_only_if}, words.Ends.{Ends, ends_more, ends_bind}}
-use Rattle.ix_model.proofs.{words.Lasts.{Lasting, lasting_itself, lasting_change, lasting_put}, words.Rowwise.{keeps_bind_frame, keeps_bind_some}}
-use Rattle.ix_fresh.proofs.Tables.{Both, both_itself, both_change, both_gone, both_new, HasFd, has_elsewhere, has_changed, has_pushed}
 
 -- ---- what is kept
 -- an object by its kind, its file system and its label, and by the first two alone
@@ -50,26 +46,26 @@ pub record Kept (f : Frame) (pid : ℕ) (to through : Option ℕ) (gone : ℕ �
 
 pub kept_itself : (f : Frame) (pid : ℕ) (to through : Option ℕ) (gone : ℕ → Bool) → Kept f pid to through gone f
 kept_itself f pid to through gone = record {
-  descriptors = λ n fd d q lives on stays. record { process = q; lives = lives; descriptor = on };
-  objects = both_itself (SameObject to) (λ n x. record { plain = refl; label = λ file other. refl }) f.objects;
-  opens = both_itself (SameOpen through) (λ n x. record { plain = refl; label = λ other. refl }) f.opens;
+  descriptors = λ n fd d q lives on stays. search;
+  objects = both_itself _ (λ n x. search) _;
+  opens = both_itself _ (λ n x. search) _;
 }
 
 -- the second of two free numbers is free at first too
 free_second : {A : Type 0} (t : List (Option A)) (d e : ℕ) (x : A) → lowest_free t ≡ Some d → lowest_free (put t d (Some x)) ≡ Some e → at t e ≡ None
 free_second t d e x first second =
     let inside = (lowest_free_is t d first).0 in
-    let none = (lowest_free_is (put t d (Some x)) e second).1 in
+    let none = (lowest_free_is _ e second).1 in
     elim (eqb_tells e d) [
-      | inl same ↦ let e : Some x ≡ None = sym (get_or-set_same t d (Some x) None inside) ∙ ap (at (put t d (Some x))) (sym same.1) ∙ none in absurd (true≢false (ap is_some e))
-      | inr other ↦ sym (get_or-set_other t d e (Some x) None other.1) ∙ none
+      | inl same ↦ let e = sym (get_or-set_same t d _ None inside) ∙ ap (at _) (sym same.1) ∙ none in absurd (true≢false (ap is_some e))
+      | inr other ↦ sym (get_or-set_other t d e _ None other.1) ∙ none
     ]
 
 -- ---- where a walk ends, it looked into a directory
 pub walk_lacks : (objects : List (Option Object)) (names : List (List ℕ)) (n : ℕ) (before : Option ℕ) (d : ℕ)
     → (walk_from objects n before names).outcome ≡ sought.Missing d → is_dir (node objects d) ≡ true
 walk_lacks objects [] n before d h = cc
-walk_lacks objects (name ∷ names) n before d h = go (is_dir (node objects n)) refl (child (node objects n) name) h (λ m k. walk_lacks objects names m (Some n) d k)
+walk_lacks objects (name ∷ names) n before d h = go _ refl _ h (λ m k. walk_lacks _ names m (Some n) d k)
   where
     blocked : sought.Walk
     blocked = record { outcome = sought.NotDir; looked = [] }
@@ -91,7 +87,7 @@ pub walk_finds : (objects : List (Option Object)) (names : List (List ℕ)) (n :
     → is_dir (node objects d) ≡ true
 walk_finds objects [] n before o d dirs h = let same : before ≡ Some d = cc in dirs d same
 walk_finds objects (name ∷ names) n before o d dirs h =
-    go (is_dir (node objects n)) refl (child (node objects n) name) h (λ dir m k. walk_finds objects names m (Some n) o d (λ l is. let same : n ≡ l = cc in
+    go _ refl _ h (λ dir m k. walk_finds objects names m (Some n) o d (λ l is. let same : n ≡ l = cc in
     ap (λ i. is_dir (node objects i)) (sym same) ∙ dir) k)
   where
     blocked : sought.Walk
@@ -118,7 +114,7 @@ module _ (f : Frame) (pid : ℕ) (to through : Option ℕ) (gone : ℕ → Bool)
     pub opens_last : loses ≡ false → Lasting f.opens g.opens
 
   pub r_itself : R f
-  r_itself = record { kept = kept_itself f pid to through gone; objects_last = λ lasts. lasting_itself f.objects; opens_last = λ lasts. lasting_itself f.opens }
+  r_itself = record { kept = kept_itself f _ to _ _; objects_last = λ lasts. lasting_itself _; opens_last = λ lasts. lasting_itself _ }
 
   -- an object that may be labelled: a directory, or the target
   abbrev pub May : ℕ → Type 0
@@ -137,28 +133,28 @@ module _ (f : Frame) (pid : ℕ) (to through : Option ℕ) (gone : ℕ → Bool)
 
   -- ---- objects
   with_objects : (g : Frame) (t : List (Option Object)) → Both (SameObject to) f.objects t → (loses ≡ false → Lasting f.objects t) → R g → R (record g { objects = t })
-  with_objects g t same last r = record { kept = record { descriptors = r.kept.descriptors; objects = same; opens = r.kept.opens }; objects_last = last; opens_last = r.opens_last }
+  with_objects g t same last r = search
 
   pub k_object : (o : ℕ) (h : Object → Object) → ((x : Object) → labelled (h x) ≡ labelled x) → Keeps R (change_object o h)
   unfolding change_object Holds
   k_object o h same = record {
-    led = λ g r. with_objects g _ (both_change (SameObject to) f.objects g.objects o h (λ x was is s. record {
-      plain = ap unlabelled (same was) ∙ s.plain;
-      label = λ file other. ap its_label (same was) ∙ s.label file other;
+    led = λ g r. with_objects g _ (both_change _ _ _ o h (λ x was is s. record {
+      plain = ap unlabelled (same _) ∙ s.plain;
+      label = λ file other. ap its_label (same _) ∙ s.label file other;
     }) r.kept.objects) (λ lasts. lasting_change _ _ o h (r.objects_last lasts)) r;
   }
 
   pub k_labelled : (o : ℕ) (h : Object → Object) → May o → ((x : Object) → plain (h x) ≡ plain x) → Keeps R (change_object o h)
   unfolding change_object Holds
   k_labelled o h may same = record {
-    led = λ g r. with_objects g _ (both_change (SameObject to) f.objects g.objects o h (λ x was is s. record {
-      plain = same was ∙ s.plain;
+    led = λ g r. with_objects g _ (both_change _ _ _ o h (λ x was is s. record {
+      plain = same _ ∙ s.plain;
       label = λ file other. absurd (other (may x is file));
     }) r.kept.objects) (λ lasts. lasting_change _ _ o h (r.objects_last lasts)) r;
   }
 
   was_free : {A : Type 0} (t u : List (Option A)) (n : ℕ) → Lasting t u → at u n ≡ None → at t n ≡ None
-  was_free {A} t u n last free = go (at t n) refl
+  was_free {A} t u n last free = go _ refl
     where
       go : (x : Option A) → at t n ≡ x → x ≡ None
       go None is = refl
@@ -166,8 +162,8 @@ module _ (f : Frame) (pid : ℕ) (to through : Option ℕ) (gone : ℕ → Bool)
 
   new_here : (m g : Frame) (o : ℕ) (x : Object) → loses ≡ false → R m → at m.objects o ≡ None → R g → R (record g { objects = put g.objects o (Some x) })
   new_here m g o x lasts was free r =
-      with_objects g _ (both_new (SameObject to) f.objects g.objects o (Some x) (was_free f.objects m.objects o (was.objects_last lasts) free) r.kept.objects)
-      (λ b. lasting_put f.objects g.objects o x (r.objects_last b)) r
+      with_objects g _ (both_new _ _ _ o _ (was_free _ _ o (was.objects_last lasts) free) r.kept.objects)
+      (λ b. lasting_put _ _ o x (r.objects_last b)) r
 
   pub k_inode : loses ≡ false → (m : Frame) (o k : ℕ) (kind : Kind) → R m → free_inode m k ≡ Some o → Keeps R (put_object o (Some (new_object kind (Some k))))
   unfolding put_object Holds
@@ -179,32 +175,32 @@ module _ (f : Frame) (pid : ℕ) (to through : Option ℕ) (gone : ℕ → Bool)
 
   pub k_no_object : loses ≡ true → (o : ℕ) → Keeps R (put_object o None)
   unfolding put_object Holds
-  k_no_object goes o = record { led = λ g r. with_objects g _ (both_gone (SameObject to) f.objects g.objects o r.kept.objects) (λ lasts. absurd (true≢false (sym goes ∙ lasts))) r }
+  k_no_object goes o = record { led = λ g r. with_objects g _ (both_gone _ _ _ o r.kept.objects) (λ lasts. absurd (true≢false (sym goes ∙ lasts))) r }
 
   -- ---- open entries
   with_opens : (g : Frame) (t : List (Option Open)) → Both (SameOpen through) f.opens t → (loses ≡ false → Lasting f.opens t) → R g → R (record g { opens = t })
-  with_opens g t same last r = record { kept = record { descriptors = r.kept.descriptors; objects = r.kept.objects; opens = same }; objects_last = r.objects_last; opens_last = last }
+  with_opens g t same last r = search
 
   pub k_open : loses ≡ false → (m : Frame) (e : ℕ) (x : Open) → R m → lowest_free m.opens ≡ Some e → Keeps R (put_open e (Some x))
   unfolding put_open Holds
   k_open lasts m e x was free =
       record {
-        led = λ g r. with_opens g _ (both_new (SameOpen through) f.opens g.opens e (Some x) (was_free f.opens m.opens e (was.opens_last lasts)
-            (lowest_free_is m.opens e free).1) r.kept.opens) (λ b. lasting_put f.opens g.opens e x (r.opens_last b)) r;
+        led = λ g r. with_opens g _ (both_new _ _ _ e _ (was_free _ _ e (was.opens_last lasts)
+            (lowest_free_is _ e free).1) r.kept.opens) (λ b. lasting_put _ _ e x (r.opens_last b)) r;
       }
 
   pub k_second_open : loses ≡ false → (m : Frame) (d e : ℕ) (x y : Open) → R m → lowest_free m.opens ≡ Some d → lowest_free (put m.opens d (Some y)) ≡ Some e → Keeps R (put_open e (Some x))
   unfolding put_open Holds
   k_second_open lasts m d e x y was first second =
       record {
-        led = λ g r. with_opens g _ (both_new (SameOpen through) f.opens g.opens e (Some x) (was_free f.opens m.opens e (was.opens_last lasts)
-            (free_second m.opens d e y first second)) r.kept.opens) (λ b. lasting_put f.opens g.opens e x (r.opens_last b)) r;
+        led = λ g r. with_opens g _ (both_new _ _ _ e _ (was_free _ _ e (was.opens_last lasts)
+            (free_second _ d e y first second)) r.kept.opens) (λ b. lasting_put _ _ e x (r.opens_last b)) r;
       }
 
   pub k_float : (e : ℕ) (l : Categories) → through ≡ Some e → Keeps R (change_open e (λ y. record y { label = join y.label l }))
   unfolding change_open Holds
   k_float e l on = record {
-    led = λ g r. with_opens g _ (both_change (SameOpen through) f.opens g.opens e _ (λ x was is s. record {
+    led = λ g r. with_opens g _ (both_change _ _ _ e _ (λ x was is s. record {
       plain = s.plain;
       label = λ other. absurd (other on);
     }) r.kept.opens) (λ lasts. lasting_change _ _ e _ (r.opens_last lasts)) r;
@@ -212,7 +208,7 @@ module _ (f : Frame) (pid : ℕ) (to through : Option ℕ) (gone : ℕ → Bool)
 
   pub k_no_open : loses ≡ true → (e : ℕ) → Keeps R (put_open e None)
   unfolding put_open Holds
-  k_no_open goes e = record { led = λ g r. with_opens g _ (both_gone (SameOpen through) f.opens g.opens e r.kept.opens) (λ lasts. absurd (true≢false (sym goes ∙ lasts))) r }
+  k_no_open goes e = record { led = λ g r. with_opens g _ (both_gone _ _ _ e r.kept.opens) (λ lasts. absurd (true≢false (sym goes ∙ lasts))) r }
 
   -- ---- processes
   with_processes : (g : Frame) (t : List (Option Process)) → ((n fd d : ℕ) (q : Process) → living (at f.processes n) ≡ Some q → at q.fds fd ≡ Some d
@@ -231,52 +227,52 @@ module _ (f : Frame) (pid : ℕ) (to through : Option ℕ) (gone : ℕ → Bool)
 
   pub k_process : (p : ℕ) (h : Process → Process) → ((q : Process) → (h q).fds ≡ q.fds) → ((q : Process) → (h q).ended ≡ q.ended) → Keeps R (change_process p h)
   unfolding change_process Holds
-  k_process p h fds ended = record { led = λ g r. with_processes g _ (λ n fd d q lives is stays has. has_changed g.processes p h n fd d ended (λ here z on. ap (λ t. at t fd) (fds z) ∙ on) has) r }
+  k_process p h fds ended = record { led = λ g r. with_processes g _ (λ n fd d q lives is stays has. has_changed _ p h n fd d ended (λ here z on. ap (λ t. at t fd) (fds z) ∙ on) has) r }
 
   -- the caller's descriptors, of which those stay that aren't given up
   caller_fds : (k : List (Option ℕ) → List (Option ℕ)) → ((q : Process) (fds : List (Option ℕ)) (fd d : ℕ) → living (at f.processes pid) ≡ Some q
       → at q.fds fd ≡ Some d → gone fd ≡ false → at fds fd ≡ Some d → at (k fds) fd ≡ Some d) → Keeps R (change_process pid (λ q. record q { fds = k q.fds }))
   unfolding change_process Holds
   caller_fds k keeps = record {
-    led = λ g r. with_processes g _ (λ n fd d q lives is stays has. has_changed g.processes pid (λ z. record z { fds = k z.fds }) n fd d (λ z. refl) (λ here z on.
+    led = λ g r. with_processes g _ (λ n fd d q lives is stays has. has_changed _ _ _ n fd d (λ z. refl) (λ here z on.
         keeps q z.fds fd d (ap (λ m. living (at f.processes m)) (sym here) ∙ lives) is (stays_of fd (ap (λ m. m == pid && gone fd) (sym here) ∙ stays)) on) has) r;
   }
 
   put_unused : (a : ℕ) (x : Option ℕ) (q : Process) (fds : List (Option ℕ)) (fd d : ℕ) → Unused a → living (at f.processes pid) ≡ Some q → at q.fds fd ≡ Some d
       → gone fd ≡ false → at fds fd ≡ Some d → at (put fds a x) fd ≡ Some d
   put_unused a x q fds fd d unused lives is stays on = elim (eqb_tells fd a) [
-    | inl same ↦ absurd (unused q d lives (ap (at q.fds) (sym same.1) ∙ is) (ap gone (sym same.1) ∙ stays))
+    | inl same ↦ absurd (unused q d lives (ap (at _) (sym same.1) ∙ is) (ap gone (sym same.1) ∙ stays))
     | inr apart ↦ get_or-set_other fds a fd x None apart.1 ∙ on
   ]
 
   first_unused : (p : Process) (a : ℕ) → Owns p → lowest_free p.fds ≡ Some a → Unused a
-  first_unused p a owns free q d lives is stays = let h : ◌≡◌ {A = Option ℕ} None (Some d) = sym (lowest_free_is p.fds a free).1 ∙ owns.all q a d lives is stays in cc
+  first_unused p a owns free q d lives is stays = let h = sym (lowest_free_is _ a free).1 ∙ owns.all q a d lives is stays in cc
 
   second_unused : (p : Process) (a b x : ℕ) → Owns p → lowest_free p.fds ≡ Some a → lowest_free (put p.fds a (Some x)) ≡ Some b → Unused b
-  second_unused p a b x owns first second q d lives is stays = let h : ◌≡◌ {A = Option ℕ} None (Some d) = sym (free_second p.fds a b x first second) ∙ owns.all q b d lives is stays in cc
+  second_unused p a b x owns first second q d lives is stays = let h = sym (free_second _ a b x first second) ∙ owns.all q b d lives is stays in cc
 
   pub k_first_fd : (p : Process) (a e : ℕ) → Owns p → lowest_free p.fds ≡ Some a → Keeps R (change_process pid (λ q. record q { fds = put q.fds a (Some e) }))
-  k_first_fd p a e owns free = caller_fds (λ t. put t a (Some e)) (λ q fds fd d lives is stays on. put_unused a (Some e) q fds fd d (first_unused p a owns free) lives is stays on)
+  k_first_fd p a e owns free = caller_fds _ (λ q fds fd d lives is stays on. put_unused a _ q _ fd d (first_unused p a owns free) lives is stays on)
 
   pub k_two_fds : (p : Process) (a b x d e : ℕ) → Owns p → lowest_free p.fds ≡ Some a → lowest_free (put p.fds a (Some x)) ≡ Some b
       → Keeps R (change_process pid (λ q. record q { fds = put (put q.fds a (Some d)) b (Some e) }))
-  k_two_fds p a b x d e owns first second = caller_fds (λ t. put (put t a (Some d)) b (Some e)) (λ q fds fd c lives is stays on.
-      put_unused b (Some e) q (put fds a (Some d)) fd c (second_unused p a b x owns first second) lives is stays
-      (put_unused a (Some d) q fds fd c (first_unused p a owns first) lives is stays on))
+  k_two_fds p a b x d e owns first second = caller_fds _ (λ q fds fd c lives is stays on.
+      put_unused b _ q _ fd c (second_unused p a b x owns first second) lives is stays
+      (put_unused a _ q _ fd c (first_unused p a owns first) lives is stays on))
 
   pub k_given_up : (a : ℕ) → gone a ≡ true → Keeps R (change_process pid (λ q. record q { fds = put q.fds a None }))
-  k_given_up a goes = caller_fds (λ t. put t a None) (λ q fds fd d lives is stays on. put_unused a None q fds fd d (λ z c alive here stay. true≢false (sym goes ∙ stay)) lives is stays on)
+  k_given_up a goes = caller_fds _ (λ q fds fd d lives is stays on. put_unused a _ q _ fd d (λ z c alive here stay. true≢false (sym goes ∙ stay)) lives is stays on)
 
   pub k_fork : (p : Process) → Keeps R (add_process p)
   unfolding add_process Holds
-  k_fork p = record { led = λ g r. with_processes g _ (λ n fd d q lives is stays has. has_pushed g.processes p n fd d has) r }
+  k_fork p = record { led = λ g r. with_processes g _ (λ n fd d q lives is stays has. has_pushed _ p n fd d has) r }
 
   pub k_end : ((fd : ℕ) → gone fd ≡ true) → Keeps R (end_process pid)
   unfolding end_process put_process Holds
   k_end all = record {
     led = λ g r. with_processes g _ (λ n fd d q lives is stays has. elim (eqb_tells n pid) [
       | inl same ↦ absurd (true≢false (sym (all fd) ∙ stays_of fd (ap (λ m. m == pid && gone fd) (sym same.1) ∙ stays)))
-      | inr apart ↦ has_elsewhere g.processes pid _ n fd d apart.1 has
+      | inr apart ↦ has_elsewhere _ _ _ n fd d apart.1 has
     ]) r;
   }
 
@@ -287,12 +283,12 @@ module _ (f : Frame) (pid : ℕ) (to through : Option ℕ) (gone : ℕ → Bool)
     led = λ g r. with_processes g _ (λ n fd d q lives is stays has. elim (eqb_tells n c) [
       | inl same ↦
           let h = was.kept.descriptors n fd d q lives is stays in
-          let ended : is_ended (at m.processes c) ≡ true =
-          (and_parts (is_child pid (at m.processes c)) (is_ended (at m.processes c)) (position-Some (λ z. is_child pid z && is_ended z) m.processes c None
+          let ended =
+          (and_parts _ _ (position-Some (λ z. is_child pid z && is_ended z) m.processes c None
           first).1).1 in
-          let dead : h.process.ended ≡ true = ap is_ended (sym (is_living _ h.process h.lives)) ∙ ap (λ i. is_ended (at m.processes i)) same.1 ∙ ended in
+          let dead = ap is_ended (sym (is_living _ h.process h.lives)) ∙ ap (λ i. is_ended (at m.processes i)) same.1 ∙ ended in
           absurd (true≢false (sym dead ∙ not_ended _ h.process h.lives))
-      | inr apart ↦ has_elsewhere g.processes c None n fd d apart.1 has
+      | inr apart ↦ has_elsewhere _ c _ n fd d apart.1 has
     ]) r;
   }
 
@@ -319,22 +315,21 @@ module _ (f : Frame) (pid : ℕ) (to through : Option ℕ) (gone : ℕ → Bool)
 
   pub bind_given : {A B : Type 0} (Fact : A → Type 0) (m : Row A) (k : A → Row B) → Gives Fact m → ((a : A) → Fact a → Keeps R (k a)) → Keeps R (◌>>=◌ m k)
   unfolding ◌>>=◌
-  bind_given Fact m k hm hk = record { led = λ g r. held_on_pass Fact (m g) k (hm.led g r) hk }
+  bind_given Fact m k hm hk = record { led = λ g r. held_on_pass _ (m g) k (hm.led g r) hk }
 
   pub gives_bind : {A B : Type 0} (Fact : A → Type 0) (More : B → Type 0) (m : Row A) (k : A → Row B) → Gives Fact m → ((a : A) → Fact a → Gives More (k a)) → Gives More (◌>>=◌ m k)
-  gives_bind Fact More m k hm hk = record { led = λ g r. ends_bind m k g _ _ (ends_more (m g) _ _ _ (hm.led g r) (λ a h both. (hk a both.1).led h both.0)) }
+  gives_bind Fact More m k hm hk = record { led = λ g r. ends_bind m k g _ _ (ends_more _ _ _ _ (hm.led g r) (λ a h both. (hk a both.1).led h both.0)) }
 
   -- the caller has the descriptors that stay
   pub k_bind_process : {B : Type 0} (k : Process → Row B) → ((p : Process) → Owns p → Keeps R (k p)) → Keeps R (◌>>=◌ (process pid) k)
   unfolding ◌>>=◌ process
-  k_bind_process k hk = record { led = λ g r. (keeps_bind_some R (living (at g.processes pid)) _ k (λ p is. hk p (owns g r p is))).led g r }
+  k_bind_process k hk = record { led = λ g r. (keeps_bind_some R _ _ k (λ p is. hk p (owns g r p is))).led g r }
     where
       owns : (g : Frame) → R g → (p : Process) → living (at g.processes pid) ≡ Some p → Owns p
       owns g r p is = record {
         all = λ q fd d lives on stays.
             let h = r.kept.descriptors pid fd d q lives on (ap (λ b. b && gone fd) (eq-eqb pid pid refl) ∙ stays) in
-            let e : Some h.process ≡ Some p = sym h.lives ∙ is in
-            let one : h.process ≡ p = cc in
+            let one : h.process ≡ p = cc (sym h.lives ∙ is) in
             ap (λ z. at z.fds fd) (sym one) ∙ h.descriptor;
       }
 
@@ -374,7 +369,7 @@ module _ (f : Frame) (pid : ℕ) (to through : Option ℕ) (gone : ℕ → Bool)
 
   pub k_float_entry : (p : Process) (x : Object) (e : OpenFile) → through ≡ Some e.id → Keeps R (float_entry p x e)
   unfolding float_entry
-  k_float_entry p x e on = keeps_only_if R _ _ (k_float e.id p.label on)
+  k_float_entry p x e on = keeps_only_if R _ _ (k_float _ _ on)
 
   pub k_walked_to : (path : PathOf) → Keeps R (walked_to pid path)
   unfolding walked_to

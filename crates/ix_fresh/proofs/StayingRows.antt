@@ -1,27 +1,45 @@
 -- The rows leave descriptors, and what stands behind them.
 use Rattle.std.proofs.Common.{◌≡◌, ◌==◌, ℕ, Bool, true, false, true≢false, List, [], ◌∷◌, Option, Some, None, option_map, unwrap_or, refl, sym, ap, ◌∙◌}
-use Rattle.std.{specs.{Option.option_map_or, List.range_with_len}, proofs.lemmas.Bool.eq-eqb}
+use Rattle.std.{specs.Option.option_map_or, proofs.lemmas.Bool.eq-eqb}
 use Rattle.ix_label.specs.Category.{Categories}
-use Rattle.ix_model.specs.{world.{Naming.PathOf, World.{Frame, Object, Process, at, is_dir}}, rows.Outcomes.{Outcome, Refuse, Pass, Row}, rows.Table.row}
-use Rattle.ix_model.specs.{rows.Rows.{◌>>=◌, on_pass, pass, put_object, put_open}, rows.OnProcesses.{fork, exec, exit, wait_child}}
-use Rattle.ix_model.specs.history.{AuditLog.object_of_path, Events.Op}
-use Rattle.ix_model.specs.declared.{call.{Keep.Keep, Mode.Mode}, privs.PrivSet.PrivSet, refusal.Refusal.Refusal, reply.{Kind.Kind, Reply.Reply}}
+use Rattle.ix_model.specs.{world.{Naming.PathOf, World.{Frame, Object, Process, at, is_dir}}, rows.{Outcomes.{Outcome, Refuse, Pass, Row}, Table.row, OnLabels.{set_ceiling, read_log}}}
+use Rattle.ix_model.specs.{rows.{Rows.{◌>>=◌, on_pass, pass, put_object, put_open}, OnProcesses.{fork, exec, exit, wait_child}}, history.{AuditLog.object_of_path, Events.Op}}
+use Rattle.ix_model.specs.declared.{call.Mode.Mode, privs.PrivSet.PrivSet, refusal.Refusal.Refusal, reply.{Kind.Kind, Reply.Reply}}
 use Rattle.ix_model.specs.rows.Walks.{OpenFile, Spot, Sought, behind, node, walk, walked_to, found_spot, vacant, object_at, spot_at, missing}
-use Rattle.ix_model.specs.rows.Walks as sought
-use Rattle.ix_model.specs.rows.Lifetimes.{let_go_object, let_go_open, let_go_claim, let_go, let_go_if_held, let_go_each, let_go_all, has_lost}
+use Rattle.ix_model.specs.rows.Lifetimes.{let_go_object, let_go_open, let_go_claim, let_go, let_go_if_held, let_go_each, let_go_all}
 use Rattle.ix_model.specs.rows.OnPaths.{make, create_at, make_dir, open_at, link_at, unlink_at, remove_dir, change_dir, stat_at, list_at}
 use Rattle.ix_model.specs.rows.OnDescriptors.{LengthChecks, read_fd, write_fd, cut_fd, seek_fd, dup_fd, close_fd, make_pipe, pex, unpex}
 use Rattle.ix_model.specs.rows.OnLabels.{label_of, self_label, set_label, set_self, freeze, freeze_self, thaw, thaw_self, set_priv, drop_lic, grant_lic}
-use Rattle.ix_model.specs.rows.OnLabels.{set_ceiling, read_log}
-use Rattle.ix_model.specs.history.Events as op
-use Rattle.ix_model.specs.declared.reply.Kind.TheVariants as kind
-use Rattle.ix_model.proofs.{words.Keeps.{Holds, Keeps, keeps_bind, keeps_then, keeps_pass, keeps_need, keeps_object, keeps_only_if}, words.Turns.holds_more}
+use Rattle.ix_model.proofs.words.{Keeps.{Holds, Keeps, keeps_bind, keeps_then, keeps_pass, keeps_need, keeps_object, keeps_only_if}, Turns.holds_more}
 use Rattle.ix_model.proofs.{words.Rowwise.{keeps_bind_frame, keeps_bind_some}, refused.Seeing.{seen_nothing, ends_seen_walk}}
 use Rattle.ix_model.proofs.words.Ends.{Ends, Anything, ends_kept, ends_bind, ends_then, ends_pass, ends_frame, ends_caller, ends_there, ends_opened}
-use Rattle.ix_fresh.specs.Touched.{object_behind, entry_behind, target, entry_target}
+use Rattle.ix_fresh.{specs.Touched.{object_behind, entry_behind, target, entry_target}, proofs.Staying.{k_no_object, k_no_open}}
 use Rattle.ix_fresh.proofs.Staying.{Kept, k_bind_process, k_open, k_second_open, k_pipe, k_first_fd, k_two_fds, R, r_itself, May, Gives, words, bind_given}
 use Rattle.ix_fresh.proofs.Staying.{gives_bind, walk_lacks, walk_finds, k_observe, k_affect, k_float_entry, k_walked_to, k_object_at, k_opened, k_object}
-use Rattle.ix_fresh.proofs.Staying.{k_no_object, k_no_open}
+use Rattle.ix_model.specs.rows.Walks as sought
+use Rattle.ix_model.specs.history.Events as op
+use Rattle.ix_model.specs.declared.reply.Kind.TheVariants as kind
+
+-- the calls whose rows label no file, put in no descriptor and give none up
+abbrev is_plain : Op → Bool
+is_plain (op.CreateAt path) = false
+is_plain (op.OpenAt path mode) = false
+is_plain (op.ReadFd fd count) = false
+is_plain (op.WriteFd fd bytes) = false
+is_plain (op.CutFd fd len) = false
+is_plain (op.SeekFd fd offset) = false
+is_plain (op.DupFd fd) = false
+is_plain (op.CloseFd fd) = false
+is_plain op.MakePipe = false
+is_plain (op.MakeDir path) = false
+is_plain (op.LinkAt link path) = false
+is_plain (op.UnlinkAt path) = false
+is_plain (op.RemoveDir path) = false
+is_plain (op.Exit status) = false
+is_plain (op.SetLabel path label) = false
+is_plain (op.Freeze path) = false
+is_plain (op.SetPriv path cap lic) = false
+is_plain _ = true
 
 module _ (f : Frame) (pid : ℕ) (to through : Option ℕ) (gone : ℕ → Bool) (loses : Bool) where
   abbrev S : Frame → Type 0
@@ -40,7 +58,7 @@ module _ (f : Frame) (pid : ℕ) (to through : Option ℕ) (gone : ℕ → Bool)
     found : (o d : ℕ) → w ≡ sought.Found o (Some d) → Labels d
 
   dir_now : (g : Frame) → S g → (d : ℕ) → is_dir (node g.objects d) ≡ true → Labels d
-  dir_now g r d dir x is file = go (at g.objects d) refl dir
+  dir_now g r d dir x is file = go _ refl dir
     where
       go : (y : Option Object) → at g.objects d ≡ y → is_dir (unwrap_or y sought.nothing) ≡ true → to ≡ Some d
       go None none h = cc
@@ -48,8 +66,8 @@ module _ (f : Frame) (pid : ℕ) (to through : Option ℕ) (gone : ℕ → Bool)
 
   leads : (g : Frame) → S g → (p : Process) (path : PathOf) → Leads (walk g.objects p path).outcome
   leads g r p path = record {
-    lacking = λ d is. dir_now g r d (walk_lacks g.objects path.names _ None d is);
-    found = λ o d is. dir_now g r d (walk_finds g.objects path.names _ None o d (λ m none. let h : ◌≡◌ {A = Option ℕ} None (Some m) = none in cc) is);
+    lacking = λ d is. dir_now g r d (walk_lacks _ _ _ _ d is);
+    found = λ o d is. dir_now g r d (walk_finds _ _ _ None o d (λ m none. let h : ◌≡◌ {A = Option ℕ} None (Some m) = none in cc) is);
   }
 
   t_walked_to : (path : PathOf) → Tells Leads (walked_to pid path)
@@ -58,18 +76,16 @@ module _ (f : Frame) (pid : ℕ) (to through : Option ℕ) (gone : ℕ → Bool)
     led = λ g r.
         let P : Refusal → Frame → Type 0 = λ why h. S h in
         let Q : Sought → Frame → Type 0 = λ w h. S h × Leads w in
-        ends_bind _ _ g P Q (ends_caller pid g P _ (λ p lives.
+        ends_bind _ _ g P Q (ends_caller _ g P _ (λ p lives.
         ends_bind _ _ g P Q (ends_frame g P _ (
-        ends_then _ _ g P Q (ends_kept S _ P _ ((k_observe f pid to through gone loses _).led g r) (λ why h s. s) (λ u h s.
-        ends_pass _ h P Q (s, leads g r p path)))))) r);
+        ends_then _ _ g P Q (ends_kept S _ P _ ((k_observe f _ to _ _ _ _).led g r) (λ why h s. s) (λ u h s.
+        ends_pass _ h P Q (s, leads g r p _)))))) r);
   }
 
   t_vacant : (w : Sought) → Leads w → Tells Labels (vacant w)
   unfolding vacant Ends pass Rattle.ix_model.specs.rows.Rows.refuse
-  t_vacant sought.NotDir l = record { led = λ g r. r }
-  t_vacant sought.NotFound l = record { led = λ g r. r }
   t_vacant (sought.Missing d) l = record { led = λ g r. (r, l.lacking d refl) }
-  t_vacant (sought.Found o d) l = record { led = λ g r. r }
+  t_vacant _ l = search
 
   -- the directory of a spot
   abbrev InDir : Spot → Type 0
@@ -77,43 +93,41 @@ module _ (f : Frame) (pid : ℕ) (to through : Option ℕ) (gone : ℕ → Bool)
 
   t_found_spot : (w : Sought) → Leads w → Tells InDir (found_spot w)
   unfolding found_spot Ends pass Rattle.ix_model.specs.rows.Rows.refuse
-  t_found_spot sought.NotDir l = record { led = λ g r. r }
-  t_found_spot sought.NotFound l = record { led = λ g r. r }
-  t_found_spot (sought.Missing d) l = record { led = λ g r. r }
   t_found_spot (sought.Found o dir) l = record { led = λ g r. (r, λ d is. l.found o d (ap (sought.Found o) is)) }
+  t_found_spot _ l = search
 
   t_missing : (path : PathOf) → Tells Labels (missing pid path)
   unfolding missing
-  t_missing path = gives_bind f pid to through gone loses Leads Labels _ _ (t_walked_to path) t_vacant
+  t_missing path = gives_bind f _ to _ _ _ _ _ _ _ (t_walked_to _) t_vacant
 
   t_spot_at : (path : PathOf) → Tells InDir (spot_at pid path)
   unfolding spot_at
-  t_spot_at path = gives_bind f pid to through gone loses Leads InDir _ _ (t_walked_to path) t_found_spot
+  t_spot_at path = gives_bind f _ to _ _ _ _ _ _ _ (t_walked_to _) t_found_spot
 
   b_walked_to : {B : Type 0} (path : PathOf) (k : Sought → Row B) → ((w : Sought) → Leads w → Keeps S (k w)) → Keeps S (◌>>=◌ (walked_to pid path) k)
-  b_walked_to path k h = bind_given f pid to through gone loses Leads _ k (t_walked_to path) h
+  b_walked_to path k h = bind_given f _ to _ _ _ _ _ k (t_walked_to _) h
 
   b_vacant : {B : Type 0} (w : Sought) (k : ℕ → Row B) → Leads w → ((d : ℕ) → Labels d → Keeps S (k d)) → Keeps S (◌>>=◌ (vacant w) k)
-  b_vacant w k l h = bind_given f pid to through gone loses Labels _ k (t_vacant w l) h
+  b_vacant w k l h = bind_given f _ to _ _ _ _ _ k (t_vacant w l) h
 
   b_missing : {B : Type 0} (path : PathOf) (k : ℕ → Row B) → ((d : ℕ) → Labels d → Keeps S (k d)) → Keeps S (◌>>=◌ (missing pid path) k)
-  b_missing path k h = bind_given f pid to through gone loses Labels _ k (t_missing path) h
+  b_missing path k h = bind_given f _ to _ _ _ _ _ k (t_missing _) h
 
   b_spot_at : {B : Type 0} (path : PathOf) (k : Spot → Row B) → ((s : Spot) → InDir s → Keeps S (k s)) → Keeps S (◌>>=◌ (spot_at pid path) k)
-  b_spot_at path k h = bind_given f pid to through gone loses InDir _ k (t_spot_at path) h
+  b_spot_at path k h = bind_given f _ to _ _ _ _ _ k (t_spot_at _) h
 
   -- ---- what goes
   k_let_go_object : loses ≡ true → (o : ℕ) → Keeps S (let_go_object o)
   unfolding let_go_object
-  k_let_go_object goes o = record { led = λ g. (keeps_only_if S _ (put_object o None) (k_no_object f pid to through gone loses goes o)).led g }
+  k_let_go_object goes o = record { led = λ g. (keeps_only_if S _ (put_object o None) (k_no_object f _ to _ _ _ goes o)).led g }
 
   k_let_go_open : loses ≡ true → (e : ℕ) → Keeps S (let_go_open e)
   unfolding let_go_open
-  k_let_go_open goes e = record { led = λ g. (keeps_only_if S _ (put_open e None) (k_no_open f pid to through gone loses goes e)).led g }
+  k_let_go_open goes e = record { led = λ g. (keeps_only_if S _ (put_open e None) (k_no_open f _ to _ _ _ goes e)).led g }
 
   k_let_go_claim : (o end : ℕ) → Keeps S (let_go_claim pid o end)
   unfolding let_go_claim
-  k_let_go_claim o end = record { led = λ g. (keeps_only_if S (has_lost g pid o end) _ (k_object f pid to through gone loses o _ (λ x. refl))).led g }
+  k_let_go_claim o end = record { led = λ g. (keeps_only_if S _ _ (k_object f _ to _ _ _ o _ (λ x. refl))).led g }
 
   k_let_go : loses ≡ true → (fd : ℕ) (e : OpenFile) → gone fd ≡ true → Keeps S (let_go pid fd e)
   unfolding let_go
@@ -121,7 +135,7 @@ module _ (f : Frame) (pid : ℕ) (to through : Option ℕ) (gone : ℕ → Bool)
 
   k_let_go_if_held : loses ≡ true → (fd : ℕ) → gone fd ≡ true → Keeps S (let_go_if_held pid fd)
   unfolding let_go_if_held
-  k_let_go_if_held goes fd away = record { led = λ g r. (go (behind g pid fd)).led g r }
+  k_let_go_if_held goes fd away = record { led = λ g r. (go _).led g r }
     where
       go : (b : Option OpenFile) → Keeps S (option_map_or (let_go pid fd) b (pass tt))
       go None = keeps_pass S tt
@@ -134,7 +148,7 @@ module _ (f : Frame) (pid : ℕ) (to through : Option ℕ) (gone : ℕ → Bool)
 
   k_let_go_all : loses ≡ true → ((fd : ℕ) → gone fd ≡ true) → Keeps S (let_go_all pid)
   unfolding let_go_all
-  k_let_go_all goes all = k_let_go_each goes all (range_with_len 0 32)
+  k_let_go_all goes all = k_let_go_each goes all _
 
   -- ---- rows that change labels of directories
   ruleset rows = (b_missing, b_spot_at, words, k_observe, k_affect, k_walked_to, k_object_at, k_opened)
@@ -159,110 +173,48 @@ module _ (f : Frame) (pid : ℕ) (to through : Option ℕ) (gone : ℕ → Bool)
   k_open_at : loses ≡ false → (path : PathOf) (mode : Mode) → Keeps S (open_at pid path mode)
   unfolding open_at
   k_open_at lasts path mode =
-      keeps_bind S _ _ (k_object_at f pid to through gone loses path) (λ o.
+      keeps_bind S _ _ (k_object_at f _ to _ _ _ _) (λ o.
       keeps_bind S _ _ (keeps_object S o) (λ x.
       keeps_then S _ _ (keeps_need S _ _) (
-      k_bind_process f pid to through gone loses _ (λ p owns.
+      k_bind_process f _ to _ _ _ _ (λ p owns.
       keeps_bind_some S _ _ _ (λ fd free.
       keeps_bind_frame S _ (λ m r.
       keeps_bind_some S _ _ _ (λ e none.
-      keeps_then S _ _ (k_open f pid to through gone loses lasts m e _ r none) (
-      keeps_then S _ _ (k_first_fd f pid to through gone loses p fd e owns free) (keeps_pass S _)))))))))
+      keeps_then S _ _ (k_open f _ to _ _ _ lasts m e _ r none) (
+      keeps_then S _ _ (k_first_fd f _ to _ _ _ p fd e owns free) (keeps_pass S _)))))))))
 
   k_dup_fd : (fd : ℕ) → Keeps S (dup_fd pid fd)
   unfolding dup_fd
   k_dup_fd fd =
-      keeps_bind S _ _ (k_opened f pid to through gone loses fd) (λ e.
-      k_bind_process f pid to through gone loses _ (λ p owns.
+      keeps_bind S _ _ (k_opened f _ to _ _ _ fd) (λ e.
+      k_bind_process f _ to _ _ _ _ (λ p owns.
       keeps_bind_some S _ _ _ (λ n free.
-      keeps_then S _ _ (k_first_fd f pid to through gone loses p n e.id owns free) (keeps_pass S _))))
+      keeps_then S _ _ (k_first_fd f _ to _ _ _ p n _ owns free) (keeps_pass S _))))
 
   k_make_pipe : loses ≡ false → Keeps S (make_pipe pid)
   unfolding make_pipe
   k_make_pipe lasts =
       keeps_bind_frame S _ (λ m r.
       keeps_bind_some S _ _ _ (λ o none.
-      k_bind_process f pid to through gone loses _ (λ p owns.
+      k_bind_process f _ to _ _ _ _ (λ p owns.
       keeps_bind_some S _ _ _ (λ a first.
       keeps_bind_some S _ _ _ (λ b second.
       keeps_bind_some S _ _ _ (λ d free.
       keeps_bind_some S _ _ _ (λ e next.
-      keeps_then S _ _ (k_pipe f pid to through gone loses lasts m o r none) (
-      keeps_then S _ _ (k_open f pid to through gone loses lasts m d _ r free) (
-      keeps_then S _ _ (k_second_open f pid to through gone loses lasts m d e _ _ r free next) (
-      keeps_then S _ _ (k_two_fds f pid to through gone loses p a b 0 d e owns first second) (keeps_pass S _)))))))))))
+      keeps_then S _ _ (k_pipe f _ to _ _ _ lasts m o r none) (
+      keeps_then S _ _ (k_open f _ to _ _ _ lasts m d _ r free) (
+      keeps_then S _ _ (k_second_open f _ to _ _ _ lasts m d e _ _ r free next) (
+      keeps_then S _ _ (k_two_fds f _ to _ _ _ p a b 0 d e owns first second) (keeps_pass S _)))))))))))
 
-  k_change_dir : (path : PathOf) → Keeps S (change_dir pid path)
-  unfolding change_dir
-  k_change_dir path = search rows depth 60
+  no_other : (m : Row Reply) → false ≡ true → Keeps S m
+  no_other m h = absurd (true≢false (sym h))
 
-  k_stat_at : (path : PathOf) → Keeps S (stat_at pid path)
-  unfolding stat_at
-  k_stat_at path = search rows depth 60
+  ruleset table = (rows, no_other)
 
-  k_list_at : (path : PathOf) (index : ℕ) → Keeps S (list_at pid path index)
-  unfolding list_at
-  k_list_at path index = search rows depth 60
-
-  k_fork_row : (keep : Keep) → Keeps S (fork pid keep)
-  unfolding fork
-  k_fork_row keep = search rows depth 60
-
-  k_exec : (path : PathOf) → Keeps S (exec pid path)
-  unfolding exec
-  k_exec path = search rows depth 60
-
-  k_wait_child : Keeps S (wait_child pid)
-  unfolding wait_child
-  k_wait_child = search rows depth 60
-
-  k_label_of : (path : PathOf) → Keeps S (label_of pid path)
-  unfolding label_of
-  k_label_of path = search rows depth 60
-
-  k_self_label : Keeps S (self_label pid)
-  unfolding self_label
-  k_self_label = search rows depth 60
-
-  k_set_self : (place : ℕ) (now : Categories) → Keeps S (set_self place pid now)
-  unfolding set_self
-  k_set_self place now = search rows depth 60
-
-  k_freeze_self : Keeps S (freeze_self pid)
-  unfolding freeze_self
-  k_freeze_self = search rows depth 60
-
-  k_thaw : (place : ℕ) (path : PathOf) → Keeps S (thaw place pid path)
-  unfolding thaw
-  k_thaw place path = search rows depth 60
-
-  k_thaw_self : (place : ℕ) → Keeps S (thaw_self place pid)
-  unfolding thaw_self
-  k_thaw_self place = search rows depth 60
-
-  k_drop_lic : (set : PrivSet) → Keeps S (drop_lic pid set)
-  unfolding drop_lic
-  k_drop_lic set = search rows depth 60
-
-  k_grant_lic : (place target : ℕ) (set : PrivSet) → Keeps S (grant_lic place pid target set)
-  unfolding grant_lic
-  k_grant_lic place target set = search rows depth 60
-
-  k_set_ceiling : (place target : ℕ) (now : Categories) → Keeps S (set_ceiling place pid target now)
-  unfolding set_ceiling
-  k_set_ceiling place target now = search rows depth 60
-
-  k_pex : (fd : ℕ) → Keeps S (pex pid fd)
-  unfolding pex
-  k_pex fd = search rows depth 60
-
-  k_unpex : (fd : ℕ) → Keeps S (unpex pid fd)
-  unfolding unpex
-  k_unpex fd = search rows depth 60
-
-  k_read_log : (place index : ℕ) → Keeps S (read_log place pid index)
-  unfolding read_log
-  k_read_log place index = search rows depth 60
+  k_plain : (t : LengthChecks) (place : ℕ) (c : Op) → is_plain c ≡ true → Keeps S (row t place pid c)
+  unfolding row change_dir stat_at list_at fork exec wait_child label_of self_label set_self freeze_self thaw thaw_self drop_lic grant_lic set_ceiling pex unpex read_log
+  k_plain t place op.SelfLabel h = search table depth 60
+  k_plain t place c h = search table depth 60
 
   -- ---- rows that give descriptors up
   k_close_fd : loses ≡ true → (fd : ℕ) → gone fd ≡ true → Keeps S (close_fd pid fd)
@@ -281,29 +233,29 @@ module _ (f : Frame) (pid : ℕ) (to through : Option ℕ) (gone : ℕ → Bool)
 
   from_here : {A B : Type 0} (Fact : A → Type 0) (m : Row A) (k : A → Row B) → Ends (m f) Anything (λ a g. Fact a) → Keeps S m → ((a : A) → Fact a → Keeps S (k a)) → Holds (◌>>=◌ m k f) S
   unfolding ◌>>=◌
-  from_here Fact m k fact keeps next = passed_here Fact (m f) k fact (keeps.led f (r_itself f pid to through gone loses)) next
+  from_here Fact m k fact keeps next = passed_here _ (m f) k fact (keeps.led f (r_itself f _ to _ _ _)) next
 
   -- the open entry behind the caller's descriptor
   k_read_fd : (t : LengthChecks) (fd count : ℕ) → ((e : OpenFile) → behind f pid fd ≡ Some e → through ≡ Some e.id) → Holds (read_fd t pid fd count f) S
   unfolding read_fd
-  k_read_fd t fd count on = from_here (λ e. behind f pid fd ≡ Some e) _ _ (ends_opened pid fd f Anything _ (λ e is. is) tt)
-      (k_opened f pid to through gone loses fd) (λ e is. let floats = on e is in search (rows, k_float_entry, floats) depth 60)
+  k_read_fd t fd count on = from_here _ _ _ (ends_opened _ fd f _ _ (λ e is. is) tt)
+      (k_opened f _ to _ _ _ fd) (λ e is. let floats = on e is in search (rows, k_float_entry, floats) depth 60)
 
   k_seek_fd : (fd offset : ℕ) → ((e : OpenFile) → behind f pid fd ≡ Some e → through ≡ Some e.id) → Holds (seek_fd pid fd offset f) S
   unfolding seek_fd
-  k_seek_fd fd offset on = from_here (λ e. behind f pid fd ≡ Some e) _ _ (ends_opened pid fd f Anything _ (λ e is. is) tt)
-      (k_opened f pid to through gone loses fd) (λ e is. let floats = on e is in search (rows, k_float_entry, floats) depth 60)
+  k_seek_fd fd offset on = from_here _ _ _ (ends_opened _ fd f _ _ (λ e is. is) tt)
+      (k_opened f _ to _ _ _ fd) (λ e is. let floats = on e is in search (rows, k_float_entry, floats) depth 60)
 
   k_write_fd : (t : LengthChecks) (fd : ℕ) → ((e : OpenFile) → behind f pid fd ≡ Some e → (to ≡ Some e.entry.object) × (through ≡ Some e.id)) → Holds (write_fd t pid fd f) S
   unfolding write_fd
-  k_write_fd t fd on = from_here (λ e. behind f pid fd ≡ Some e) _ _ (ends_opened pid fd f Anything _ (λ e is. is) tt) (k_opened f pid to through gone loses fd) (λ e is.
+  k_write_fd t fd on = from_here _ _ _ (ends_opened _ fd f _ _ (λ e is. is) tt) (k_opened f _ to _ _ _ fd) (λ e is.
       let labels : Labels e.entry.object = λ x there file. (on e is).0 in
       let floats = (on e is).1 in
       search (rows, k_float_entry, labels, floats) depth 60)
 
   k_cut_fd : (t : LengthChecks) (fd len : ℕ) → ((e : OpenFile) → behind f pid fd ≡ Some e → to ≡ Some e.entry.object) → Holds (cut_fd t pid fd len f) S
   unfolding cut_fd
-  k_cut_fd t fd len on = from_here (λ e. behind f pid fd ≡ Some e) _ _ (ends_opened pid fd f Anything _ (λ e is. is) tt) (k_opened f pid to through gone loses fd) (λ e is.
+  k_cut_fd t fd len on = from_here _ _ _ (ends_opened _ fd f _ _ (λ e is. is) tt) (k_opened f _ to _ _ _ fd) (λ e is.
       let labels : Labels e.entry.object = λ x there file. on e is in
       search (rows, labels) depth 60)
 
@@ -312,23 +264,23 @@ module _ (f : Frame) (pid : ℕ) (to through : Option ℕ) (gone : ℕ → Bool)
   unfolding object_at
   ends_object_at path =
       let Q : ℕ → Frame → Type 0 = λ o g. object_of_path f pid path ≡ Some o in
-      ends_bind _ _ f Anything Q (ends_seen_walk pid f path _ f Anything _ (seen_nothing pid f) (λ r h k. tt) (λ w g seen here. ends_there w g Anything Q (λ o dir is. here o dir is) tt tt))
+      ends_bind _ _ f _ Q (ends_seen_walk _ f _ _ f _ _ (seen_nothing _ f) (λ r h k. tt) (λ w g seen here. ends_there w g _ Q (λ o dir is. here o _ is) tt tt))
 
   k_set_label : (place : ℕ) (path : PathOf) (now : Categories) → to ≡ object_of_path f pid path → Holds (set_label place pid path now f) S
   unfolding set_label
-  k_set_label place path now on = from_here (λ o. object_of_path f pid path ≡ Some o) _ _ (ends_object_at path) (k_object_at f pid to through gone loses path) (λ o is.
+  k_set_label place path now on = from_here _ _ _ (ends_object_at _) (k_object_at f _ to _ _ _ _) (λ o is.
       let labels : Labels o = λ x there file. on ∙ is in
       search (rows, labels) depth 60)
 
   k_freeze : (path : PathOf) → to ≡ object_of_path f pid path → Holds (freeze pid path f) S
   unfolding freeze
-  k_freeze path on = from_here (λ o. object_of_path f pid path ≡ Some o) _ _ (ends_object_at path) (k_object_at f pid to through gone loses path) (λ o is.
+  k_freeze path on = from_here _ _ _ (ends_object_at _) (k_object_at f _ to _ _ _ _) (λ o is.
       let labels : Labels o = λ x there file. on ∙ is in
       search (rows, labels) depth 60)
 
   k_set_priv : (place : ℕ) (path : PathOf) (cap lic : PrivSet) → to ≡ object_of_path f pid path → Holds (set_priv place pid path cap lic f) S
   unfolding set_priv
-  k_set_priv place path cap lic on = from_here (λ o. object_of_path f pid path ≡ Some o) _ _ (ends_object_at path) (k_object_at f pid to through gone loses path) (λ o is.
+  k_set_priv place path cap lic on = from_here _ _ _ (ends_object_at _) (k_object_at f _ to _ _ _ _) (λ o is.
       let labels : Labels o = λ x there file. on ∙ is in
       search (rows, labels) depth 60)
 
@@ -348,13 +300,13 @@ module _ (f : Frame) (pid : ℕ) where
   kept_of c loses o h = holds_more _ _ o (λ g r. r.kept) h
 
   from_itself : (c : Op) (loses : Bool) (m : Row Reply) → Keeps (R f pid (target f pid c) (entry_target f pid c) (given_up c) loses) m → Holds (m f) (KeptBy f pid c)
-  from_itself c loses m keeps = kept_of c loses (m f) (keeps.led f (r_itself f pid (target f pid c) (entry_target f pid c) (given_up c) loses))
+  from_itself c loses m keeps = kept_of c _ (m f) (keeps.led f (r_itself f _ _ _ _ _))
 
   entry_is : (fd : ℕ) (e : OpenFile) → behind f pid fd ≡ Some e → entry_behind f pid fd ≡ Some e.id
-  entry_is fd e is = ap (option_map (λ (b : OpenFile). b.id)) is
+  entry_is fd e is = ap (option_map (λ b. b.id)) is
 
   object_is : (fd : ℕ) (e : OpenFile) → behind f pid fd ≡ Some e → object_behind f pid fd ≡ Some e.entry.object
-  object_is fd e is = ap (option_map (λ (b : OpenFile). b.entry.object)) is
+  object_is fd e is = ap (option_map (λ b. b.entry.object)) is
 
   pub row_keeps : (t : LengthChecks) (place : ℕ) (c : Op) → Holds (row t place pid c f) (KeptBy f pid c)
   unfolding row create_at make_dir
@@ -371,25 +323,8 @@ module _ (f : Frame) (pid : ℕ) where
   row_keeps t place (op.LinkAt link path) = from_itself (op.LinkAt link path) false _ (k_link_at f pid _ _ _ false link path)
   row_keeps t place (op.UnlinkAt path) = from_itself (op.UnlinkAt path) true _ (k_unlink_at f pid _ _ _ true refl path)
   row_keeps t place (op.RemoveDir path) = from_itself (op.RemoveDir path) true _ (k_remove_dir f pid _ _ _ true refl path)
-  row_keeps t place (op.ChangeDir path) = from_itself (op.ChangeDir path) false _ (k_change_dir f pid _ _ _ false path)
-  row_keeps t place (op.StatAt path) = from_itself (op.StatAt path) false _ (k_stat_at f pid _ _ _ false path)
-  row_keeps t place (op.ListAt path index) = from_itself (op.ListAt path index) false _ (k_list_at f pid _ _ _ false path index)
-  row_keeps t place (op.Fork keep) = from_itself (op.Fork keep) false _ (k_fork_row f pid _ _ _ false keep)
-  row_keeps t place (op.Exec path) = from_itself (op.Exec path) false _ (k_exec f pid _ _ _ false path)
   row_keeps t place (op.Exit status) = from_itself (op.Exit status) true _ (k_exit f pid _ _ _ true refl (λ fd. refl))
-  row_keeps t place op.WaitChild = from_itself op.WaitChild false _ (k_wait_child f pid _ _ _ false)
-  row_keeps t place (op.LabelOf path) = from_itself (op.LabelOf path) false _ (k_label_of f pid _ _ _ false path)
-  row_keeps t place op.SelfLabel = from_itself op.SelfLabel false _ (k_self_label f pid _ _ _ false)
   row_keeps t place (op.SetLabel path label) = kept_of (op.SetLabel path label) false _ (k_set_label f pid _ _ _ false place path label refl)
-  row_keeps t place (op.SetSelf label) = from_itself (op.SetSelf label) false _ (k_set_self f pid _ _ _ false place label)
   row_keeps t place (op.Freeze path) = kept_of (op.Freeze path) false _ (k_freeze f pid _ _ _ false path refl)
-  row_keeps t place op.FreezeSelf = from_itself op.FreezeSelf false _ (k_freeze_self f pid _ _ _ false)
-  row_keeps t place (op.Thaw path) = from_itself (op.Thaw path) false _ (k_thaw f pid _ _ _ false place path)
-  row_keeps t place op.ThawSelf = from_itself op.ThawSelf false _ (k_thaw_self f pid _ _ _ false place)
   row_keeps t place (op.SetPriv path cap lic) = kept_of (op.SetPriv path cap lic) false _ (k_set_priv f pid _ _ _ false place path cap lic refl)
-  row_keeps t place (op.DropLic set) = from_itself (op.DropLic set) false _ (k_drop_lic f pid _ _ _ false set)
-  row_keeps t place (op.GrantLic other set) = from_itself (op.GrantLic other set) false _ (k_grant_lic f pid _ _ _ false place other set)
-  row_keeps t place (op.SetCeiling other label) = from_itself (op.SetCeiling other label) false _ (k_set_ceiling f pid _ _ _ false place other label)
-  row_keeps t place (op.Pex fd) = from_itself (op.Pex fd) false _ (k_pex f pid _ _ _ false fd)
-  row_keeps t place (op.Unpex fd) = from_itself (op.Unpex fd) false _ (k_unpex f pid _ _ _ false fd)
-  row_keeps t place (op.ReadLog index) = from_itself (op.ReadLog index) false _ (k_read_log f pid _ _ _ false place index)
+  row_keeps t place c = from_itself c false _ (k_plain f pid _ _ _ false t place c refl)

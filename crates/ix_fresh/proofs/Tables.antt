@@ -11,22 +11,22 @@ pub record Both {A : Type 0} (S : ℕ → A → A → Type 0) (t u : List (Optio
 
 module _ {A : Type 0} (S : ℕ → A → A → Type 0) where
   pub both_itself : ((n : ℕ) (x : A) → S n x x) → (t : List (Option A)) → Both S t t
-  both_itself h t = record { same = λ n x y is here. let e : Some x ≡ Some y = sym is ∙ here in let one : x ≡ y = cc in subst (λ (z : A). S n x z) one (h n x) }
+  both_itself h t = record { same = λ n x y is here. let one : x ≡ y = cc (sym is ∙ here) in subst (λ z. S n x z) one (h n x) }
 
   pub both_change : (t u : List (Option A)) (n : ℕ) (h : A → A) → ((x was : A) → at t n ≡ Some x → S n x was → S n x (h was)) → Both S t u → Both S t (change u n h)
   both_change t u n h on r = record {
     same = λ m x y is here. elim (at_change u n h m y here) [
       | inl c ↦
-          let there : at t n ≡ Some x = ap (at t) (sym c.here) ∙ is in
-          subst (λ (k : ℕ). S k x y) (sym c.here) (subst (λ (z : A). S n x z) (sym c.same) (on x c.was there (r.same n x c.was there c.is_was)))
+          let there = ap (at t) (sym c.here) ∙ is in
+          subst (λ k. S k x y) (sym c.here) (subst (λ z. S n x z) (sym c.same) (on x c.was there (r.same n x c.was there c.is_was)))
       | inr other ↦ r.same m x y is other.1
     ];
   }
 
   pub both_gone : (t u : List (Option A)) (n : ℕ) → Both S t u → Both S t (put u n None)
   both_gone t u n r = record {
-    same = λ m x y is here. elim (at_put u n m None y here) [
-      | inl gone ↦ let h : ◌≡◌ {A = Option A} None (Some y) = gone.1 in cc
+    same = λ m x y is here. elim (at_put u n m _ y here) [
+      | inl gone ↦ let h = gone.1 in cc
       | inr other ↦ r.same m x y is other.1
     ];
   }
@@ -34,7 +34,7 @@ module _ {A : Type 0} (S : ℕ → A → A → Type 0) where
   pub both_new : (t u : List (Option A)) (n : ℕ) (z : Option A) → at t n ≡ None → Both S t u → Both S t (put u n z)
   both_new t u n z free r = record {
     same = λ m x y is here. elim (at_put u n m z y here) [
-      | inl new ↦ let h : ◌≡◌ {A = Option A} None (Some x) = sym free ∙ ap (at t) (sym new.0) ∙ is in cc
+      | inl new ↦ let h = sym free ∙ ap (at t) (sym new.0) ∙ is in cc
       | inr other ↦ r.same m x y is other.1
     ];
   }
@@ -47,26 +47,21 @@ pub record HasFd (t : List (Option Process)) (n fd d : ℕ) : Type 0 where
   pub descriptor : at process.fds fd ≡ Some d
 
 pub has_elsewhere : (t : List (Option Process)) (p : ℕ) (x : Option Process) (n fd d : ℕ) → n ≢ p → HasFd t n fd d → HasFd (put t p x) n fd d
-has_elsewhere t p x n fd d apart r = record { process = r.process; lives = ap living (get_or-set_other t p n x None apart) ∙ r.lives; descriptor = r.descriptor }
+has_elsewhere t p x n fd d apart r = let lives = ap living (get_or-set_other t p n x None apart) ∙ r.lives in search
 
 pub has_changed : (t : List (Option Process)) (p : ℕ) (h : Process → Process) (n fd d : ℕ) → ((q : Process) → (h q).ended ≡ q.ended)
     → (n ≡ p → (q : Process) → at q.fds fd ≡ Some d → at (h q).fds fd ≡ Some d) → HasFd t n fd d → HasFd (change t p h) n fd d
 has_changed t p h n fd d ended keeps r = elim (eqb_tells n p) [
   | inl same ↦
-      let is : at t p ≡ Some r.process = ap (at t) (sym same.1) ∙ is_living _ r.process r.lives in
+      let is = ap (at t) (sym same.1) ∙ is_living _ _ r.lives in
       record {
         process = h r.process;
-        lives = lives_as _ (h r.process) (ap (at (change t p h)) same.1 ∙ at_changed t p h ∙ ap (option_map h) is) (ended r.process ∙ not_ended _ r.process r.lives);
+        lives = lives_as _ _ (ap (at _) same.1 ∙ at_changed t p h ∙ ap (option_map h) is) (ended _ ∙ not_ended _ r.process r.lives);
         descriptor = keeps same.1 r.process r.descriptor;
       }
-  | inr apart ↦ has_elsewhere t p (option_map h (at t p)) n fd d apart.1 r
+  | inr apart ↦ has_elsewhere t p _ n fd d apart.1 r
 ]
 
 pub has_pushed : (t : List (Option Process)) (p : Process) (n fd d : ℕ) → HasFd t n fd d → HasFd (t ++ Some p ∷ []) n fd d
 has_pushed t p n fd d r =
-    record {
-      process = r.process;
-      lives = ap living (get_or_append_left t (Some p ∷ []) None n (in_table t n r.process (is_living _ r.process r.lives)))
-          ∙ r.lives;
-      descriptor = r.descriptor;
-    }
+    let lives = ap living (get_or_append_left t (Some p ∷ []) None n (in_table t n r.process (is_living _ r.process r.lives))) ∙ r.lives in search

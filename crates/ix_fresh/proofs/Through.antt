@@ -1,6 +1,5 @@
 -- What a read or a write through a descriptor leaves, where it is answered.
-use Rattle.std.proofs.Common.{◌≡◌, ℕ, true, false, true≢false, List, Option, Some, refl, sym, ap, ◌∙◌, subst, inl, inr}
-use Rattle.std.proofs.lemmas.Bool.{not-false}
+use Rattle.std.proofs.{Common.{◌≡◌, ℕ, true, false, true≢false, List, Option, Some, refl, sym, ap, ◌∙◌, subst, inl, inr}, lemmas.Bool.not-false}
 use Rattle.ix_label.specs.{Category.{Categories, join, leq}, Lattice.{leq-refl, leq-trans, leq-join_left, leq-join_right, join-least}}
 use Rattle.ix_model.specs.{world.World.{Frame, Object, Process, Open, at, change, living, is_pipe}, declared.reply.Reply.Reply}
 use Rattle.ix_model.specs.rows.{Walks.{OpenFile, behind}, OnDescriptors.{LengthChecks, read_fd, write_fd}}
@@ -38,9 +37,9 @@ read_entry : (t : List (Option Open)) (e : ℕ) (entry : Open) (l : Categories) 
     → at (change t e (λ z. record z { label = join z.label l })) e ≡ Some y → (leq y.label l ≡ true) × (leq l y.label ≡ true)
 read_entry t e entry l y is low here =
     let j = joined t e l y here in
-    let low_was : leq j.was.label l ≡ true = subst (λ (z : Open). leq z.label l ≡ true) (one_there (at t e) entry j.was is j.is_was) low in (
-      subst (λ (a : Categories). leq a l ≡ true) (sym j.label) (join-least j.was.label l l low_was (leq-refl l)),
-      subst (λ (a : Categories). leq l a ≡ true) (sym j.label) (leq-join_right j.was.label l),
+    let low_was = subst (λ z. leq z.label l ≡ true) (one_there _ _ _ is j.is_was) low in (
+      subst (λ a. leq a l ≡ true) (sym j.label) (join-least _ l l low_was (leq-refl l)),
+      subst (λ a. leq l a ≡ true) (sym j.label) (leq-join_right _ l),
     )
 
 pub read_known : (t : LengthChecks) (pid fd count : ℕ) (f : Frame) → Ends (read_fd t pid fd count f) Anything (λ r g. ReadFacts pid fd f g)
@@ -78,21 +77,21 @@ pub record WriteFacts (pid fd : ℕ) (f g : Frame) : Type 0 where
 pub write_known : (t : LengthChecks) (pid fd : ℕ) (f : Frame) → Ends (write_fd t pid fd f) Anything (λ r g. WriteFacts pid fd f g)
 write_known t pid fd f =
     let Q : Reply → Frame → Type 0 = λ r g. WriteFacts pid fd f g in
-    ends_write f Anything Q (λ why. tt) t pid fd (λ e is x here q own.
-    ends_then _ _ f Anything Q (ends_affects pid e.entry.object e.entry.label f _ (λ g p lives processes opens takes.
+    ends_write f _ Q _ t _ fd (λ e is x here q own.
+    ends_then _ _ f _ Q (ends_affects _ _ _ f _ (λ g p lives processes opens takes.
     let taken : (y : Object) → at g.objects e.entry.object ≡ Some y → leq (join q.label e.entry.label) y.label ≡ true =
-    λ y now. subst (λ (z : Process). leq (join z.label e.entry.label) y.label ≡ true) (one_there _ p q lives own) (takes y now) in
+    λ y now. subst (λ z. leq (join z.label e.entry.label) y.label ≡ true) (one_there _ p q lives own) (takes y now) in
     let takes_own : (y : Object) → at g.objects e.entry.object ≡ Some y → leq q.label y.label ≡ true =
-    λ y now. leq-trans q.label (join q.label e.entry.label) y.label (leq-join_left q.label e.entry.label) (taken y now) in
+    λ y now. leq-trans _ _ _ (leq-join_left _ _) (taken y now) in
     let takes_entry : (y : Object) → at g.objects e.entry.object ≡ Some y → leq e.entry.label y.label ≡ true =
-    λ y now. leq-trans e.entry.label (join q.label e.entry.label) y.label (leq-join_right q.label e.entry.label) (taken y now) in
-    let lives_on : living (at g.processes pid) ≡ Some q = ap (λ u. living (at u pid)) processes ∙ own in
-    let stood : at g.opens e.id ≡ Some e.entry = ap (λ u. at u e.id) opens ∙ behind_is f pid fd e is in
+    λ y now. leq-trans _ _ _ (leq-join_right _ _) (taken y now) in
+    let lives_on = ap (λ u. living (at u pid)) processes ∙ own in
+    let stood = ap (λ u. at u e.id) opens ∙ behind_is f _ fd e is in
     let known : (t : List (Option Open)) → ((z : Object) (y : Open) → at g.objects e.entry.object ≡ Some z → at t e.id ≡ Some y → leq y.label z.label ≡ true)
     → (is_pipe x ≡ false → (y : Open) → at t e.id ≡ Some y → leq q.label y.label ≡ true) → WriteFacts pid fd f (record g { opens = t }) =
     λ t entry taken_in.
     record { through = e; is_behind = is; object = x; is_object = here; process = q; lives = lives_on; takes = takes_own; entry = entry; taken_in = taken_in } in
-    ends_floated Anything Q q x e _ g
+    ends_floated _ Q q x e _ g
     (λ file. known _
     (λ z y now there.
     let j = joined g.opens e.id q.label y there in
@@ -101,5 +100,5 @@ write_known t pid fd f =
     (λ other y there.
     let j = joined g.opens e.id q.label y there in
     subst (λ (a : Categories). leq q.label a ≡ true) (sym j.label) (leq-join_right j.was.label q.label)))
-    (λ pipe. known g.opens (λ z y now there. subst (λ (v : Open). leq v.label z.label ≡ true) (one_there (at g.opens e.id) e.entry y stood there) (takes_entry z now))
+    (λ pipe. known _ (λ z y now there. subst (λ (v : Open). leq v.label z.label ≡ true) (one_there (at g.opens e.id) e.entry y stood there) (takes_entry z now))
     (λ other y there. absurd (true≢false (sym (not-false _ pipe) ∙ other)))))))

@@ -1,17 +1,14 @@
 -- How many of each a content has, and the part of a reply that the frame decides: neither looks at what is held.
-use Rattle.std.proofs.Common.{◌≡◌, ◌+◌, ◌-◌, ℕ, Bool, true, false, true≢false, ◌&&◌, not, List, [], ◌∷◌, length, map, replicate, Option, Some, None, refl, sym}
+use Rattle.std.proofs.{Common.{◌≡◌, ◌+◌, ◌-◌, ℕ, Bool, true, false, true≢false, List, [], ◌∷◌, length, map, Option, Some, None, refl, sym}, lemmas.List.{length-map, length-replicate}}
 use Rattle.std.proofs.Common.{if◌then◌else◌, ap, ◌∙◌, arith, set, length-set, length-append}
-use Rattle.std.proofs.lemmas.List.{length-map, length-replicate}
-use Rattle.ix_model.specs.{world.{Naming.PathOf, World.{Frame, World, Content, Holding, at, is_ended}}, rows.{Walks.{OpenFile, behind}, Table.Decision}}
-use Rattle.ix_model.specs.{two_runs.TwoRuns.{shape, blank}, history.Events.Op, declared.reply.Reply.Reply}
-use Rattle.ix_model.specs.world.Contents.{grown, carried, after_read, after_write, after_cut, after_seek, after_exit, emptied, holds_nothing, on_pipe}
+use Rattle.ix_model.specs.{world.{Naming.PathOf, World.{Frame, World, Content, Holding, at, is_ended}}, rows.{Walks.OpenFile, Table.Decision}, history.Step.answer}
+use Rattle.ix_model.{specs.{two_runs.TwoRuns.{shape, blank}, history.Events.Op, declared.reply.Reply.Reply}, proofs.clean.Carrying.length-keep}
+use Rattle.ix_model.specs.world.Contents.{grown, carried, after_read, after_write, after_cut, after_seek, after_exit, emptied, holds_nothing}
 use Rattle.ix_model.specs.history.Step.{Given, plainly, read_answer, write_answer, cut_answer, seek_answer, stat_answer, exit_answer, wait_answer, pex_answer}
-use Rattle.ix_model.specs.history.Step.{is_whole, answer}
+use Rattle.ix_iso.{specs.Laws.{frame_part, gives_bytes}, proofs.OneKind.kind_number}
 use Rattle.ix_model.specs.history.Events as op
 use Rattle.ix_model.specs.declared.reply.Kind.TheVariants as kind
 use Rattle.ix_model.specs.declared.reply.Reply.TheVariants as reply
-use Rattle.ix_model.proofs.clean.Carrying.{length-keep}
-use Rattle.ix_iso.{specs.Laws.{frame_part, gives_bytes}, proofs.OneKind.kind_number}
 
 -- as many objects, open entries and processes
 pub record SameCounts (c d : Content) : Type 0 where
@@ -20,13 +17,7 @@ pub record SameCounts (c d : Content) : Type 0 where
   pub statuses : length c.statuses ≡ length d.statuses
 
 pub counts_itself : (c : Content) → SameCounts c c
-counts_itself c = record { holdings = refl; offsets = refl; statuses = refl }
-
-counts_again : (b c d : Content) → SameCounts b c → SameCounts c d → SameCounts b d
-counts_again b c d r s = record { holdings = r.holdings ∙ s.holdings; offsets = r.offsets ∙ s.offsets; statuses = r.statuses ∙ s.statuses }
-
-counts_back : (c d : Content) → SameCounts c d → SameCounts d c
-counts_back c d r = record { holdings = sym r.holdings; offsets = sym r.offsets; statuses = sym r.statuses }
+counts_itself c = search
 
 -- ---- shapes
 map_constant : {A B : Type 0} (b : B) (xs ys : List A) → length xs ≡ length ys → map (λ x. b) xs ≡ map (λ x. b) ys
@@ -40,49 +31,49 @@ map_length b xs ys h = sym (length-map xs (λ x. b)) ∙ ap length h ∙ length-
 
 blank_same : (c d : Content) → SameCounts c d → blank c ≡ blank d
 blank_same c d r = λ i. record {
-  holdings = map_constant holds_nothing c.holdings d.holdings r.holdings i;
+  holdings = map_constant holds_nothing _ _ r.holdings i;
   offsets =
-      map_constant 0 c.offsets d.offsets r.offsets i;
-  statuses = map_constant 0 c.statuses d.statuses r.statuses i;
+      map_constant 0 _ _ r.offsets i;
+  statuses = map_constant 0 _ _ r.statuses i;
 }
 
 pub shape_from : (v w : World) → v.frame ≡ w.frame → SameCounts v.content w.content → shape v ≡ shape w
 unfolding shape
-shape_from v w frames counts = λ i. record { frame = frames i; content = blank_same v.content w.content counts i }
+shape_from v w frames counts = λ i. record { frame = frames i; content = blank_same _ _ counts i }
 
 pub shape_frames : (v w : World) → shape v ≡ shape w → v.frame ≡ w.frame
 unfolding shape
-shape_frames v w h = ap (λ (u : World). u.frame) h
+shape_frames v w h = ap (λ u. u.frame) h
 
 pub shape_counts : (v w : World) → shape v ≡ shape w → SameCounts v.content w.content
 unfolding shape
 shape_counts v w h = record {
-  holdings = map_length holds_nothing v.content.holdings w.content.holdings (ap (λ (u : World). u.content.holdings) h);
-  offsets = map_length 0 v.content.offsets w.content.offsets (ap (λ (u : World). u.content.offsets) h);
-  statuses = map_length 0 v.content.statuses w.content.statuses (ap (λ (u : World). u.content.statuses) h);
+  holdings = map_length _ _ _ (ap (λ u. u.content.holdings) h);
+  offsets = map_length 0 _ _ (ap (λ u. u.content.offsets) h);
+  statuses = map_length 0 _ _ (ap (λ u. u.content.statuses) h);
 }
 
 -- ---- what a step does
 length_grown : (n : ℕ) (xs : List ℕ) → length (grown n xs) ≡ length xs + (n - length xs)
-length_grown n xs = length-append xs (replicate (n - length xs) 0) ∙ ap (λ k. length xs + k) (length-replicate (n - length xs) 0)
+length_grown n xs = length-append xs _ ∙ ap (λ k. length xs + k) (length-replicate _ 0)
 
 pub counts_carried : (f g : Frame) (c d : Content) → SameCounts c d → SameCounts (carried f g c) (carried f g d)
 unfolding carried
 counts_carried f g c d r =
-    let few : length (grown (length g.processes) c.statuses) ≡ length (grown (length g.processes) d.statuses) = length_grown _ c.statuses
-    ∙ ap (λ n. n + (length g.processes - n)) r.statuses ∙ sym (length_grown _ d.statuses) in
+    let few = length_grown _ _
+    ∙ ap (λ n. n + (length g.processes - n)) r.statuses ∙ sym (length_grown _ _) in
     record {
-      holdings = length-keep holds_nothing _ 0 c.holdings ∙ r.holdings ∙ sym (length-keep holds_nothing _ 0 d.holdings);
-      offsets = length-keep 0 _ 0 c.offsets ∙ r.offsets ∙ sym (length-keep 0 _ 0 d.offsets);
+      holdings = length-keep _ _ 0 _ ∙ r.holdings ∙ sym (length-keep _ _ 0 _);
+      offsets = length-keep 0 _ 0 _ ∙ r.offsets ∙ sym (length-keep 0 _ 0 _);
       statuses = length-keep 0 _ 0 _ ∙ few ∙ sym (length-keep 0 _ 0 _);
     }
 
 module _ (c : Content) where
   set_holding : (o : ℕ) (h : Holding) → SameCounts (record c { holdings = set c.holdings o h }) c
-  set_holding o h = record { holdings = length-set c.holdings o h; offsets = refl; statuses = refl }
+  set_holding o h = let holdings = length-set c.holdings o h in search
 
   set_offset : (e n : ℕ) → SameCounts (record c { offsets = set c.offsets e n }) c
-  set_offset e n = record { holdings = refl; offsets = length-set c.offsets e n; statuses = refl }
+  set_offset e n = let offsets = length-set c.offsets e n in search
 
   either : (b : Bool) (x y : Content) → SameCounts x c → SameCounts y c → SameCounts (if b then x else y) c
   either true x y r s = r
@@ -90,27 +81,27 @@ module _ (c : Content) where
 
   counts_read : (f : Frame) (e : OpenFile) (k : ℕ) → SameCounts (after_read f e k c) c
   unfolding after_read
-  counts_read f e k = either (on_pipe f e) _ _ (set_holding e.entry.object _) (set_offset e.id _)
+  counts_read f e k = either _ _ _ (set_holding _ _) (set_offset _ _)
 
   counts_write : (f : Frame) (e : OpenFile) (new : List ℕ) → SameCounts (after_write f e new c) c
   unfolding after_write
-  counts_write f e new = either (on_pipe f e) _ _ (set_holding e.entry.object _) (record { holdings = length-set c.holdings e.entry.object _; offsets = length-set c.offsets e.id _; statuses = refl })
+  counts_write f e new = either _ _ _ (set_holding _ _) (record { holdings = length-set c.holdings e.entry.object _; offsets = length-set c.offsets e.id _; statuses = refl })
 
   counts_cut : (e : OpenFile) (len : ℕ) → SameCounts (after_cut e len c) c
   unfolding after_cut
-  counts_cut e len = set_holding e.entry.object _
+  counts_cut e len = set_holding _ _
 
   counts_seek : (e : OpenFile) (offset : ℕ) → SameCounts (after_seek e offset c) c
   unfolding after_seek
-  counts_seek e offset = set_offset e.id offset
+  counts_seek e offset = set_offset _ _
 
   counts_exit : (g : Frame) (pid status : ℕ) → SameCounts (after_exit g pid status c) c
   unfolding after_exit
-  counts_exit g pid status = either (is_ended (at g.processes pid)) _ _ (record { holdings = refl; offsets = refl; statuses = length-set c.statuses pid status }) (counts_itself c)
+  counts_exit g pid status = either (is_ended (at g.processes pid)) _ _ (let statuses = length-set c.statuses pid status in search) (counts_itself c)
 
   counts_emptied : (o : ℕ) → SameCounts (emptied o c) c
   unfolding emptied
-  counts_emptied o = set_holding o holds_nothing
+  counts_emptied o = set_holding o _
 
 -- an answer has as many of each as what is carried over
 module _ (w : World) where
@@ -119,22 +110,22 @@ module _ (w : World) where
 
   kept_read : (count : ℕ) (b : Option OpenFile) (r : Reply) (g : Frame) → Kept g (read_answer w count b r g)
   unfolding read_answer plainly
-  kept_read count (Some e) (reply.Bytes k) g = counts_read (carried w.frame g w.content) w.frame e _
+  kept_read count (Some e) (reply.Bytes k) g = counts_read _ _ e _
   kept_read count _ r g = counts_itself _
 
   kept_write : (new : List ℕ) (b : Option OpenFile) (r : Reply) (g : Frame) → Kept g (write_answer w new b r g)
   unfolding write_answer plainly
-  kept_write new (Some e) (reply.Number k) g = counts_write (carried w.frame g w.content) w.frame e new
+  kept_write new (Some e) (reply.Number k) g = counts_write _ _ e new
   kept_write new _ r g = counts_itself _
 
   kept_cut : (len : ℕ) (b : Option OpenFile) (r : Reply) (g : Frame) → Kept g (cut_answer w len b r g)
   unfolding cut_answer plainly
-  kept_cut len (Some e) reply.Done g = counts_cut (carried w.frame g w.content) e len
+  kept_cut len (Some e) reply.Done g = counts_cut _ e len
   kept_cut len _ r g = counts_itself _
 
   kept_seek : (offset : ℕ) (b : Option OpenFile) (r : Reply) (g : Frame) → Kept g (seek_answer w offset b r g)
   unfolding seek_answer plainly
-  kept_seek offset (Some e) reply.Done g = counts_seek (carried w.frame g w.content) e offset
+  kept_seek offset (Some e) reply.Done g = counts_seek _ e offset
   kept_seek offset _ r g = counts_itself _
 
   kept_stat : (r : Reply) (g : Frame) → Kept g (stat_answer w r g)
@@ -144,7 +135,7 @@ module _ (w : World) where
 
   kept_exit : (pid status : ℕ) (r : Reply) (g : Frame) → Kept g (exit_answer w pid status r g)
   unfolding exit_answer plainly
-  kept_exit pid status reply.Done g = counts_exit (carried w.frame g w.content) g pid status
+  kept_exit pid status reply.Done g = counts_exit _ g _ status
   kept_exit pid status r g = counts_itself _
 
   kept_wait : (r : Reply) (g : Frame) → Kept g (wait_answer w r g)
@@ -154,20 +145,20 @@ module _ (w : World) where
 
   kept_pex : (b : Option OpenFile) (r : Reply) (g : Frame) → Kept g (pex_answer w b r g)
   unfolding pex_answer plainly
-  kept_pex (Some e) r g = either (carried w.frame g w.content) (is_whole g e.entry.object && not (is_whole w.frame e.entry.object)) _ _
-      (counts_emptied (carried w.frame g w.content) e.entry.object) (counts_itself _)
+  kept_pex (Some e) r g = either _ _ _ _
+      (counts_emptied _ e.entry.object) (counts_itself _)
   kept_pex None r g = counts_itself _
 
   pub kept_answer : (pid : ℕ) (c : Op) (d : Decision) → Kept d.frame (answer w pid c d)
   unfolding answer plainly
-  kept_answer pid (op.ReadFd fd count) d = kept_read count (behind w.frame pid fd) _ _
-  kept_answer pid (op.WriteFd fd bytes) d = kept_write bytes (behind w.frame pid fd) _ _
-  kept_answer pid (op.CutFd fd len) d = kept_cut len (behind w.frame pid fd) _ _
-  kept_answer pid (op.SeekFd fd offset) d = kept_seek offset (behind w.frame pid fd) _ _
+  kept_answer pid (op.ReadFd fd count) d = kept_read _ _ _ _
+  kept_answer pid (op.WriteFd fd bytes) d = kept_write _ _ _ _
+  kept_answer pid (op.CutFd fd len) d = kept_cut _ _ _ _
+  kept_answer pid (op.SeekFd fd offset) d = kept_seek _ _ _ _
   kept_answer pid (op.StatAt path) d = kept_stat _ _
-  kept_answer pid (op.Exit status) d = kept_exit pid status _ _
+  kept_answer pid (op.Exit status) d = kept_exit _ _ _ _
   kept_answer pid op.WaitChild d = kept_wait _ _
-  kept_answer pid (op.Pex fd) d = kept_pex (behind w.frame pid fd) _ _
+  kept_answer pid (op.Pex fd) d = kept_pex _ _ _
   kept_answer pid c d = counts_itself _
 
   -- ---- replies
@@ -187,32 +178,32 @@ module _ (w : World) where
 
   told_write : (fd : ℕ) (new : List ℕ) (b : Option OpenFile) (r : Reply) (g : Frame) → Told (op.WriteFd fd new) (write_answer w new b r g) r
   unfolding write_answer plainly
-  told_write fd new (Some e) (reply.Number k) g = record { kind = refl; part = refl; bytes = λ other. refl }
+  told_write fd new (Some e) (reply.Number k) g = search
   told_write fd new _ r g = told_same _ _ r refl refl
 
   told_cut : (c : Op) (len : ℕ) (b : Option OpenFile) (r : Reply) (g : Frame) → Told c (cut_answer w len b r g) r
   unfolding cut_answer plainly
-  told_cut c len (Some e) reply.Done g = told_same c _ reply.Done refl refl
+  told_cut c len (Some e) reply.Done g = told_same c _ _ refl refl
   told_cut c len _ r g = told_same c _ r refl refl
 
   told_seek : (c : Op) (offset : ℕ) (b : Option OpenFile) (r : Reply) (g : Frame) → Told c (seek_answer w offset b r g) r
   unfolding seek_answer plainly
-  told_seek c offset (Some e) reply.Done g = told_same c _ reply.Done refl refl
+  told_seek c offset (Some e) reply.Done g = told_same c _ _ refl refl
   told_seek c offset _ r g = told_same c _ r refl refl
 
   told_stat : (path : PathOf) (r : Reply) (g : Frame) → Told (op.StatAt path) (stat_answer w r g) r
   unfolding stat_answer plainly
-  told_stat path (reply.Stat o kind.File size links frozen x y) g = record { kind = refl; part = refl; bytes = λ other. refl }
+  told_stat path (reply.Stat o kind.File size links frozen x y) g = search
   told_stat path r g = told_same _ _ r refl refl
 
   told_exit : (c : Op) (pid status : ℕ) (r : Reply) (g : Frame) → Told c (exit_answer w pid status r g) r
   unfolding exit_answer plainly
-  told_exit c pid status reply.Done g = told_same c _ reply.Done refl refl
+  told_exit c pid status reply.Done g = told_same c _ _ refl refl
   told_exit c pid status r g = told_same c _ r refl refl
 
   told_wait : (r : Reply) (g : Frame) → Told op.WaitChild (wait_answer w r g) r
   unfolding wait_answer plainly
-  told_wait (reply.Child p status) g = record { kind = refl; part = refl; bytes = λ other. refl }
+  told_wait (reply.Child p status) g = search
   told_wait r g = told_same _ _ r refl refl
 
   told_pex : (c : Op) (b : Option OpenFile) (r : Reply) (g : Frame) → Told c (pex_answer w b r g) r
@@ -222,12 +213,12 @@ module _ (w : World) where
 
   pub told_answer : (pid : ℕ) (c : Op) (d : Decision) → Told c (answer w pid c d) d.reply
   unfolding answer plainly
-  told_answer pid (op.ReadFd fd count) d = told_read fd count (behind w.frame pid fd) _ _
-  told_answer pid (op.WriteFd fd bytes) d = told_write fd bytes (behind w.frame pid fd) _ _
-  told_answer pid (op.CutFd fd len) d = told_cut _ len (behind w.frame pid fd) _ _
-  told_answer pid (op.SeekFd fd offset) d = told_seek _ offset (behind w.frame pid fd) _ _
-  told_answer pid (op.StatAt path) d = told_stat path _ _
-  told_answer pid (op.Exit status) d = told_exit _ pid status _ _
+  told_answer pid (op.ReadFd fd count) d = told_read fd _ _ _ _
+  told_answer pid (op.WriteFd fd bytes) d = told_write fd _ _ _ _
+  told_answer pid (op.CutFd fd len) d = told_cut _ _ _ _ _
+  told_answer pid (op.SeekFd fd offset) d = told_seek _ _ _ _ _
+  told_answer pid (op.StatAt path) d = told_stat _ _ _
+  told_answer pid (op.Exit status) d = told_exit _ _ _ _ _
   told_answer pid op.WaitChild d = told_wait _ _
-  told_answer pid (op.Pex fd) d = told_pex _ (behind w.frame pid fd) _ _
-  told_answer pid c d = told_same c _ d.reply refl refl
+  told_answer pid (op.Pex fd) d = told_pex _ _ _ _
+  told_answer pid c d = told_same c _ _ refl refl

@@ -3,15 +3,14 @@ use Rattle.std.proofs.Common.{◌≡◌, ℕ, true, false, true≢false, ◌&&�
 use Rattle.std.proofs.lemmas.{Bool.{and_parts, not-false}, List.Quantifiers.position-Some}
 use Rattle.ix_label.specs.{Category.{Categories, join, leq}, Lattice.{leq-trans, leq-join_left, leq-join_right}}
 use Rattle.ix_model.specs.{world.{Naming.PathOf, World.{Frame, Object, Process, Open, at, put, change, living, is_pipe, is_ended}}, declared.reply.Reply.Reply}
-use Rattle.ix_model.specs.{rows.Rows.{change_process, observe}, rows.Walks.{OpenFile, behind, walked_to, object_at}, rows.OnPaths.{stat_at, stat_passed}}
-use Rattle.ix_model.specs.{rows.OnDescriptors.{LengthChecks, read_fd, write_fd}, rows.OnProcesses.{is_child, wait_child, wait_passed}}
-use Rattle.ix_model.proofs.{tables.Finds.{at_put, at_change}, words.Living.{is_living, not_ended, lives_as}, words.Keeps.{Holds, Keeps, keeping}}
-use Rattle.ix_model.proofs.{words.Endings.{ends_put_process, ends_record_of}, words.Standing.behind_is}
-use Rattle.ix_model.proofs.words.Transfers.{ends_looks, ends_affects, ends_read, ends_read_behind, ends_write, ends_floated}
+use Rattle.ix_model.specs.rows.{Rows.{change_process, observe}, Walks.{OpenFile, behind, walked_to, object_at}, OnPaths.{stat_at, stat_passed}}
+use Rattle.ix_model.specs.rows.{OnDescriptors.{LengthChecks, read_fd, write_fd}, OnProcesses.{is_child, wait_child, wait_passed}}
+use Rattle.ix_model.proofs.{tables.Finds.{at_put, at_change}, words.{Living.{is_living, not_ended, lives_as}, Keeps.{Holds, Keeps, keeping}}}
+use Rattle.ix_model.proofs.words.{Endings.{ends_put_process, ends_record_of}, Standing.behind_is, Transfers.{ends_looks, ends_affects, ends_read, ends_read_behind, ends_write, ends_floated}}
 use Rattle.ix_model.proofs.words.Ends.{Ends, Anything, ends_kept, ends_bind, ends_then, ends_pass, ends_frame, ends_need, ends_some, ends_object}
 
 one_living : (o : Option Process) (p q : Process) → living o ≡ Some p → living o ≡ Some q → p ≡ q
-one_living o p q is here = let h : Some p ≡ Some q = sym is ∙ here in cc
+one_living o p q is here = cc (sym is ∙ here)
 
 -- ---- a read
 pub record ReadFacts (pid : ℕ) (f : Frame) (e : OpenFile) (g : Frame) : Type 0 where
@@ -30,8 +29,8 @@ joined t e l y here = elim (at_change t e _ e y here) [
   | inl c ↦ (
     c.was,
     c.is_was,
-    subst (λ (z : Open). leq l z.label ≡ true) (sym c.same) (leq-join_right c.was.label l),
-    subst (λ (z : Open). leq c.was.label z.label ≡ true) (sym c.same) (leq-join_left c.was.label l),
+    subst (λ z. leq l z.label ≡ true) (sym c.same) (leq-join_right _ l),
+    subst (λ z. leq c.was.label z.label ≡ true) (sym c.same) (leq-join_left _ l),
   )
   | inr apart ↦ absurd (apart.0 refl)
 ]
@@ -41,22 +40,22 @@ abbrev pub ReadKnown : ℕ → ℕ → Frame → Reply → Frame → Type 0
 ReadKnown pid fd f r g = (e : OpenFile) → behind f pid fd ≡ Some e → ReadFacts pid f e g
 
 for_each : (b : Option OpenFile) (R : OpenFile → Type 0) (e : OpenFile) → b ≡ Some e → R e → (other : OpenFile) → b ≡ Some other → R other
-for_each b R e is r other here = let h : Some e ≡ Some other = sym is ∙ here in let one : e ≡ other = cc in subst R one r
+for_each b R e is r other here = let one : e ≡ other = cc (sym is ∙ here) in subst R one r
 
 pub read_known : (t : LengthChecks) (pid fd count : ℕ) (f : Frame) → Ends (read_fd t pid fd count f) Anything (ReadKnown pid fd f)
 read_known t pid fd count f =
-    let Q : Reply → Frame → Type 0 = ReadKnown pid fd f in
-    ends_read f Anything Q (λ why. tt) t pid fd count (λ e is x here.
-    ends_then _ _ f Anything Q (ends_looks pid _ f _ (λ g p objects opens lives sees. ends_read_behind g Anything Q (λ why. tt) t pid e x (λ q again.
-    let seen : leq (join x.label e.entry.label) q.label ≡ true = subst (λ (z : Process). leq (join x.label e.entry.label) z.label ≡ true) (one_living _ p q lives again) sees in
-    let object_seen : leq x.label q.label ≡ true = leq-trans x.label (join x.label e.entry.label) q.label (leq-join_left x.label e.entry.label) seen in
-    let entry_seen : leq e.entry.label q.label ≡ true = leq-trans e.entry.label (join x.label e.entry.label) q.label (leq-join_right x.label e.entry.label) seen in
+    let Q = ReadKnown pid fd f in
+    ends_read f _ Q _ t _ fd _ (λ e is x here.
+    ends_then _ _ f _ Q (ends_looks _ _ f _ (λ g p objects opens lives sees. ends_read_behind g _ Q _ t _ e x (λ q again.
+    let seen = subst (λ z. leq (join x.label e.entry.label) z.label ≡ true) (one_living _ p q lives again) sees in
+    let object_seen = leq-trans _ _ _ (leq-join_left _ _) seen in
+    let entry_seen = leq-trans _ _ _ (leq-join_right _ _) seen in
     let known : (t : List (Option Open)) → (is_pipe x ≡ false → (y : Open) → at t e.id ≡ Some y → leq q.label y.label ≡ true)
     → (b : OpenFile) → behind f pid fd ≡ Some b → ReadFacts pid f b (record g { opens = t }) =
-    λ t entry. for_each (behind f pid fd) (λ b. ReadFacts pid f b (record g { opens = t })) e is
-    (record { object = x; is_object = here; process = q; lives = again; sees_object = object_seen; sees_entry = entry_seen; entry = entry }) in
-    ends_floated Anything Q q x e _ g (λ file. known _ (λ other y there. (joined g.opens e.id q.label y there).2))
-    (λ pipe. known g.opens (λ other y there. absurd (true≢false (sym (not-false _ pipe) ∙ other))))))))
+    λ t entry. for_each _ _ e is
+    (search) in
+    ends_floated _ Q q x e _ g (λ file. known _ (λ other y there. (joined g.opens e.id _ y there).2))
+    (λ pipe. known _ (λ other y there. absurd (true≢false (sym (not-false _ pipe) ∙ other))))))))
 
 -- ---- a write
 pub record WriteFacts (pid : ℕ) (f : Frame) (e : OpenFile) (g : Frame) : Type 0 where
@@ -73,25 +72,25 @@ WriteKnown pid fd f r g = (e : OpenFile) → behind f pid fd ≡ Some e → Writ
 
 pub write_known : (t : LengthChecks) (pid fd : ℕ) (f : Frame) → Ends (write_fd t pid fd f) Anything (WriteKnown pid fd f)
 write_known t pid fd f =
-    let Q : Reply → Frame → Type 0 = WriteKnown pid fd f in
-    ends_write f Anything Q (λ why. tt) t pid fd (λ e is x here q own.
-    ends_then _ _ f Anything Q (ends_affects pid e.entry.object e.entry.label f _ (λ g p lives processes opens takes.
+    let Q = WriteKnown pid fd f in
+    ends_write f _ Q _ t _ fd (λ e is x here q own.
+    ends_then _ _ f _ Q (ends_affects _ _ _ f _ (λ g p lives processes opens takes.
     let takes_own : (y : Object) → at g.objects e.entry.object ≡ Some y → (leq q.label y.label ≡ true) × (leq e.entry.label y.label ≡ true) =
-    λ y there. let h : leq (join q.label e.entry.label) y.label ≡ true = subst (λ (z : Process). leq (join z.label e.entry.label) y.label ≡ true) (one_living _ p q lives own) (takes y there) in (
-      leq-trans q.label (join q.label e.entry.label) y.label (leq-join_left q.label e.entry.label) h,
-      leq-trans e.entry.label (join q.label e.entry.label) y.label (leq-join_right q.label e.entry.label) h,
+    λ y there. let h = subst (λ z. leq (join z.label e.entry.label) y.label ≡ true) (one_living _ p q lives own) (takes y there) in (
+      leq-trans _ _ _ (leq-join_left _ _) h,
+      leq-trans _ _ _ (leq-join_right _ _) h,
     ) in
     let known : (t : List (Option Open)) → (is_pipe x ≡ false → (y : Open) → at t e.id ≡ Some y → (leq q.label y.label ≡ true) × (leq e.entry.label y.label ≡ true))
     → (b : OpenFile) → behind f pid fd ≡ Some b → WriteFacts pid f b (record g { opens = t }) =
-    λ t entry. for_each (behind f pid fd) (λ b. WriteFacts pid f b (record g { opens = t })) e is
-    (record { object = x; is_object = here; caller = q; is_caller = own; processes = processes; takes = takes_own; entry = entry }) in
-    ends_floated Anything Q q x e _ g
+    λ t entry. for_each _ _ e is
+    (search) in
+    ends_floated _ Q q x e _ g
     (λ file. known _ (λ other y there.
     let j = joined g.opens e.id q.label y there in
     let h : Some e.entry ≡ Some j.0 = sym (behind_is f pid fd e is) ∙ ap (λ t. at t e.id) (sym opens) ∙ j.1 in
     let entry : e.entry ≡ j.0 = cc in
     (j.2, subst (λ (z : Open). leq z.label y.label ≡ true) (sym entry) j.3)))
-    (λ pipe. known g.opens (λ other y there. absurd (true≢false (sym (not-false _ pipe) ∙ other)))))))
+    (λ pipe. known _ (λ other y there. absurd (true≢false (sym (not-false _ pipe) ∙ other)))))))
 
 -- ---- a look at a file
 -- walks leave the objects and the log as they are
@@ -100,7 +99,7 @@ Looking f g = (g.objects ≡ f.objects) × (g.log ≡ f.log)
 
 looking_changed : (f : Frame) (p : ℕ) (h : Process → Process) → Keeps (Looking f) (change_process p h)
 unfolding change_process Holds
-looking_changed f p h = record { led = λ g r. r }
+looking_changed f p h = search
 
 looking_observed : (f : Frame) (pid : ℕ) (seen : Categories) → Keeps (Looking f) (observe pid seen)
 unfolding observe
@@ -127,11 +126,11 @@ pub record StatFacts (pid : ℕ) (f : Frame) (r : Reply) (g : Frame) : Type 0 wh
 pub stat_known : (pid : ℕ) (path : PathOf) (f : Frame) → Ends (stat_at pid path f) Anything (StatFacts pid f)
 unfolding stat_at
 stat_known pid path f =
-    let Q : Reply → Frame → Type 0 = StatFacts pid f in
-    ends_bind _ _ f Anything Q (ends_kept (Looking f) (object_at pid path f) Anything _ ((looking_found f pid path).led f (refl, refl)) (λ r m kept. tt) (λ o m kept.
-    ends_bind _ _ m Anything Q (ends_object o m Anything _ (λ x here.
-    ends_then _ _ m Anything Q (ends_looks pid x.label m _ (λ g p objects opens lives sees.
-    ends_bind _ _ g Anything Q (ends_frame g Anything _ (ends_pass _ g Anything Q (record {
+    let Q = StatFacts pid f in
+    ends_bind _ _ f _ Q (ends_kept _ (object_at _ _ f) _ _ ((looking_found f _ _).led f (refl, refl)) (λ r m kept. tt) (λ o m kept.
+    ends_bind _ _ m _ Q (ends_object o m _ _ (λ x here.
+    ends_then _ _ m _ Q (ends_looks _ _ m _ (λ g p objects opens lives sees.
+    ends_bind _ _ g _ Q (ends_frame g _ _ (ends_pass _ g _ Q (record {
       number = o;
       object = x;
       is_object = ap (λ t. at t o) (sym kept.0)
@@ -160,24 +159,24 @@ still_sees : (t : List (Option Process)) (c pid : ℕ) (a : Categories) (p z : P
     → living (at (put t c None) pid) ≡ Some z → leq a z.label ≡ true
 still_sees t c pid a p z lives sees now = elim (at_put t c pid None z (is_living _ z now)) [
   | inl gone ↦ let h : ◌≡◌ {A = Option Process} None (Some z) = gone.1 in cc
-  | inr other ↦ subst (λ (y : Process). leq a y.label ≡ true) (one_living (at t pid) p z lives (lives_as _ z other.1 (not_ended _ z now))) sees
+  | inr other ↦ subst (λ (y : Process). leq a y.label ≡ true) (one_living (at t _) p z lives (lives_as _ z other.1 (not_ended _ z now))) sees
 ]
 
 pub wait_known : (pid : ℕ) (f : Frame) → Ends (wait_child pid f) Anything (WaitFacts pid f)
 unfolding wait_child
 wait_known pid f =
-    let Q : Reply → Frame → Type 0 = WaitFacts pid f in
-    ends_bind _ _ f Anything Q (ends_frame f Anything _ (
-    ends_then _ _ f Anything Q (ends_need _ _ f Anything _ (λ some.
-    ends_bind _ _ f Anything Q (ends_some _ _ f Anything _ (λ c first.
-    ends_bind _ _ f Anything Q (ends_record_of c f Anything _ (λ q here.
-    ends_then _ _ f Anything Q (ends_looks pid q.label f _ (λ g p objects opens lives sees.
-    ends_then _ _ g Anything Q (ends_put_process c None g Anything _ (ends_pass _ _ Anything Q (record {
+    let Q = WaitFacts pid f in
+    ends_bind _ _ f _ Q (ends_frame f _ _ (
+    ends_then _ _ f _ Q (ends_need _ _ f _ _ (λ some.
+    ends_bind _ _ f _ Q (ends_some _ _ f _ _ (λ c first.
+    ends_bind _ _ f _ Q (ends_record_of c f _ _ (λ q here.
+    ends_then _ _ f _ Q (ends_looks _ _ f _ (λ g p objects opens lives sees.
+    ends_then _ _ g _ Q (ends_put_process c _ g _ _ (ends_pass _ _ _ Q (record {
       child = c;
       process = q;
       is_process = here;
-      ended = ended_child (at f.processes c) q here (and_parts (is_child pid (at f.processes c)) (is_ended (at f.processes c))
+      ended = ended_child _ q here (and_parts _ _
           (position-Some (λ z. is_child pid z && is_ended z) f.processes c None first).1).1;
       is_reply = refl;
-      sees = λ z now. still_sees g.processes c pid q.label p z lives sees now;
+      sees = λ z now. still_sees _ c _ _ p z lives sees now;
     })))))) tt)) tt)) tt)))

@@ -1,16 +1,15 @@
 -- Whole histories, by induction.
 use Rattle.std.proofs.Common.{false, ◌≡◌, ℕ, zero, suc, true, List, [], ◌∷◌, take, slice_get, Some, sym, ap, ◌+◌, arith, subst}
 use Rattle.ix_label.specs.Category.{Categories}
-use Rattle.ix_model.specs.{world.World.World, history.{Step.{Given, step_of, run}, Events.Event}}
-use Rattle.ix_model.specs.two_runs.TwoRuns.{shape, Alike, IsLow, AgreeAt, Same, Other, Agree, is_one_kind}
+use Rattle.ix_model.specs.{world.World.World, history.{Step.{Given, step_of, run}, Events.Event}, two_runs.TwoRuns.{shape, Alike, IsLow, AgreeAt, Same, Other, Agree, is_one_kind}}
 use Rattle.ix_iso.specs.Laws.{frame_part, gives_bytes, OneShape, NoneCrosses, given_after, Isolated}
 use Rattle.ix_iso.proofs.{Shapes.{twins_itself, twins_replaced, shape_twins}, Steps.alike_events, Lowerings.low_is_same}
 
 -- ---- one entry
 pub shape_events : (l : Categories) (v w : World) (place : ℕ) (e f : Event) → shape v ≡ shape w → AgreeAt l v.frame e f
     → is_one_kind (step_of v place e).reply (step_of w place f).reply ≡ true → OneShape e.op f.op (step_of v place e) (step_of w place f)
-shape_events l v w place _ _ shapes (Same {e = e}) kind = shape_twins v w place e.pid e.op e.op (twins_itself e.op) shapes kind
-shape_events l v w place _ _ shapes (Other {seat = seat} {line = line} {pid = pid} {a = a} {b = b} high replaced) kind = shape_twins v w place pid a b (twins_replaced a b replaced) shapes kind
+shape_events l v w place _ _ shapes (Same {e = e}) kind = shape_twins v w _ _ _ _ (twins_itself _) shapes kind
+shape_events l v w place _ _ shapes (Other {seat = seat} {line = line} {pid = pid} {a = a} {b = b} high replaced) kind = shape_twins v w _ _ a b (twins_replaced a b replaced) shapes kind
 
 -- ---- all entries
 -- what an entry gives at a place, after an entry more
@@ -28,7 +27,7 @@ module _ (l : Categories) where
   shapes_along v w place [] (f ∷ others) shapes agree (suc n) = absurd agree
   shapes_along v w place (e ∷ events) [] shapes agree (suc n) = absurd agree
   shapes_along v w place (e ∷ events) (f ∷ others) shapes agree (suc n) =
-      shapes_along (step_of v place e).world (step_of w place f).world (suc place) events others (shape_events l v w place e f shapes agree.0 agree.1).shapes agree.2 n
+      shapes_along (step_of v place e).world (step_of w place f).world _ _ _ (shape_events l v w _ e f shapes agree.0 agree.1).shapes agree.2 n
 
   -- the replies, whatever is low
   abbrev SameReply : Event → Event → Given → Given → Type 0
@@ -41,17 +40,17 @@ module _ (l : Categories) where
   replies_along v w place (a ∷ events) (b ∷ others) shapes agree zero e f is here =
       let i : a ≡ e = cc in
       let j : b ≡ f = cc in
-      let step = shape_events l v w place a b shapes agree.0 agree.1 in
+      let step = shape_events l v w _ a b shapes agree.0 agree.1 in
       let now : SameReply a b (step_of v place a) (step_of w place b) = (step.replies, step.bytes) in
-      let here_e : SameReply e f (step_of v place e) (step_of w place f) =
-      subst (λ (x : Event). SameReply x f (step_of v place x) (step_of w place f)) i
-      (subst (λ (y : Event). SameReply a y (step_of v place a) (step_of w place y)) j now) in
-      subst (λ (g : Given). SameReply e f g (given_after w place (b ∷ others) 0 f)) (sym (first v place (a ∷ events) e))
-      (subst (λ (h : Given). SameReply e f (step_of v place e) h) (sym (first w place (b ∷ others) f)) here_e)
+      let here_e =
+      subst (λ x. SameReply x f (step_of v place x) (step_of w place f)) i
+      (subst (λ y. SameReply a y (step_of v place a) (step_of w place y)) j now) in
+      subst (λ g. SameReply e f g (given_after w place (b ∷ others) 0 f)) (sym (first v _ (a ∷ events) e))
+      (subst (λ h. SameReply e f (step_of v place e) h) (sym (first w _ (b ∷ others) f)) here_e)
   replies_along v w place (a ∷ events) (b ∷ others) shapes agree (suc n) e f is here =
-      let rest = replies_along (step_of v place a).world (step_of w place b).world (suc place) events others (shape_events l v w place a b shapes agree.0 agree.1).shapes agree.2 n e f is here in
-      subst (λ (g : Given). SameReply e f g (given_after w place (b ∷ others) (suc n) f)) (later v place a events n e)
-      (subst (λ (h : Given). SameReply e f (given_after (step_of v place a).world (suc place) events n e) h) (later w place b others n f) rest)
+      let rest = replies_along (step_of v place a).world (step_of w place b).world (suc place) _ _ (shape_events l v w _ a b shapes agree.0 agree.1).shapes agree.2 n e f is here in
+      subst (λ g. SameReply e f g (given_after w place (b ∷ others) (suc n) f)) (later v _ a _ n e)
+      (subst (λ h. SameReply e f (given_after (step_of v place a).world (suc place) events n e) h) (later w _ b _ n f) rest)
 
   alike_along : (v w : World) (place : ℕ) (events others : List Event) → Alike l v w → Agree l v w place events others → (n : ℕ)
       → NoneCrosses l v place (take n events) → Alike l (run v place (take n events)) (run w place (take n others))
@@ -93,8 +92,8 @@ module _ (l : Categories) where
   entries_along v w place (a ∷ events) (b ∷ others) agree zero e f is here =
       let i : a ≡ e = cc in
       let j : b ≡ f = cc in
-      subst (λ (x : Event). AgreeAt l v.frame x f) i (subst (λ (y : Event). AgreeAt l v.frame a y) j agree.0)
-  entries_along v w place (a ∷ events) (b ∷ others) agree (suc n) e f is here = entries_along (step_of v place a).world (step_of w place b).world (suc place) events others agree.2 n e f is here
+      subst (λ x. AgreeAt l v.frame x f) i (subst (λ y. AgreeAt l v.frame a y) j agree.0)
+  entries_along v w place (a ∷ events) (b ∷ others) agree (suc n) e f is here = entries_along (step_of v place a).world _ _ _ _ agree.2 n e f is here
 
 pub isolated : (l : Categories) (v w : World) (place : ℕ) (events others : List Event) → Alike l v w → Agree l v w place events others → Isolated l v w place events others
 isolated l v w place events others alike agree = record {

@@ -1,25 +1,20 @@
 -- Worlds of one outline stay so, and give equal replies but for a status; so runs with equal lengths agree.
 use Rattle.std.proofs.Common.{◌≡◌, ℕ, zero, suc, ◌+◌, Bool, true, false, not, ◌&&◌, List, [], ◌∷◌, length, take, Option, Some, None, if◌then◌else◌, refl, sym}
-use Rattle.std.proofs.Common.{ap, ◌∙◌, subst, inl, inr, arith}
-use Rattle.std.{specs.Prelude.slice_get, proofs.lemmas.List.length-map}
+use Rattle.std.{proofs.{Common.{ap, ◌∙◌, subst, inl, inr, arith}, lemmas.List.length-map}, specs.Prelude.slice_get}
 use Rattle.ix_label.specs.Category.{Categories}
-use Rattle.ix_model.specs.{world.World.{World, Frame, Content}, two_runs.TwoRuns.{shape, Alike, Agree, AgreeAt, Replaced}, history.Events.{Op, Event}}
-use Rattle.ix_model.specs.rows.{Walks.{OpenFile, behind}, Table.{Decision, verdict}, Telling.{told, told_of_read, told_of_write, told_of_cut}}
-use Rattle.ix_model.specs.declared.reply.Reply.{Reply}
-use Rattle.ix_model.specs.world.Contents.{carried, holding_of, readable, after_read, after_write, after_cut, after_seek, after_exit, emptied}
+use Rattle.ix_model.specs.{world.World.{World, Frame, Content}, two_runs.TwoRuns.{shape, Alike, Agree, AgreeAt, Replaced}, history.Events.{Op, Event}, declared.reply.Reply.Reply}
+use Rattle.ix_model.specs.{rows.{Walks.{OpenFile, behind}, Table.{Decision, verdict}, Telling.{told, told_of_read, told_of_write, told_of_cut}}, two_runs.EqualLengths.Exited}
+use Rattle.ix_model.{specs.world.Contents.{carried, holding_of, readable, after_read, after_write, after_cut, after_seek, after_exit, emptied}, proofs.words.Answered.step_frame}
 use Rattle.ix_model.specs.history.Step.{Given, plainly, read_answer, write_answer, cut_answer, seek_answer, stat_answer, exit_answer, wait_answer, pex_answer}
 use Rattle.ix_model.specs.history.Step.{is_whole, answer, step, step_of, run}
-use Rattle.ix_model.specs.two_runs.TwoRuns as two
 use Rattle.ix_model.specs.two_runs.EqualLengths.{zeros, zeroed, outline, AlikeInLength, AgreeInLength, AgreeInLengthAt, ReplacedInLength, Same, Other, Written}
-use Rattle.ix_model.specs.two_runs.EqualLengths.{Exited}
+use Rattle.ix_iso.{specs.Laws.{AreLikeInLength, but_status, OneOutline, IsolatedInLength}, proofs.Zeroed.{seek_zero, exit_zero, emptied_zero, told_read_zero, told_write_zero, told_cut_zero}}
+use Rattle.ix_iso.proofs.{OneKind.one_kind, Counts.{SameCounts, shape_from}, Shapes.{Twins, twins_itself, twins_replaced}, Histories.isolated}
+use Rattle.ix_iso.proofs.Zeroed.{zero_content, take_zeros, length_zeros, first_length, same_zeros, readable_zero, carried_zero, read_zero, write_zero, cut_zero}
+use Rattle.ix_model.specs.two_runs.TwoRuns as two
 use Rattle.ix_model.specs.history.Events as op
 use Rattle.ix_model.specs.declared.reply.Kind.TheVariants as kind
 use Rattle.ix_model.specs.declared.reply.Reply.TheVariants as reply
-use Rattle.ix_model.proofs.words.Answered.{step_frame}
-use Rattle.ix_iso.specs.Laws.{AreLikeInLength, but_status, OneOutline, IsolatedInLength}
-use Rattle.ix_iso.proofs.{OneKind.one_kind, Counts.{SameCounts, shape_from}, Shapes.{Twins, twins_itself, twins_replaced}, Histories.isolated}
-use Rattle.ix_iso.proofs.Zeroed.{zero_content, take_zeros, length_zeros, first_length, same_zeros, readable_zero, carried_zero, read_zero, write_zero, cut_zero}
-use Rattle.ix_iso.proofs.Zeroed.{seek_zero, exit_zero, emptied_zero, told_read_zero, told_write_zero, told_cut_zero}
 
 -- ---- outlines
 pub outline_from : (v w : World) → v.frame ≡ w.frame → zero_content v.content ≡ zero_content w.content → outline v ≡ outline w
@@ -28,22 +23,22 @@ outline_from v w frames contents = λ i. record { frame = frames i; content = co
 
 outline_frames : (v w : World) → outline v ≡ outline w → v.frame ≡ w.frame
 unfolding outline
-outline_frames v w h = ap (λ (u : World). u.frame) h
+outline_frames v w h = ap (λ u. u.frame) h
 
 outline_contents : (v w : World) → outline v ≡ outline w → zero_content v.content ≡ zero_content w.content
 unfolding outline
-outline_contents v w h = ap (λ (u : World). u.content) h
+outline_contents v w h = ap (λ u. u.content) h
 
 zero_counts : (c d : Content) → zero_content c ≡ zero_content d → SameCounts c d
 zero_counts c d h = record {
-  holdings = sym (length-map c.holdings zeroed) ∙ ap (λ (x : Content). length x.holdings) h ∙ length-map d.holdings zeroed;
-  offsets = ap (λ (x : Content). length x.offsets) h;
-  statuses = sym (length_zeros c.statuses) ∙ ap (λ (x : Content). length x.statuses) h ∙ length_zeros d.statuses;
+  holdings = sym (length-map c.holdings zeroed) ∙ ap (λ x. length x.holdings) h ∙ length-map d.holdings zeroed;
+  offsets = ap (λ x. length x.offsets) h;
+  statuses = sym (length_zeros _) ∙ ap (λ x. length x.statuses) h ∙ length_zeros _;
 }
 
 -- worlds of one outline are of one shape
 pub outline_shape : (v w : World) → outline v ≡ outline w → shape v ≡ shape w
-outline_shape v w h = shape_from v w (outline_frames v w h) (zero_counts v.content w.content (outline_contents v w h))
+outline_shape v w h = shape_from v w (outline_frames v w h) (zero_counts _ _ (outline_contents v w h))
 
 -- ---- answers
 module _ (f : Frame) (c d : Content) (same : zero_content c ≡ zero_content d) where
@@ -62,10 +57,10 @@ module _ (f : Frame) (c d : Content) (same : zero_content c ≡ zero_content d) 
   -- an edit that does the same to what is held with every byte 0
   edited : (g : Frame) (h k m : Content → Content) → ((x : Content) → zero_content (h x) ≡ m (zero_content x))
       → ((x : Content) → zero_content (k x) ≡ m (zero_content x)) → zero_content (h (carried f g c)) ≡ zero_content (k (carried f g d))
-  edited g h k m one_way other_way = one_way (carried f g c) ∙ ap m (kept g) ∙ sym (other_way (carried f g d))
+  edited g h k m one_way other_way = one_way _ ∙ ap m (kept g) ∙ sym (other_way _)
 
   read_length : (x : Content) (count : ℕ) (e : OpenFile) → length (take count (readable f x e)) ≡ length (take count (readable f (zero_content x) e))
-  read_length x count e = sym (length_zeros (take count (readable f x e))) ∙ ap length (take_zeros count (readable f x e)) ∙ ap (λ bytes. length (take count bytes)) (sym (readable_zero f x e))
+  read_length x count e = sym (length_zeros _) ∙ ap length (take_zeros _ _) ∙ ap (λ bytes. length (take count bytes)) (sym (readable_zero f x e))
 
   read_outline : (count : ℕ) (b : Option OpenFile) (r : Reply) (g : Frame) → Zeroed (read_answer one count b r g) (read_answer other count b r g)
   unfolding read_answer plainly
@@ -210,12 +205,12 @@ in_length _ _ (Written long) = two.Written
 in_length _ _ Exited = two.Exited
 
 like_twins : (o p : Op) → AreLikeInLength o p → Twins o p
-like_twins o p (inl equal) = subst (λ (q : Op). Twins o q) equal (twins_itself o)
+like_twins o p (inl equal) = subst (λ q. Twins o q) equal (twins_itself o)
 like_twins o p (inr replaced) = twins_replaced o p (in_length o p replaced)
 
 like_told : (w : World) (pid : ℕ) (o p : Op) → AreLikeInLength o p → told w pid o ≡ told w pid p
-like_told w pid o p (inl equal) = ap (told w pid) equal
-like_told w pid o p (inr replaced) = told_replaced w pid o p replaced
+like_told w pid o p (inl equal) = ap (told w _) equal
+like_told w pid o p (inr replaced) = told_replaced w _ o p replaced
 
 -- at one frame
 at_one_frame : (f : Frame) (c d : Content) (place pid : ℕ) (o p : Op) → zero_content c ≡ zero_content d → AreLikeInLength o p

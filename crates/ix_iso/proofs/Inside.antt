@@ -1,21 +1,19 @@
 -- What two contents hold alike is carried over alike.
-use Rattle.std.proofs.Common.{◌≡◌, ◌+◌, ℕ, zero, suc, Bool, true, false, ◌&&◌, List, [], ◌∷◌, ◌++◌, length, replicate, Option, Some, None, is_some, refl, sym}
-use Rattle.std.proofs.Common.{if◌then◌else◌, ap, ◌∙◌, arith, get_or, set}
-use Rattle.std.proofs.lemmas.Bool.{and_parts, true_from_ne_false}
+use Rattle.std.proofs.Common.{◌≡◌, ℕ, zero, suc, Bool, true, false, List, [], ◌∷◌, ◌++◌, length, replicate, Option, Some, None, is_some, refl, sym}
+use Rattle.std.proofs.{Common.{if◌then◌else◌, ap, ◌∙◌, arith, get_or, set}, lemmas.Bool.{and_parts, true_from_ne_false}}
 use Rattle.ix_label.specs.{Category.{Categories, leq}, Lattice.leq-trans}
 use Rattle.ix_model.specs.{world.World.{Frame, Content, Holding, Object, Process, Open, at, is_ended}, history.Lowering.Crosses, two_runs.TwoRuns.AlikeIn}
-use Rattle.ix_model.specs.world.Contents.{keep, grown, carried, holding_of, offset_of, status_of, holds_nothing}
-use Rattle.ix_model.specs.history.Lowering as low
-use Rattle.ix_model.proofs.{sound.Carried.there_is, clean.Carrying.get_or-keep}
+use Rattle.ix_model.{specs.world.Contents.{keep, carried, holding_of, offset_of, status_of}, proofs.{sound.Carried.there_is, clean.Carrying.get_or-keep}}
 use Rattle.ix_iso.proofs.{Counts.SameCounts, Entries.EntriesRise}
+use Rattle.ix_model.specs.history.Lowering as low
 
 -- ---- what doesn't cross was low
 module _ (l : Categories) (f g : Frame) (steady : Crosses l f g → ⊥) where
   pub object_was_low : (o : ℕ) (x y : Object) → at f.objects o ≡ Some x → at g.objects o ≡ Some y → leq y.label l ≡ true → leq x.label l ≡ true
-  object_was_low o x y is here below = true_from_ne_false (leq x.label l) (λ e. steady (low.OfObject o x y is here e below))
+  object_was_low o x y is here below = true_from_ne_false _ (λ e. steady (low.OfObject o x y is here e below))
 
   pub process_was_low : (p : ℕ) (x y : Process) → at f.processes p ≡ Some x → at g.processes p ≡ Some y → leq y.label l ≡ true → leq x.label l ≡ true
-  process_was_low p x y is here below = true_from_ne_false (leq x.label l) (λ e. steady (low.OfProcess p x y is here e below))
+  process_was_low p x y is here below = true_from_ne_false _ (λ e. steady (low.OfProcess p x y is here e below))
 
 -- ---- what is carried over, by number
 zeros_at : (m n : ℕ) → ◌≡◌ {A = ℕ} (get_or (replicate m 0) n 0) 0
@@ -29,7 +27,7 @@ grown_at (x ∷ xs) m zero = refl
 grown_at (x ∷ xs) m (suc n) = grown_at xs m n
 
 kept_alike : {A : Type 0} (d : A) (p : ℕ → Bool) (xs ys : List A) (n : ℕ) → (p n ≡ true → get_or xs n d ≡ get_or ys n d) → get_or (keep d p 0 xs) n d ≡ get_or (keep d p 0 ys) n d
-kept_alike d p xs ys n same = get_or-keep d p 0 xs n ∙ go (p (0 + n)) (ap p (omega arith)) ∙ sym (get_or-keep d p 0 ys n)
+kept_alike d p xs ys n same = get_or-keep d p 0 xs n ∙ go _ (ap p (omega arith)) ∙ sym (get_or-keep d p 0 ys n)
   where
     go : (b : Bool) → b ≡ p n → (if b then get_or xs n d else d) ≡ (if b then get_or ys n d else d)
     go true e = same (sym e)
@@ -38,16 +36,16 @@ kept_alike d p xs ys n same = get_or-keep d p 0 xs n ∙ go (p (0 + n)) (ap p (o
 module _ (f g : Frame) (c d : Content) where
   pub holding_carried : (o : ℕ) → (is_some (at f.objects o) ≡ true → holding_of c o ≡ holding_of d o) → holding_of (carried f g c) o ≡ holding_of (carried f g d) o
   unfolding carried
-  holding_carried o same = kept_alike holds_nothing (λ n. is_some (at f.objects n) && is_some (at g.objects n)) c.holdings d.holdings o (λ stays. same (and_parts _ _ stays).0)
+  holding_carried o same = kept_alike _ _ _ _ o (λ stays. same (and_parts _ _ stays).0)
 
   pub offset_carried : (e : ℕ) → (is_some (at f.opens e) ≡ true → offset_of c e ≡ offset_of d e) → offset_of (carried f g c) e ≡ offset_of (carried f g d) e
   unfolding carried
-  offset_carried e same = kept_alike 0 (λ n. is_some (at f.opens n) && is_some (at g.opens n)) c.offsets d.offsets e (λ stays. same (and_parts _ _ stays).0)
+  offset_carried e same = kept_alike 0 _ _ _ e (λ stays. same (and_parts _ _ stays).0)
 
   pub status_carried : (p : ℕ) → (is_ended (at f.processes p) ≡ true → status_of c p ≡ status_of d p) → status_of (carried f g c) p ≡ status_of (carried f g d) p
   unfolding carried
-  status_carried p same = kept_alike 0 (λ n. is_ended (at f.processes n) && is_ended (at g.processes n)) (grown (length g.processes) c.statuses) (grown (length g.processes) d.statuses) p (λ stays.
-      grown_at c.statuses _ p ∙ same (and_parts _ _ stays).0 ∙ sym (grown_at d.statuses _ p))
+  status_carried p same = kept_alike 0 _ _ _ p (λ stays.
+      grown_at _ _ p ∙ same (and_parts _ _ stays).0 ∙ sym (grown_at _ _ p))
 
 ended_is : (o : Option Process) → is_ended o ≡ true → (q : Process) × (o ≡ Some q) × (q.ended ≡ true)
 ended_is None h = cc
@@ -56,13 +54,13 @@ ended_is (Some q) h = (q, refl, h)
 pub carried_alike : (l : Categories) (f g : Frame) (c d : Content) → EntriesRise f.opens g.opens → (Crosses l f g → ⊥) → AlikeIn l f c d → AlikeIn l g (carried f g c) (carried f g d)
 carried_alike l f g c d entries steady same = record {
   bytes = λ o y here below. holding_carried f g c d o (λ stood.
-      let x = there_is (at f.objects o) stood in
+      let x = there_is _ stood in
       same.bytes o x.0 x.1 (object_was_low l f g steady o x.0 y x.1 here below));
   offsets = λ e y here below. offset_carried f g c d e (λ stood.
-      let x = there_is (at f.opens e) stood in
-      same.offsets e x.0 x.1 (leq-trans x.0.label y.label l (entries.rise e x.0 y x.1 here) below));
+      let x = there_is _ stood in
+      same.offsets e x.0 x.1 (leq-trans _ _ l (entries.rise e x.0 y x.1 here) below));
   statuses = λ p y here ended below. status_carried f g c d p (λ stood.
-      let x = ended_is (at f.processes p) stood in
+      let x = ended_is _ stood in
       same.statuses p x.0 x.1 x.2 (process_was_low l f g steady p x.0 y x.1 here below));
 }
 
@@ -81,7 +79,7 @@ module _ (l : Categories) (g : Frame) (c d : Content) (counts : SameCounts c d) 
   pub holding_alike : (o : ℕ) (a b : Holding) → ((x : Object) → at g.objects o ≡ Some x → leq x.label l ≡ true → a ≡ b)
       → AlikeIn l g (record c { holdings = set c.holdings o a }) (record d { holdings = set d.holdings o b })
   holding_alike o a b equal = record {
-    bytes = λ n x here below. set_alike holds_nothing c.holdings d.holdings o n a b counts.holdings (λ e. equal x (ap (at g.objects) (sym e) ∙ here) below) (λ other. same.bytes n x here below);
+    bytes = λ n x here below. set_alike _ _ _ o n a b counts.holdings (λ e. equal x (ap (at _) (sym e) ∙ here) below) (λ other. same.bytes n x here below);
     offsets = same.offsets;
     statuses = same.statuses;
   }
@@ -90,7 +88,7 @@ module _ (l : Categories) (g : Frame) (c d : Content) (counts : SameCounts c d) 
       → AlikeIn l g (record c { offsets = set c.offsets e m }) (record d { offsets = set d.offsets e n })
   offset_alike e m n equal = record {
     bytes = same.bytes;
-    offsets = λ k x here below. set_alike 0 c.offsets d.offsets e k m n counts.offsets (λ i. equal x (ap (at g.opens) (sym i) ∙ here) below) (λ other. same.offsets k x here below);
+    offsets = λ k x here below. set_alike 0 _ _ e k m n counts.offsets (λ i. equal x (ap (at _) (sym i) ∙ here) below) (λ other. same.offsets k x here below);
     statuses = same.statuses;
   }
 
@@ -99,6 +97,6 @@ module _ (l : Categories) (g : Frame) (c d : Content) (counts : SameCounts c d) 
   status_alike p m n equal = record {
     bytes = same.bytes;
     offsets = same.offsets;
-    statuses = λ k x here ended below. set_alike 0 c.statuses d.statuses p k m n counts.statuses (λ i. equal x (ap (at g.processes) (sym i) ∙ here) below)
+    statuses = λ k x here ended below. set_alike 0 _ _ p k m n counts.statuses (λ i. equal x (ap (at _) (sym i) ∙ here) below)
         (λ other. same.statuses k x here ended below);
   }

@@ -1,27 +1,22 @@
 -- What is lowered is logged: of the two calls that set a label, each that lowers one has its line.
-use Rattle.std.proofs.Common.{◌≡◌, ℕ, zero, suc, ◌+◌, Bool, true, false, true≢false, not, List, [], ◌∷◌, ◌++◌, length, take, Some, if◌then◌else◌, refl, sym, ap}
-use Rattle.std.proofs.Common.{◌∙◌, subst, inl, inr, append-nil, arith}
-use Rattle.std.specs.{Prelude.slice_get, Option.option_map_or}
+use Rattle.std.proofs.Common.{◌≡◌, ℕ, zero, suc, ◌+◌, Bool, true, false, true≢false, List, [], ◌∷◌, ◌++◌, length, take, Some, if◌then◌else◌, refl, sym, ap}
+use Rattle.std.{proofs.Common.{◌∙◌, subst, inl, inr, append-nil, arith}, specs.{Prelude.slice_get, Option.option_map_or}}
 use Rattle.std.proofs.{lemmas.{Bool.{not-false, false_from_ne_true}, List.append_cancel_left}, Math.Bool.and-false}
-use Rattle.ix_label.specs.{Category.{Categories, leq, same}, Lattice.leq-trans}
-use Rattle.ix_model.specs.{world.{Naming.PathOf, Privs.to_lower, World.{World, Frame, Object, Process, at, change, living}}, rows.Walks.object_at}
-use Rattle.ix_model.specs.{rows.Rows.{◌>>◌, pass, need, only_if, change_process}, rows.Auditing.{logged, audit_line}, rows.OnLabels.{set_label, set_self}}
-use Rattle.ix_model.specs.{rows.OnDescriptors.LengthChecks, rows.Table.row, rows.Telling.told, history.Step.{step, step_of, run}, history.Lowering.Lowered}
-use Rattle.ix_model.specs.{history.AuditLog.{audit_log, lines_added, is_licensed, exercises, line_of_act}, history.Events.{Op, Event}}
-use Rattle.ix_model.specs.two_runs.TwoRuns.{Low, AgreeAt, Same, Other, Replaced, Written, Exited}
+use Rattle.ix_label.specs.{Category.{Categories, leq}, Lattice.leq-trans}
+use Rattle.ix_model.{specs.{world.{Naming.PathOf, World.{World, Frame, Object, Process, at, change, living}}, rows.Walks.object_at}, proofs.{sound.Logging.holds_both, told.Logs.logged_run}}
+use Rattle.ix_model.specs.{rows.{Auditing.{logged, audit_line}, OnLabels.{set_label, set_self}}, two_runs.TwoRuns.{Low, AgreeAt, Same, Other, Replaced, Written, Exited}}
+use Rattle.ix_model.specs.{rows.{OnDescriptors.LengthChecks, Table.row, Telling.told}, history.{Step.{step, step_of, run}, Lowering.Lowered}}
+use Rattle.ix_model.{specs.history.{AuditLog.{audit_log, lines_added, is_licensed, exercises, line_of_act}, Events.{Op, Event}}, proofs.words.Ends.{ends_change_object, ends_change_caller}}
 use Rattle.ix_model.specs.declared.{audit.AuditLine.AuditLine, refusal.Refusal.Refusal, reply.Reply.Reply}
+use Rattle.ix_model.proofs.{tables.Finds.at_change, words.{Living.is_living, Keeps.Holds, Lasts.decided, Rowwise.moved_found}}
+use Rattle.ix_model.proofs.words.{RowEnds.{ends_exercise, ends_allowed, ends_movable, ends_logged}, Turns.holds_more, Answered.step_frame}
+use Rattle.ix_model.proofs.words.Ends.{Ends, ends_kept, kept_ends, ends_bind, ends_then, ends_pass, ends_need, ends_only_if, ends_caller, ends_object}
+use Rattle.ix_iso.{specs.Laws.{line_of_lowering, IsLogged, LowersUnderLog}, proofs.{Facts.{Looking, looking_found}, Rising.{Risen, risen_itself, rising, risen_row}}}
 use Rattle.ix_model.specs.history.Lowering as low
 use Rattle.ix_model.specs.history.Events as op
 use Rattle.ix_model.specs.declared.audit.Act.TheVariants as act
 use Rattle.ix_model.specs.declared.refusal.Refusal.TheVariants as refusal
 use Rattle.ix_model.specs.declared.reply.Reply.TheVariants as reply
-use Rattle.ix_model.proofs.{tables.Finds.at_change, words.Living.is_living, words.Keeps.Holds, words.Lasts.decided, words.Rowwise.moved_found}
-use Rattle.ix_model.proofs.{words.RowEnds.{ends_exercise, ends_allowed, ends_movable, ends_logged}, words.Turns.holds_more, words.Answered.step_frame}
-use Rattle.ix_model.proofs.{sound.Logging.holds_both, told.Logs.logged_run}
-use Rattle.ix_model.proofs.words.Ends.{Ends, ends_kept, kept_ends, ends_bind, ends_then, ends_pass, ends_need, ends_only_if, ends_caller, ends_object}
-use Rattle.ix_model.proofs.words.Ends.{ends_change_object, ends_change_caller}
-use Rattle.ix_iso.specs.Laws.{line_of_lowering, IsLogged, LowersUnderLog}
-use Rattle.ix_iso.proofs.{Facts.{Looking, looking_found}, Rising.{Risen, risen_itself, rising, no_lowering, risen_row}}
 
 -- what is lowered from one frame to the next has its line at the end of the log
 record Tells (place pid : ℕ) (f g : Frame) : Type 0 where
@@ -50,13 +45,12 @@ module _ (place pid : ℕ) (f : Frame) where
       → at m.objects o ≡ Some x → (leq x.label now ≡ false → log ≡ f.log ++ audit_line place pid act.DownFile o x.label now ∷ [])
       → Tells place pid f (relabelled m o now log)
   tells_object m o x now log r looking here line = record {
-    objects = λ n a b is there falls. elim (at_change m.objects o (λ y. record y { label = now }) n b there) [
+    objects = λ n a b is there falls. elim (at_change _ o _ n b there) [
       | inl c ↦
-          let stood : at f.objects n ≡ Some x = ap (λ t. at t n) (sym looking.0) ∙ ap (at m.objects) c.here ∙ here in
-          let h : Some x ≡ Some a = sym stood ∙ is in
-          let one : x ≡ a = cc in
-          let label : b.label ≡ now = ap (λ (y : Object). y.label) c.same in
-          let was : x.label ≡ a.label = ap (λ (y : Object). y.label) one in
+          let stood = ap (λ t. at t n) (sym looking.0) ∙ ap (at _) c.here ∙ here in
+          let one : x ≡ a = cc (sym stood ∙ is) in
+          let label = ap (λ y. y.label) c.same in
+          let was = ap (λ y. y.label) one in
           line (ap (λ l. leq l now) was ∙ ap (leq a.label) (sym label) ∙ falls) ∙ (λ i. f.log ++ audit_line place pid act.DownFile (sym c.here i) (was i) (sym label i) ∷ [])
       | inr other ↦ absurd (true≢false (sym (r.objects.rise n a b is other.1) ∙ falls))
     ];
@@ -64,8 +58,8 @@ module _ (place pid : ℕ) (f : Frame) where
   }
 
   looks : (path : PathOf) → Holds (object_at pid path f) (λ m. Risen f m.objects m.processes × Looking f m)
-  looks path = holds_both (λ m. Risen f m.objects m.processes) (Looking f) (object_at pid path f)
-      ((moved_found no_lowering pid (λ m. Risen f m.objects m.processes) (rising f pid) path).led f (risen_itself f)) ((looking_found f pid path).led f (
+  looks path = holds_both _ _ (object_at _ _ f)
+      ((moved_found _ _ _ (rising f _) _).led f (risen_itself f)) ((looking_found f _ _).led f (
         refl,
         refl,
       ))
@@ -73,16 +67,16 @@ module _ (place pid : ℕ) (f : Frame) where
   label_tells : (path : PathOf) (now : Categories) → Ends (set_label place pid path now f) P Q
   unfolding set_label P Q
   label_tells path now =
-      ends_bind _ _ f P Q (ends_kept (λ m. Risen f m.objects m.processes × Looking f m) (object_at pid path f) P _ (looks path) (λ why m both. tells_risen m both.0) (λ o m both.
+      ends_bind _ _ f P Q (ends_kept _ (object_at _ _ f) P _ (looks _) (λ why m both. tells_risen m both.0) (λ o m both.
       let r = both.0 in let looking = both.1 in let unchanged = tells_risen m r in
       ends_bind _ _ m P Q (ends_object o m P _ (λ x here.
-      ends_then _ _ m P Q (ends_allowed pid x.label now m P _ (λ why. unchanged) (
-      ends_then _ _ m P Q (ends_movable x now m P _ (λ why. unchanged) (
+      ends_then _ _ m P Q (ends_allowed _ _ _ m P _ (λ why. unchanged) (
+      ends_then _ _ m P Q (ends_movable x _ m P _ (λ why. unchanged) (
       ends_then _ _ m P Q (ends_change_object o _ m P _ (
       ends_then _ _ _ P Q (ends_only_if _ _ _ P _
-      (λ falls. ends_logged _ _ P _ (ends_pass _ _ P Q (tells_object m o x now (m.log ++ audit_line place pid act.DownFile o x.label now ∷ []) r looking here
+      (λ falls. ends_logged _ _ P _ (ends_pass _ _ P Q (tells_object m o x _ _ r looking here
       (λ low. ap (λ log. log ++ audit_line place pid act.DownFile o x.label now ∷ []) looking.1))))
-      (λ rises. ends_pass _ _ P Q (tells_object m o x now m.log r looking here (λ falls. absurd (true≢false (sym (not-false _ rises) ∙ falls)))))))))))))
+      (λ rises. ends_pass _ _ P Q (tells_object m o x _ _ r looking here (λ falls. absurd (true≢false (sym (not-false _ rises) ∙ falls)))))))))))))
       unchanged)))
 
   -- ---- the caller's label is set
@@ -91,12 +85,11 @@ module _ (place pid : ℕ) (f : Frame) where
       → Tells place pid f (record f { processes = change f.processes pid (λ q. record q { label = now }); log = log })
   tells_process p now log lives line = record {
     objects = λ o a b is there falls. absurd (true≢false (sym ((risen_itself f).objects.rise o a b is there) ∙ falls));
-    processes = λ n a b is there falls. elim (at_change f.processes pid (λ q. record q { label = now }) n b there) [
+    processes = λ n a b is there falls. elim (at_change _ _ _ n b there) [
       | inl c ↦
-          let h : Some p ≡ Some a = sym (is_living _ p lives) ∙ ap (at f.processes) (sym c.here) ∙ is in
-          let one : p ≡ a = cc in
-          let label : b.label ≡ now = ap (λ (y : Process). y.label) c.same in
-          let was : p.label ≡ a.label = ap (λ (y : Process). y.label) one in
+          let one : p ≡ a = cc (sym (is_living _ p lives) ∙ ap (at f.processes) (sym c.here) ∙ is) in
+          let label = ap (λ y. y.label) c.same in
+          let was = ap (λ y. y.label) one in
           line (ap (λ l. leq l now) was ∙ ap (leq a.label) (sym label) ∙ falls) ∙ (λ i. f.log ++ audit_line place pid act.DownSelf (sym c.here i) (was i) (sym label i) ∷ [])
       | inr other ↦ absurd (true≢false (sym ((risen_itself f).processes.rise n a b is other.1) ∙ falls))
     ];
@@ -106,42 +99,39 @@ module _ (place pid : ℕ) (f : Frame) where
   unfolding set_self P Q
   self_tells now =
       let unchanged = tells_risen f (risen_itself f) in
-      ends_bind _ _ f P Q (ends_caller pid f P _ (λ p lives.
-      let last : Ends (◌>>◌ (change_process pid (λ q. record q { label = now }))
-      (◌>>◌ (only_if (not (leq p.label now)) (logged (audit_line place pid act.DownSelf pid p.label now))) (pass reply.Done)) f) P Q =
-      ends_then _ _ f P Q (ends_change_caller pid (λ q. record q { label = now }) f P _ (
-      ends_then _ _ _ P Q (ends_only_if (not (leq p.label now)) (logged (audit_line place pid act.DownSelf pid p.label now)) _ P _
-      (λ falls. ends_logged _ _ P _ (ends_pass reply.Done _ P Q (tells_process p now _ lives (λ low. refl))))
-      (λ rises. ends_pass reply.Done _ P Q (tells_process p now _ lives (λ falls. absurd (true≢false (sym (not-false _ rises) ∙ falls)))))))) in
-      let second : Ends (◌>>◌ (only_if (not (same p.label now)) (◌>>◌ (need (not p.frozen) refusal.ProcFrozen) (need (leq now p.ceiling) refusal.ProcCeiling)))
-      (◌>>◌ (change_process pid (λ q. record q { label = now }))
-      (◌>>◌ (only_if (not (leq p.label now)) (logged (audit_line place pid act.DownSelf pid p.label now))) (pass reply.Done))) f) P Q =
-      ends_then _ _ f P Q (ends_only_if (not (same p.label now)) _ f P _
-      (λ other. ends_then _ _ f P _ (ends_need (not p.frozen) refusal.ProcFrozen f P _ (λ free. ends_need (leq now p.ceiling) refusal.ProcCeiling f P _ (λ low. last) unchanged) unchanged))
+      ends_bind _ _ f P Q (ends_caller _ f P _ (λ p lives.
+      let last =
+      ends_then _ _ f P Q (ends_change_caller _ _ f P _ (
+      ends_then _ _ _ P Q (ends_only_if _ (logged (audit_line place pid act.DownSelf pid p.label now)) _ P _
+      (λ falls. ends_logged _ _ P _ (ends_pass _ _ P Q (tells_process p _ _ lives (λ low. refl))))
+      (λ rises. ends_pass _ _ P Q (tells_process p _ _ lives (λ falls. absurd (true≢false (sym (not-false _ rises) ∙ falls)))))))) in
+      let second =
+      ends_then _ _ f P Q (ends_only_if _ _ f P _
+      (λ other. ends_then _ _ f P _ (ends_need _ _ f P _ (λ free. ends_need _ _ f P _ (λ low. last) unchanged) unchanged))
       (λ no. last)) in
-      ends_then _ _ f P Q (ends_only_if _ _ f P _ (λ falls. ends_exercise pid to_lower f P _ (λ why. unchanged) second) (λ rises. second)))
+      ends_then _ _ f P Q (ends_only_if _ _ f P _ (λ falls. ends_exercise _ _ f P _ (λ why. unchanged) second) (λ rises. second)))
       unchanged)
 
   told_row : (t : LengthChecks) (c : Op) → Holds (row t place pid c f) (Tells place pid f)
   unfolding row P Q
-  told_row t (op.SetLabel path now) = kept_ends (Tells place pid f) _ (label_tells path now)
-  told_row t (op.SetSelf now) = kept_ends (Tells place pid f) _ (self_tells now)
-  told_row t c = holds_more (λ g. Risen f g.objects g.processes) (Tells place pid f) (row t place pid c f) tells_risen (risen_row f pid t place c refl)
+  told_row t (op.SetLabel path now) = kept_ends _ _ (label_tells _ _)
+  told_row t (op.SetSelf now) = kept_ends _ _ (self_tells _)
+  told_row t c = holds_more _ _ (row t place _ c f) tells_risen (risen_row f _ t place c refl)
 
 tells_step : (w : World) (place pid : ℕ) (c : Op) → Tells place pid w.frame (step w place pid c).world.frame
 tells_step w place pid c =
-    subst (λ (g : Frame). Tells place pid w.frame g) (sym (step_frame w place pid c)) (decided (Tells place pid w.frame) (told w pid c) place pid c w.frame
-    (tells_risen place pid w.frame w.frame (risen_itself w.frame)) (told_row place pid w.frame (told w pid c) c))
+    subst (λ g. Tells place pid w.frame g) (sym (step_frame w _ _ c)) (decided (Tells _ _ _) (told w _ c) place pid c w.frame
+    (tells_risen place pid w.frame w.frame (risen_itself _)) (told_row _ _ w.frame (told w _ c) c))
 
 -- ---- the log
 -- the log after one entry is the log before it and what the entry adds
 one_entry : (w : World) (place : ℕ) (e : Event) → (step_of w place e).world.frame.log ≡ w.frame.log ++ lines_added w place e
 unfolding audit_log
-one_entry w place e = logged_run w place (e ∷ []) ∙ ap (λ (x : List AuditLine). w.frame.log ++ x) (append-nil (lines_added w place e))
+one_entry w place e = logged_run w place (e ∷ []) ∙ ap (λ x. w.frame.log ++ x) (append-nil _)
 
 licensed_by : (w : World) (place : ℕ) (e : Event) (line : AuditLine) → lines_added w place e ≡ line ∷ [] → is_licensed w place e ≡ true
 unfolding lines_added
-licensed_by w place e line h = go (is_licensed w place e) h
+licensed_by w place e line h = go _ h
   where
     go : (b : Bool) → (if b then option_map_or (λ l. l ∷ []) (line_of_act w.frame (step_of w place e).world.frame place e.pid e.op) [] else []) ≡ line ∷ [] → b ≡ true
     go true h = refl
@@ -149,12 +139,12 @@ licensed_by w place e line h = go (is_licensed w place e) h
 
 by_its_line : (w : World) (place : ℕ) (e : Event) (line : AuditLine) → (step_of w place e).world.frame.log ≡ w.frame.log ++ line ∷ [] → IsLogged w place e line
 by_its_line w place e line h =
-    let added : lines_added w place e ≡ line ∷ [] = append_cancel_left w.frame.log (lines_added w place e) (line ∷ []) (sym (one_entry w place e) ∙ h) in
-    record { licensed = licensed_by w place e line added; added = added; log = h }
+    let added = append_cancel_left w.frame.log _ _ (sym (one_entry w _ e) ∙ h) in
+    record { licensed = licensed_by w _ e _ added; added = added; log = h }
 
 pub lowerings_logged : (w : World) (place : ℕ) (e : Event) (lowered : Lowered w.frame (step_of w place e).world.frame) → IsLogged w place e (line_of_lowering place e.pid lowered)
-lowerings_logged w place e (low.OfObject o x y is here falls) = by_its_line w place e _ ((tells_step w place e.pid e.op).objects o x y is here falls)
-lowerings_logged w place e (low.OfProcess p x y is here falls) = by_its_line w place e _ ((tells_step w place e.pid e.op).processes p x y is here falls)
+lowerings_logged w place e (low.OfObject o x y is here falls) = by_its_line w _ e _ ((tells_step w _ _ _).objects o x y is here falls)
+lowerings_logged w place e (low.OfProcess p x y is here falls) = by_its_line w _ e _ ((tells_step w _ _ _).processes p x y is here falls)
 
 -- ---- the log at the end
 -- what stands behind a list stands at its length in what goes on from there
@@ -178,13 +168,13 @@ stands_along w place k (a ∷ events) (suc n) e line there is log = stands_along
 
 pub lowerings_stay : (w : World) (place : ℕ) (events : List Event) → LowersUnderLog w place events
 lowerings_stay w place events n e is lowered =
-    let logged = lowerings_logged (run w place (take n events)) (place + n) e lowered in
-    record { logged = logged; stands = stands_along w place (place + n) events n e (line_of_lowering (place + n) e.pid lowered) refl is logged.log }
+    let logged = lowerings_logged _ _ e lowered in
+    record { logged = logged; stands = stands_along w _ _ _ n e _ refl is logged.log }
 
 -- ---- replaced entries
 -- a label that isn't at or below L isn't at or below one that is
 not_below : (l a b : Categories) → leq a l ≡ false → leq b l ≡ true → leq a b ≡ false
-not_below l a b high below = false_from_ne_true (leq a b) (λ h. true≢false (sym (leq-trans a b l h below) ∙ high))
+not_below l a b high below = false_from_ne_true _ (λ h. true≢false (sym (leq-trans a b l h below) ∙ high))
 
 -- neither a write nor an exit is licensed
 replaced_unlicensed : (w : World) (place seat line pid : ℕ) (o p : Op) → Replaced o p → is_licensed w place (record { seat = seat; line = line; pid = pid; op = o }) ≡ false

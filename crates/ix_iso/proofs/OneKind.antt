@@ -1,10 +1,9 @@
 -- Replies of one kind, by number.
-use Rattle.std.proofs.Common.{◌≡◌, ◌+◌, ℕ, true, false, true≢false, [], ◌∷◌, ◌⊎◌, inl, inr, refl, sym, ap, ◌∙◌, arith, slice_index_or}
-use Rattle.std.proofs.lemmas.Bool.Decides.{eqb_tells}
+use Rattle.std.proofs.{Common.{◌≡◌, ◌+◌, ℕ, true, false, true≢false, [], ◌∷◌, ◌⊎◌, inl, inr, refl, sym, ap, ◌∙◌, arith, slice_index_or}, lemmas.Bool.Decides.eqb_tells}
 use Rattle.ix_model.specs.{rows.Refusals.number_of, two_runs.TwoRuns.is_one_kind, declared.{refusal.Refusal.Refusal, reply.Reply.Reply}}
+use Rattle.ix_iso.specs.Laws.{but_status}
 use Rattle.ix_model.specs.declared.refusal.Refusal.TheVariants as refusal
 use Rattle.ix_model.specs.declared.reply.Reply.TheVariants as reply
-use Rattle.ix_iso.specs.Laws.{but_status}
 
 -- ---- refusals
 -- the refusals by their numbers
@@ -19,43 +18,7 @@ of_number n = slice_index_or (refusal.NoProcess ∷ refusal.NoProcess ∷ refusa
 of_its_number : (r : Refusal) → of_number (number_of r) ≡ r
 unfolding of_number
 of_its_number refusal.NoProcess = refl
-of_its_number refusal.BadFd = refl
-of_its_number refusal.NotReadable = refl
-of_its_number refusal.NotWritable = refl
-of_its_number refusal.NotFound = refl
-of_its_number refusal.NotDir = refl
-of_its_number refusal.IsDir = refl
-of_its_number refusal.Exists = refl
-of_its_number refusal.NotEmpty = refl
-of_its_number refusal.CrossFs = refl
-of_its_number refusal.ProcFrozen = refl
-of_its_number refusal.ProcCeiling = refl
-of_its_number refusal.FileFrozen = refl
-of_its_number refusal.FsCeiling = refl
-of_its_number refusal.Trusted = refl
-of_its_number refusal.NoCapability = refl
-of_its_number refusal.NoLicence = refl
-of_its_number refusal.NotAbove = refl
-of_its_number refusal.BelowLabel = refl
-of_its_number refusal.PexHeld = refl
-of_its_number refusal.NotPipe = refl
-of_its_number refusal.NotClaimed = refl
-of_its_number refusal.NoSpace = refl
-of_its_number refusal.NoInode = refl
-of_its_number refusal.NoEntry = refl
-of_its_number refusal.NoSlot = refl
-of_its_number refusal.NoFd = refl
-of_its_number refusal.NoOpen = refl
-of_its_number refusal.TooBig = refl
-of_its_number refusal.PipeFull = refl
-of_its_number refusal.Broken = refl
-of_its_number refusal.NoChild = refl
-of_its_number refusal.ChildrenLive = refl
-of_its_number refusal.LogFull = refl
-of_its_number refusal.Again = refl
-of_its_number refusal.EndOfList = refl
-of_its_number refusal.IsPipe = refl
-of_its_number refusal.InUse = refl
+of_its_number _ = refl
 
 pub one_refusal : (q r : Refusal) → number_of q ≡ number_of r → q ≡ r
 one_refusal q r h = sym (of_its_number q) ∙ ap of_number h ∙ of_its_number r

@@ -1,13 +1,10 @@
 -- Two configs that differ in what high files hold open worlds that are alike.
-use Rattle.std.proofs.Common.{◌≡◌, ℕ, true, List, [], ◌∷◌, ◌++◌, length, map, Option, Some, None, refl, sym, ap, ◌∙◌, ◌⊎◌, subst, inl, inr, get_or, set}
-use Rattle.std.proofs.Common.{unwrap_or, length-set}
+use Rattle.std.proofs.Common.{◌≡◌, ℕ, true, List, [], ◌∷◌, ◌++◌, length, Option, Some, None, refl, sym, ap, ◌∙◌, ◌⊎◌, subst, inl, inr, get_or, set, unwrap_or, length-set}
 use Rattle.std.{specs.Option.option_map_or, proofs.lemmas.List.map-set}
 use Rattle.ix_label.specs.Category.{Categories, leq}
-use Rattle.ix_model.specs.{world.Naming.last_name, world.World.{World, Frame, Holding, Object, at, put, change}, world.Numbers.free_inode, rows.Walks.node}
-use Rattle.ix_model.specs.{world.Contents.{holding_of, holds_nothing}, two_runs.{TwoRuns.AlikeIn, EqualLengths.zeroed}}
-use Rattle.ix_model.specs.declared.config.{Config.Config, ObjSpec.ObjSpec}
+use Rattle.ix_model.{specs.{world.{Naming.last_name, World.{World, Frame, Holding, Object, at, put, change}, Numbers.free_inode}, rows.Walks.node}, proofs.tables.Finds.{at_put, at_change}}
+use Rattle.ix_model.specs.{world.Contents.holding_of, two_runs.{TwoRuns.AlikeIn, EqualLengths.zeroed}, declared.config.{Config.Config, ObjSpec.ObjSpec}}
 use Rattle.ix_model.specs.opening.Opening.{directory_of, object_of, placed, with_object, with_objects, bare_objects, bare_world, opening_world}
-use Rattle.ix_model.proofs.tables.Finds.{at_put, at_change}
 use Rattle.ix_iso.specs.Configs.{SameLine, SameLines, DifferAbove, SameLengths, OpenAlike}
 use Rattle.ix_iso.proofs.{Counts.shape_from, Inside.set_alike, Zeroed.{zero_content, same_zeros}, InLength.outline_from}
 
@@ -22,34 +19,34 @@ record Beside (l : Categories) (v w : World) : Type 0 where
 -- an object that stands after a line is that of the line, or stood before with its label
 stood : (t : List (Option Object)) (o dir : ℕ) (x : Object) (h : Object → Object) → ((y : Object) → (h y).label ≡ y.label) → (n : ℕ) (y : Object)
     → at (change (put t o (Some x)) dir h) n ≡ Some y → ((n ≡ o) × (y.label ≡ x.label)) ⊎ ((n ≡ o → ⊥) × (z : Object) × (at t n ≡ Some z) × (y.label ≡ z.label))
-stood t o dir x h same n y here = elim (at_change (put t o (Some x)) dir h n y here) [
-  | inl c ↦ was c.was (ap (at (put t o (Some x))) c.here ∙ c.is_was) (ap (λ (z : Object). z.label) c.same ∙ same c.was)
+stood t o dir x h same n y here = elim (at_change _ _ h n y here) [
+  | inl c ↦ was _ (ap (at _) c.here ∙ c.is_was) (ap (λ z. z.label) c.same ∙ same _)
   | inr other ↦ was y other.1 refl
 ]
   where
     was : (z : Object) → at (put t o (Some x)) n ≡ Some z → y.label ≡ z.label → ((n ≡ o) × (y.label ≡ x.label)) ⊎ ((n ≡ o → ⊥) × (a : Object) × (at t n ≡ Some a) × (y.label ≡ a.label))
-    was z is label = elim (at_put t o n (Some x) z is) [
-      | inl new ↦ let e : x ≡ z = cc (new.1) in inl (new.0, label ∙ ap (λ (a : Object). a.label) (sym e))
+    was z is label = elim (at_put t o n _ z is) [
+      | inl new ↦ let e : x ≡ z = cc (new.1) in inl (new.0, label ∙ ap (λ a. a.label) (sym e))
       | inr old ↦ inr (old.0, z, old.1, label)
     ]
 
 placed_beside : (l : Categories) (v w : World) (a b : ObjSpec) (dir k o : ℕ) → SameLine l a b → Beside l v w → Beside l (placed v a dir k o) (placed w b dir k o)
 placed_beside l v w a b dir k o line r =
-    let object : object_of k a ≡ object_of k b = ap (object_of k) line.but_bytes in
-    let name : last_name a.path.names ≡ last_name b.path.names = ap (λ (s : ObjSpec). last_name s.path.names) line.but_bytes in
+    let object = ap (object_of k) line.but_bytes in
+    let name = ap (λ s. last_name s.path.names) line.but_bytes in
     let add : List ℕ → Object → Object = λ n x. record x { names = x.names ++ (n, o) ∷ [] } in
     record {
       frames = λ i. record (r.frames i) { objects = change (put (r.frames i).objects o (Some (object i))) dir (add (name i)) };
       holdings = length-set v.content.holdings o _ ∙ r.holdings ∙ sym (length-set w.content.holdings o _);
       offsets = r.offsets;
       statuses = r.statuses;
-      bytes = λ n y here below. elim (stood v.frame.objects o dir (object_of k a) (add (last_name a.path.names)) (λ z. refl) n y here) [
+      bytes = λ n y here below. elim (stood _ o _ _ _ (λ z. refl) n y here) [
         | inl new ↦
-            let low : leq a.label l ≡ true = subst (λ (c : Categories). leq c l ≡ true) new.1 below in
-            set_alike holds_nothing v.content.holdings w.content.holdings o n _ _ r.holdings (λ e. ap (λ bytes. let h : Holding =
+            let low = subst (λ c. leq c l ≡ true) new.1 below in
+            set_alike _ _ _ o n _ _ r.holdings (λ e. ap (λ bytes. let h : Holding =
             record { first = bytes; second = [] } in h) (line.low low)) (λ other. absurd (other new.0))
-        | inr old ↦ set_alike holds_nothing v.content.holdings w.content.holdings o n _ _ r.holdings (λ e. absurd (old.0 e))
-            (λ other. r.bytes n old.1 old.2 (subst (λ (c : Categories). leq c l ≡ true) old.3 below))
+        | inr old ↦ set_alike _ _ _ o n _ _ r.holdings (λ e. absurd (old.0 e))
+            (λ other. r.bytes n old.1 old.2 (subst (λ c. leq c l ≡ true) old.3 below))
       ];
     }
 
@@ -72,21 +69,21 @@ put_in w a p = option_map_or (placed w a p.dir p.fs) p.free w
 module _ (R : World → World → Type 0) (one_frame : (v w : World) → R v w → v.frame ≡ w.frame) where
   in_one_place : (v w : World) (a b : ObjSpec) (p : Place) → R v w → ((dir k o : ℕ) → R (placed v a dir k o) (placed w b dir k o)) → R (put_in v a p) (put_in w b p)
   unfolding put_in
-  in_one_place v w a b p r next = go p.free
+  in_one_place v w a b p r next = go _
     where
       go : (free : Option ℕ) → R (option_map_or (placed v a p.dir p.fs) free v) (option_map_or (placed w b p.dir p.fs) free w)
       go None = r
-      go (Some o) = next p.dir p.fs o
+      go (Some o) = next _ p.fs o
 
   with_line : (v w : World) (a b : ObjSpec) → a.path.names ≡ b.path.names → R v w → ((dir k o : ℕ) → R (placed v a dir k o) (placed w b dir k o)) → R (with_object v a) (with_object w b)
   unfolding with_object put_in place_in
   with_line v w a b names r next =
       let places : place_in v.frame a.path.names ≡ place_in w.frame b.path.names = λ i. place_in (one_frame v w r i) (names i) in
-      subst (λ (p : Place). R (put_in v a (place_in v.frame a.path.names)) (put_in w b p)) places (in_one_place v w a b (place_in v.frame a.path.names) r next)
+      subst (λ p. R (put_in v a (place_in v.frame a.path.names)) (put_in w b p)) places (in_one_place v w a b _ r next)
 
 module _ (l : Categories) where
   beside_itself : (w : World) → Beside l w w
-  beside_itself w = record { frames = refl; holdings = refl; offsets = refl; statuses = refl; bytes = λ o x here below. refl }
+  beside_itself w = search
 
   lines_beside : (v w : World) (xs ys : List ObjSpec) → SameLines l xs ys → Beside l v w → Beside l (with_objects v xs) (with_objects w ys)
   lines_beside v w [] [] lines r = r
@@ -103,13 +100,13 @@ record InLength (v w : World) : Type 0 where
 
 placed_in_length : (l : Categories) (v w : World) (a b : ObjSpec) (dir k o : ℕ) → SameLine l a b → length a.bytes ≡ length b.bytes → InLength v w → InLength (placed v a dir k o) (placed w b dir k o)
 placed_in_length l v w a b dir k o line long r =
-    let object : object_of k a ≡ object_of k b = ap (object_of k) line.but_bytes in
-    let name : last_name a.path.names ≡ last_name b.path.names = ap (λ (s : ObjSpec). last_name s.path.names) line.but_bytes in
+    let object = ap (object_of k) line.but_bytes in
+    let name = ap (λ s. last_name s.path.names) line.but_bytes in
     let add : List ℕ → Object → Object = λ n x. record x { names = x.names ++ (n, o) ∷ [] } in
     let first : Holding = record { first = a.bytes; second = [] } in
     let other : Holding = record { first = b.bytes; second = [] } in
-    let zeroed_one : zeroed first ≡ zeroed other = λ i. record { first = same_zeros a.bytes b.bytes long i; second = [] } in
-    let held : map zeroed (set v.content.holdings o first) ≡ map zeroed (set w.content.holdings o other) =
+    let zeroed_one : zeroed first ≡ zeroed other = λ i. record { first = same_zeros _ _ long i; second = [] } in
+    let held =
     map-set zeroed v.content.holdings o first ∙ (λ i. set (r.contents i).holdings o (zeroed_one i)) ∙ sym (map-set zeroed w.content.holdings o other) in
     record {
       frames = λ i. record (r.frames i) { objects = change (put (r.frames i).objects o (Some (object i))) dir (add (name i)) };
@@ -133,8 +130,8 @@ pub opened_alike : (l : Categories) (c d : Config) → DifferAbove l c d → Ope
 unfolding opening_world
 opened_alike l c d h =
     let same = bare_same l c d h in
-    let beside : Beside l (with_objects (bare_world c) c.objects) (with_objects (bare_world d) d.objects) =
-    lines_beside l (bare_world c) (bare_world d) c.objects d.objects h.objects (subst (λ (w : World). Beside l (bare_world c) w) same
+    let beside =
+    lines_beside l _ _ _ d.objects h.objects (subst (λ w. Beside l (bare_world c) w) same
     (beside_itself l (bare_world c))) in
     let inside : AlikeIn l (opening_world c).frame (opening_world c).content (opening_world d).content = record {
       bytes = beside.bytes;
@@ -144,10 +141,10 @@ opened_alike l c d h =
     record {
       alike = record { shapes = shape_from _ _ beside.frames (record { holdings = beside.holdings; offsets = ap length beside.offsets; statuses = ap length beside.statuses }); inside = inside };
       in_length = λ long.
-          let r = lines_in_length l (bare_world c) (bare_world d) c.objects d.objects h.objects long (record {
+          let r = lines_in_length l _ _ _ _ h.objects long (record {
             frames =
-                ap (λ (w : World). w.frame) same;
-            contents = ap (λ (w : World). zero_content w.content) same;
+                ap (λ w. w.frame) same;
+            contents = ap (λ w. zero_content w.content) same;
           }) in
           record { outlines = outline_from _ _ r.frames r.contents; inside = inside };
     }

@@ -1,24 +1,21 @@
 -- Two worlds alike at a label are so after each call, and what a low process is told is the same.
-use Rattle.std.proofs.Common.{◌≡◌, ◌⊎◌, ◌+◌, ◌-◌, ℕ, Bool, true, false, true≢false, not, ◌&&◌, List, ◌++◌, length, take, drop, Option, Some, None, refl, sym}
+use Rattle.std.{proofs.Common.{◌≡◌, ◌⊎◌, ◌+◌, ◌-◌, ℕ, Bool, true, false, true≢false, not, ◌&&◌, List, ◌++◌, length, take, drop, Option, Some, None, refl, sym}, specs.Option.option_map_or}
 use Rattle.std.proofs.Common.{if◌then◌else◌, ap, ◌∙◌, subst, inl, inr, set}
-use Rattle.std.specs.Option.{option_map_or}
 use Rattle.ix_label.specs.{Category.{Categories, leq}, Lattice.leq-trans}
-use Rattle.ix_model.specs.{world.World.{World, Frame, Content, Holding, Object, Process, Open, at, living, is_pipe, is_ended}, declared.reply.Reply.Reply}
-use Rattle.ix_model.specs.rows.{Walks.{OpenFile, behind}, OnDescriptors.LengthChecks, Table.{Decision, row, verdict}, Telling.told}
-use Rattle.ix_model.specs.history.{AuditLog.is_answer, Lowering.Crosses, Events.{Op, Event}}
+use Rattle.ix_model.specs.{world.World.{World, Frame, Content, Holding, Object, Process, Open, at, living, is_pipe}, declared.reply.Reply.Reply}
+use Rattle.ix_model.specs.{rows.{Walks.{OpenFile, behind}, OnDescriptors.LengthChecks, Table.{Decision, row, verdict}, Telling.told}, history.Step.{is_whole, answer, step, step_of}}
+use Rattle.ix_model.specs.{history.{AuditLog.is_answer, Lowering.Crosses, Events.{Op, Event}}, world.Contents.{spliced, after_cut, cut_to, after_seek, after_exit, emptied}}
 use Rattle.ix_model.specs.world.Contents.{carried, holding_of, offset_of, status_of, side, with_side, on_pipe, readable, change_side, after_read, after_write}
-use Rattle.ix_model.specs.world.Contents.{spliced, after_cut, cut_to, after_seek, after_exit, emptied, holds_nothing}
 use Rattle.ix_model.specs.history.Step.{Given, plainly, read_answer, write_answer, cut_answer, seek_answer, stat_answer, exit_answer, wait_answer, pex_answer}
-use Rattle.ix_model.specs.history.Step.{is_whole, answer, step, step_of}
 use Rattle.ix_model.specs.two_runs.TwoRuns.{AlikeIn, Alike, IsLow, IsHigh, AgreeAt, Same, Other, Replaced, Written, Exited, is_one_kind}
-use Rattle.ix_model.specs.history.Events as op
-use Rattle.ix_model.specs.declared.reply.Kind.TheVariants as kind
-use Rattle.ix_model.specs.declared.reply.Reply.TheVariants as reply
 use Rattle.ix_model.proofs.words.{Answered.passed, Living.is_living, Standing.behind_is}
-use Rattle.ix_iso.{specs.Laws.AlikeAfter, proofs.Counts.{SameCounts, counts_carried, shape_counts, shape_frames}, proofs.Entries.{EntriesRise, entries_rise}}
+use Rattle.ix_iso.{specs.Laws.AlikeAfter, proofs.{Counts.{SameCounts, counts_carried, shape_counts, shape_frames}, Entries.{EntriesRise, entries_rise}}}
 use Rattle.ix_iso.proofs.Shapes.{twins_itself, twins_replaced, Twins, one_decision, shape_twins}
 use Rattle.ix_iso.proofs.Facts.{ReadKnown, read_known, WriteKnown, write_known, StatFacts, stat_known, WaitFacts, wait_known}
 use Rattle.ix_iso.proofs.Inside.{carried_alike, object_was_low, process_was_low, offset_carried, holding_alike, offset_alike, status_alike}
+use Rattle.ix_model.specs.history.Events as op
+use Rattle.ix_model.specs.declared.reply.Kind.TheVariants as kind
+use Rattle.ix_model.specs.declared.reply.Reply.TheVariants as reply
 
 -- what is alike after two calls, from one frame
 pub record Inside (l : Categories) (pid : ℕ) (f : Frame) (a b : Given) : Type 0 where
@@ -28,7 +25,7 @@ pub record Inside (l : Categories) (pid : ℕ) (f : Frame) (a b : Given) : Type 
 same_bytes_of : (f : Frame) (e : OpenFile) (c d : Content) → (on_pipe f e ≡ false → offset_of c e.id ≡ offset_of d e.id)
     → holding_of c e.entry.object ≡ holding_of d e.entry.object → readable f c e ≡ readable f d e
 unfolding readable
-same_bytes_of f e c d offsets holdings = go (on_pipe f e) offsets
+same_bytes_of f e c d offsets holdings = go _ offsets
   where
     go : (b : Bool) → (b ≡ false → offset_of c e.id ≡ offset_of d e.id)
         → drop (if b then 0 else offset_of c e.id) (side e.entry.end (holding_of c e.entry.object)) ≡ drop (if b then 0 else
@@ -42,19 +39,19 @@ module _ (l : Categories) (g : Frame) (c d : Content) (counts : SameCounts c d) 
       → AlikeIn l g (change_side o end h c) (change_side o end k d)
   side_alike o end h k one = holding_alike l g c d counts same o _ _ (λ x here below.
       let equal = same.bytes o x here below in
-      ap (λ (y : Holding). with_side end (h (side end y)) y) equal ∙ ap (λ b. with_side end b (holding_of d o)) (one x here below (side end (holding_of d o))))
+      ap (λ y. with_side end (h (side end y)) y) equal ∙ ap (λ b. with_side end b (holding_of d o)) (one x here below (side end (holding_of d o))))
 
   read_edited : (b : Bool) (e : OpenFile) (m n : ℕ) → (b ≡ true → (x : Object) → at g.objects e.entry.object ≡ Some x → leq x.label l ≡ true → m ≡ n)
       → (b ≡ false → (y : Open) → at g.opens e.id ≡ Some y → leq y.label l ≡ true → m ≡ n)
       → AlikeIn l g (if b then change_side e.entry.object e.entry.end (drop m) c else record c { offsets = set c.offsets e.id (offset_of c e.id + m) }) (if b
       then change_side e.entry.object e.entry.end (drop n) d else record d { offsets = set d.offsets e.id (offset_of d e.id + n) })
-  read_edited true e m n pipe file = side_alike e.entry.object e.entry.end (drop m) (drop n) (λ x here below bytes. ap (λ k. drop k bytes) (pipe refl x here below))
-  read_edited false e m n pipe file = offset_alike l g c d counts same e.id _ _ (λ y here below. let one = file refl y here below in let equal = same.offsets e.id y here below in λ i. equal i + one i)
+  read_edited true e m n pipe file = side_alike _ _ _ _ (λ x here below bytes. ap (λ k. drop k bytes) (pipe refl x here below))
+  read_edited false e m n pipe file = offset_alike l g c d counts same _ _ _ (λ y here below. let one = file refl y here below in let equal = same.offsets e.id y here below in λ i. equal i + one i)
 
   read_alike : (f : Frame) (e : OpenFile) (m n : ℕ) → (on_pipe f e ≡ true → (x : Object) → at g.objects e.entry.object ≡ Some x → leq x.label l ≡ true → m ≡ n)
       → (on_pipe f e ≡ false → (y : Open) → at g.opens e.id ≡ Some y → leq y.label l ≡ true → m ≡ n) → AlikeIn l g (after_read f e m c) (after_read f e n d)
   unfolding after_read
-  read_alike f e m n pipe file = read_edited (on_pipe f e) e m n pipe file
+  read_alike f e m n pipe file = read_edited _ e m n pipe file
 
   write_edited : (b : Bool) (e : OpenFile) (m n : List ℕ) → ((x : Object) → at g.objects e.entry.object ≡ Some x → leq x.label l ≡ true
       → (m ≡ n) × (b ≡ false → offset_of c e.id ≡ offset_of d e.id)) → (b ≡ false → (y : Open) → at g.opens e.id ≡ Some y → leq y.label l ≡ true → m ≡ n)
@@ -62,11 +59,11 @@ module _ (l : Categories) (g : Frame) (c d : Content) (counts : SameCounts c d) 
       record (change_side e.entry.object e.entry.end (spliced (offset_of c e.id) m) c) { offsets = set c.offsets e.id (offset_of c e.id + length m) })
       (if b then change_side e.entry.object (1 - e.entry.end) (λ old. old ++ n) d else
       record (change_side e.entry.object e.entry.end (spliced (offset_of d e.id) n) d) { offsets = set d.offsets e.id (offset_of d e.id + length n) })
-  write_edited true e m n object entry = side_alike e.entry.object (1 - e.entry.end) (λ old. old ++ m) (λ old. old ++ n) (λ x here below bytes. ap (λ k. bytes ++ k) (object x here below).0)
+  write_edited true e m n object entry = side_alike _ (1 - e.entry.end) _ _ (λ x here below bytes. ap (λ k. bytes ++ k) (object x here below).0)
   write_edited false e m n object entry =
-      let held = side_alike e.entry.object e.entry.end (spliced (offset_of c e.id) m) (spliced (offset_of d e.id) n) (λ x here below bytes. let one =
+      let held = side_alike _ _ _ _ (λ x here below bytes. let one =
       object x here below in λ i. spliced (one.1 refl i) (one.0 i) bytes) in
-      let moved = offset_alike l g c d counts same e.id (offset_of c e.id + length m) (offset_of d e.id + length n) (λ y here below. let one =
+      let moved = offset_alike l g c d counts same _ _ _ (λ y here below. let one =
       entry refl y here below in let equal = same.offsets e.id y here below in λ i. equal i + length (one i)) in
       record { bytes = held.bytes; offsets = moved.offsets; statuses = same.statuses }
 
@@ -74,27 +71,27 @@ module _ (l : Categories) (g : Frame) (c d : Content) (counts : SameCounts c d) 
       → (m ≡ n) × (on_pipe f e ≡ false → offset_of c e.id ≡ offset_of d e.id)) → (on_pipe f e ≡ false → (y : Open) → at g.opens e.id ≡ Some y
       → leq y.label l ≡ true → m ≡ n) → AlikeIn l g (after_write f e m c) (after_write f e n d)
   unfolding after_write
-  write_alike f e m n object entry = write_edited (on_pipe f e) e m n object entry
+  write_alike f e m n object entry = write_edited _ e m n object entry
 
   cut_alike : (e : OpenFile) (len : ℕ) → AlikeIn l g (after_cut e len c) (after_cut e len d)
   unfolding after_cut
-  cut_alike e len = side_alike e.entry.object e.entry.end (cut_to len) (cut_to len) (λ x here below bytes. refl)
+  cut_alike e len = side_alike _ e.entry.end (cut_to len) _ (λ x here below bytes. refl)
 
   seek_alike : (e : OpenFile) (offset : ℕ) → AlikeIn l g (after_seek e offset c) (after_seek e offset d)
   unfolding after_seek
-  seek_alike e offset = offset_alike l g c d counts same e.id offset offset (λ y here below. refl)
+  seek_alike e offset = offset_alike l g c d counts same _ _ _ (λ y here below. refl)
 
   exit_alike : (pid s t : ℕ) → ((x : Process) → at g.processes pid ≡ Some x → leq x.label l ≡ true → s ≡ t) → AlikeIn l g (after_exit g pid s c) (after_exit g pid t d)
   unfolding after_exit
-  exit_alike pid s t equal = go (is_ended (at g.processes pid))
+  exit_alike pid s t equal = go _
     where
       go : (b : Bool) → AlikeIn l g (if b then record c { statuses = set c.statuses pid s } else c) (if b then record d { statuses = set d.statuses pid t } else d)
-      go true = status_alike l g c d counts same pid s t equal
+      go true = status_alike l g c d counts same _ s t equal
       go false = same
 
   emptied_alike : (b : Bool) (o : ℕ) → AlikeIn l g (if b then emptied o c else c) (if b then emptied o d else d)
   unfolding emptied
-  emptied_alike true o = holding_alike l g c d counts same o holds_nothing holds_nothing (λ x here below. refl)
+  emptied_alike true o = holding_alike l g c d counts same o _ _ (λ x here below. refl)
   emptied_alike false o = same
 
 -- ---- answers
@@ -104,9 +101,8 @@ Agreed l pid f a b = IsHigh l f pid ⊎ (a ≡ b)
 
 one_where_low : {A : Type 0} (l : Categories) (pid : ℕ) (f : Frame) (a b : A) → Agreed l pid f a b → (p : Process) → living (at f.processes pid) ≡ Some p → leq p.label l ≡ true → a ≡ b
 one_where_low l pid f a b (inl high) p lives below =
-    let h : Some high.process ≡ Some p = sym high.lives ∙ lives in
-    let who : high.process ≡ p = cc in
-    absurd (true≢false (sym below ∙ subst (λ (q : Process). leq q.label l ≡ false) who high.high))
+    let who : high.process ≡ p = cc (sym high.lives ∙ lives) in
+    absurd (true≢false (sym below ∙ subst (λ q. leq q.label l ≡ false) who high.high))
 one_where_low l pid f a b (inr equal) p lives below = equal
 
 module _ (l : Categories) (pid : ℕ) (f : Frame) (c d : Content) (counts : SameCounts c d) (same : AlikeIn l f c d) where
@@ -261,18 +257,18 @@ module _ (l : Categories) (pid : ℕ) (f : Frame) (c d : Content) (counts : Same
 reframed : (l : Categories) (v w : World) (place pid : ℕ) (o p : Op) (e : Decision) → v.frame ≡ w.frame
     → Inside l pid v.frame (answer v pid o e) (answer (record { frame = v.frame; content = w.content }) pid p e)
     → Inside l pid v.frame (answer v pid o e) (answer w pid p e)
-reframed l v w place pid o p e frames h = subst (λ (f : Frame). Inside l pid v.frame (answer v pid o e) (answer (record { frame = f; content = w.content }) pid p e)) frames h
+reframed l v w place pid o p e frames h = subst (λ f. Inside l pid v.frame (answer v pid o e) (answer (record { frame = f; content = w.content }) pid p e)) frames h
 
 after : (l : Categories) (v w : World) (place pid : ℕ) (o p : Op) → Twins o p → Alike l v w → is_one_kind (step v place pid o).reply (step w place pid p).reply
     ≡ true → Inside l pid v.frame (answer v pid o (verdict (told v pid o) place pid o v.frame)) (answer (record { frame = v.frame; content = w.content }) pid p
     (verdict (told v pid o) place pid o v.frame)) → AlikeAfter l pid v.frame (step v place pid o) (step w place pid p)
 unfolding step
 after l v w place pid o p twins alike kind h =
-    let one = one_decision v w place pid o p twins alike.shapes kind in
-    let shape_after = shape_twins v w place pid o p twins alike.shapes kind in
-    let i : Inside l pid v.frame (step v place pid o) (step w place pid p) =
-    subst (λ (e : Decision). Inside l pid v.frame (step v place pid o) (answer w pid p e)) one
-    (reframed l v w place pid o p _ (shape_frames v w alike.shapes) h) in
+    let one = one_decision v w _ _ o p twins alike.shapes kind in
+    let shape_after = shape_twins v w _ _ o p twins alike.shapes kind in
+    let i =
+    subst (λ e. Inside l pid v.frame (step v place pid o) (answer w pid p e)) one
+    (reframed l v w place _ o p _ (shape_frames v w alike.shapes) h) in
     record { worlds = λ steady. record { shapes = shape_after.shapes; inside = i.inside steady }; replies = i.replies }
 
 pub alike_events : (l : Categories) (v w : World) (place : ℕ) (e f : Event) → Alike l v w → AgreeAt l v.frame e f

@@ -1,9 +1,6 @@
 -- Each run can be brought to an end.
-use Rattle.std.proofs.Common.{refl, ◌≡◌, ℕ, zero, suc, ◌+◌, ◌≤◌, ◌<◌, List, [], ◌∷◌, ◌++◌, length, Option, Some, None, sym, ap, subst, arith, inl, inr}
-use Rattle.std.proofs.Common.{slice_get}
-use Rattle.std.proofs.lemmas.Bool.{cases_eq}
-use Rattle.ix_judging.specs.{Plan.{Plan, Lawful}, Lanes.{State, IsGood}, Runs.{IsTurn, IsWholeRun, IsRun, entered, reached}}
-use Rattle.ix_judging.specs.Judge.{BeginsIn, IsReport, lines_of, report_from, report_of}
+use Rattle.std.proofs.{Common.{refl, ◌≡◌, ℕ, zero, suc, ◌+◌, ◌≤◌, ◌<◌, List, [], ◌∷◌, ◌++◌, length, Option, Some, None, sym, ap, subst, arith, inl, inr, slice_get}, lemmas.Bool.cases_eq}
+use Rattle.ix_judging.specs.{Plan.{Plan, Lawful}, Lanes.{State, IsGood}, Runs.{IsTurn, IsWholeRun, IsRun, entered, reached}, Judge.{BeginsIn, IsReport, lines_of, report_from, report_of}}
 use Rattle.ix_judging.proofs.{Stores.{after_other, after_same, asking_lane, asks_within, length-entered}, Turns.a_turn, GoodRuns.runs_good}
 
 module _ {W E A L T : Type 0} (p : Plan W E A L T) where
@@ -27,12 +24,12 @@ module _ {W E A L T : Type 0} (p : Plan W E A L T) where
     fewer_below at e turn zero = (omega arith, λ below. absurd (omega (arith, below)))
     fewer_below at e turn (suc m) =
         let more = fewer_below at e turn m in
-        elim (cases_eq m (p.seat e)) [
+        elim (cases_eq m _) [
           | inl mine ↦
-              let found = asking_lane p at.lanes (p.seat e) e turn.call in
+              let found = asking_lane p _ (p.seat e) e turn.call in
               let a = p.answer at.world at.place e in
-              let was : bound_in (slice_get at.lanes m) ≡ p.bound found.0 = ap bound_in (subst (λ (n : ℕ). slice_get at.lanes n ≡ Some found.0) (sym mine) found.1) in
-              let now : bound_in (slice_get (entered p at e).lanes m) ≡ p.bound (p.goes (p.seat e) found.0 a) =
+              let was = ap bound_in (subst (λ (n : ℕ). slice_get at.lanes n ≡ Some found.0) (sym mine) found.1) in
+              let now =
               ap bound_in (subst (λ (n : ℕ). slice_get (entered p at e).lanes n ≡ Some (p.goes (p.seat e) found.0 a)) (sym mine)
               (after_same p at.lanes (p.seat e) a found.0 found.1)) in
               let less = lawful.ends (p.seat e) found.0 a e found.2 in
@@ -46,15 +43,15 @@ module _ {W E A L T : Type 0} (p : Plan W E A L T) where
     fewer : (at : State W L) (e : E) → IsTurn p at.lanes e
         → left_to (length at.lanes) (entered p at e).lanes < left_to (length at.lanes) at.lanes
     unfolding Fewer
-    fewer at e turn = (fewer_below at e turn (length at.lanes)).1 (asks_within p at.lanes (p.seat e) e turn.call)
+    fewer at e turn = (fewer_below at e turn _).1 (asks_within p _ _ e turn.call)
 
     -- ---- an end
     end_within : (most : ℕ) (at : State W L) → left_to (length at.lanes) at.lanes ≤ most → (events : List E) × IsWholeRun p at events
-    end_within zero at few = elim (a_turn p count lawful at.lanes) [
+    end_within zero at few = elim (a_turn p _ lawful _) [
       | inl over ↦ ([], over)
-      | inr next ↦ let less = fewer at next.0 next.1 in absurd (omega (arith, few, less))
+      | inr next ↦ let less = fewer at _ next.1 in absurd (omega (arith, few, less))
     ]
-    end_within (suc most) at few = elim (a_turn p count lawful at.lanes) [
+    end_within (suc most) at few = elim (a_turn p _ lawful _) [
       | inl over ↦ ([], over)
       | inr next ↦
           let less = fewer at next.0 next.1 in
@@ -72,25 +69,25 @@ module _ {W E A L T : Type 0} (p : Plan W E A L T) where
     taken_then : (at : State W L) (events more : List E) → IsRun p at events → IsWholeRun p (reached p at events) more
         → IsWholeRun p at (events ++ more)
     taken_then at [] more takes runs = runs
-    taken_then at (e ∷ events) more takes runs = (takes.0, taken_then (entered p at e) events more takes.1 runs)
+    taken_then at (e ∷ events) more takes runs = (takes.0, taken_then (entered p at e) events _ takes.1 runs)
 
     -- what has run is the front of a good history
     pub front_ends : (at : State W L) (events : List E) → IsRun p at events → (more : List E) × IsGood p at (events ++ more)
     front_ends at events takes =
         let rest = an_end (reached p at events) in
-        (rest.0, runs_good p count lawful at (events ++ rest.0) (taken_then at events rest.0 takes rest.1))
+        (rest.0, runs_good p _ lawful at _ (taken_then at _ _ takes rest.1))
 
     -- ---- the lines of what has run
     report-append : (at : State W L) (events more : List E)
         → report_from p at (events ++ more) ≡ lines_of p at events ++ report_from p (reached p at events) more
     report-append at [] more = refl
-    report-append at (e ∷ events) more = ap (λ (lines : List T). p.line at.world at.place e ∷ lines) (report-append (entered p at e) events more)
+    report-append at (e ∷ events) more = ap (λ lines. p.line at.world at.place e ∷ lines) (report-append (entered p at e) events _)
 
     pub lines_begin : (at : State W L) (events : List E) → IsRun p at events → BeginsIn (IsReport p at) (p.head ∷ lines_of p at events)
     lines_begin at events takes =
-        let ends = front_ends at events takes in (
+        let ends = front_ends at _ takes in (
           report_of p at (events ++ ends.0),
           report_from p (reached p at events) ends.0,
           (events ++ ends.0, ends.1, refl),
-          ap (λ (lines : List T). p.head ∷ lines) (report-append at events ends.0),
+          ap (λ lines. p.head ∷ lines) (report-append at _ _),
         )

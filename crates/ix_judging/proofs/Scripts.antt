@@ -1,9 +1,7 @@
 -- Lanes that are told by all that they ask for are lanes of a plan.
-use Rattle.std.proofs.Common.{◌≡◌, ℕ, ◌<◌, nat_lt, true, List, [], ◌∷◌, ◌++◌, length, replicate, Option, Some, None, refl, sym, ap, ◌∙◌, subst, arith}
-use Rattle.std.proofs.Common.{slice_get, append_assoc, append-nil, length-append}
-use Rattle.std.{proofs.lemmas.{List.{get_or-replicate, length-replicate}, Option.slice_get-get_or}, specs.List.list_all}
-use Rattle.ix_judging.specs.{Plan.Lawful, Lanes.{Calls, IsGood, asked_first, calls_from, calls_in, calls_of, replies_from}}
-use Rattle.ix_judging.specs.Asking.{IsHistory, IsScript, Script, opened, plan_of}
+use Rattle.std.proofs.Common.{◌≡◌, ℕ, ◌<◌, nat_lt, true, List, [], ◌∷◌, ◌++◌, replicate, Option, Some, None, refl, sym, ap, ◌∙◌, subst, arith}
+use Rattle.std.{proofs.{Common.{slice_get, append_assoc, append-nil, length-append}, lemmas.{List.{get_or-replicate, length-replicate}, Option.slice_get-get_or}}, specs.List.list_all}
+use Rattle.ix_judging.specs.{Plan.Lawful, Lanes.{Calls, IsGood, asked_first, calls_from, calls_in, calls_of}, Asking.{IsHistory, IsScript, Script, opened, plan_of}}
 
 module _ {W E A T : Type 0} (s : Script W E A T) (count : ℕ) (is : IsScript s count) where
   -- ---- what it asks for, one answer after the other
@@ -12,8 +10,8 @@ module _ {W E A T : Type 0} (s : Script W E A T) (count : ℕ) (is : IsScript s 
   stays_all k [] answers none = ap (s.asked k) (append-nil answers)
   stays_all k (a ∷ more) answers none =
       let one = (is.lanes k).stays answers a none in
-      let none' : (s.asked k (answers ++ a ∷ [])).next ≡ None = ap (λ (c : Calls E). c.next) one ∙ none in
-      ap (s.asked k) (sym (append_assoc answers (a ∷ []) more)) ∙ stays_all k more (answers ++ a ∷ []) none' ∙ one
+      let none' = ap (λ c. c.next) one ∙ none in
+      ap (s.asked k) (sym (append_assoc answers (a ∷ []) more)) ∙ stays_all k more _ none' ∙ one
 
   abbrev behind : List E → Calls E → Calls E
   behind es c = record { entries = es ++ c.entries; next = c.next }
@@ -39,7 +37,7 @@ module _ {W E A T : Type 0} (s : Script W E A T) (count : ℕ) (is : IsScript s 
 
   -- from the beginning
   asked_all : (k : ℕ) (answers : List A) → s.asked k answers ≡ calls_from (plan_of s) k [] answers
-  asked_all k answers = asked_more k answers [] ∙ ap (λ (es : List E). behind es (calls_from (plan_of s) k [] answers)) (is.lanes k).starts
+  asked_all k answers = asked_more k _ [] ∙ ap (λ es. behind es (calls_from (plan_of s) k [] answers)) (is.lanes k).starts
 
   -- ---- the laws of plans
   pub lawful : Lawful (plan_of s) count
@@ -64,27 +62,27 @@ module _ {W E A T : Type 0} (s : Script W E A T) (count : ℕ) (is : IsScript s 
 
   first_lane : (k : ℕ) → k < count → slice_get first_lanes k ≡ Some none_yet
   first_lane k within =
-      slice_get-get_or first_lanes k none_yet (rw (length-replicate count none_yet) within) ∙ ap (λ (x : List A). Some x) (get_or-replicate count k none_yet none_yet within)
+      slice_get-get_or first_lanes k none_yet (rw length-replicate within) ∙ ap (λ x. Some x) (get_or-replicate count k none_yet none_yet within)
 
   pub calls-asked : (k : ℕ) (answers : List A) → k < count → calls_of (plan_of s) first_lanes k answers ≡ s.asked k answers
-  calls-asked k answers within = ap (λ (o : Option (List A)). calls_in (plan_of s) k o answers) (first_lane k within) ∙ sym (asked_all k answers)
+  calls-asked k answers within = ap (λ o. calls_in (plan_of s) k o answers) (first_lane k within) ∙ sym (asked_all k _)
 
   pub history_good : (w : W) (events : List E) → IsHistory s count w events → IsGood (plan_of s) (opened s count w) events
   history_good w events h = record {
     lanes = record {
-      seats = subst (λ (n : ℕ). list_all (λ e. nat_lt (s.seat e) n) events ≡ true) (sym (length-replicate count none_yet)) h.seats;
+      seats = subst (λ n. list_all (λ e. nat_lt (s.seat e) n) events ≡ true) (sym (length-replicate count none_yet)) h.seats;
       calls = λ k within.
-          let below : k < count = subst (λ (n : ℕ). k < n) (length-replicate count none_yet) within in
-          calls-asked k (replies_from (plan_of s) w 1 k events) below ∙ h.calls k below;
+          let below = subst (λ n. k < n) (length-replicate count none_yet) within in
+          calls-asked k _ below ∙ h.calls k below;
     };
     order = h.order;
   }
 
   pub good_history : (w : W) (events : List E) → IsGood (plan_of s) (opened s count w) events → IsHistory s count w events
   good_history w events g = record {
-    seats = subst (λ (n : ℕ). list_all (λ e. nat_lt (s.seat e) n) events ≡ true) (length-replicate count none_yet) g.lanes.seats;
+    seats = subst (λ n. list_all (λ e. nat_lt (s.seat e) n) events ≡ true) (length-replicate count none_yet) g.lanes.seats;
     calls = λ k below.
-        let within : k < length first_lanes = subst (λ (n : ℕ). k < n) (sym (length-replicate count none_yet)) below in
-        sym (calls-asked k (replies_from (plan_of s) w 1 k events) below) ∙ g.lanes.calls k within;
+        let within = subst (λ n. k < n) (sym (length-replicate count none_yet)) below in
+        sym (calls-asked k _ below) ∙ g.lanes.calls k within;
     order = g.order;
   }

@@ -1,104 +1,103 @@
 -- Whose turn it is.
-use Rattle.std.proofs.Common.{◌≡◌, ℕ, zero, suc, ◌≤◌, ◌<◌, ◌⊎◌, Bool, true, false, is_none, List, length, Option, Some, None, refl, sym, ap, ◌∙◌, subst, arith}
-use Rattle.std.proofs.Common.{inl, inr, if◌then◌else◌}
+use Rattle.std.proofs.Common.{◌≡◌, ℕ, zero, suc, ◌≤◌, ◌<◌, ◌⊎◌, Bool, true, false, is_none, List, length, Option, Some, None, refl, sym, ap, ◌∙◌, subst, arith, inl, inr, if◌then◌else◌}
 use Rattle.std.proofs.lemmas.Bool.{and_parts, and_from, cases_eq, le-leb, leb-true}
-use Rattle.ix_judging.{specs.Plan.{Plan, Lawful}, specs.Lanes.State, specs.Runs.{IsOver, IsTurn, asks}, proofs.Stores.{asks_within, asking_lane, none_past}}
+use Rattle.ix_judging.{specs.{Plan.{Plan, Lawful}, Lanes.State, Runs.{IsOver, IsTurn, asks}}, proofs.Stores.{asks_within, asking_lane, none_past}}
 use Rattle.ix_judging.specs.Walk.{called_by, is_not_before, is_over, least_to, on_turn, over_to, told_call}
 
 module _ {W E A L T : Type 0} (p : Plan W E A L T) where
   -- ---- all lanes are done
   over_then : (o : Option E) → is_none o ≡ true → o ≡ None
   over_then None is = refl
-  over_then (Some e) is = let no : false ≡ true = is in cc
+  over_then (Some e) is = cc is
 
   over_below : (m : ℕ) (lanes : List L) → over_to p m lanes ≡ true → (k : ℕ) → k < m → asks p lanes k ≡ None
   over_below zero lanes over k below = absurd (omega (arith, below))
   over_below (suc m) lanes over k below =
-      let parts = and_parts (is_none (asks p lanes m)) (over_to p m lanes) over in
+      let parts = and_parts _ _ over in
       elim (cases_eq k m) [
-        | inl same ↦ subst (λ (n : ℕ). asks p lanes n ≡ None) (sym same) (over_then (asks p lanes m) parts.0)
-        | inr apart ↦ over_below m lanes parts.1 k (omega (arith, below, apart))
+        | inl same ↦ subst (λ n. asks p lanes n ≡ None) (sym same) (over_then _ parts.0)
+        | inr apart ↦ over_below m _ parts.1 k (omega (arith, below, apart))
       ]
 
   over_from : (m : ℕ) (lanes : List L) → IsOver p lanes → over_to p m lanes ≡ true
   over_from zero lanes over = refl
-  over_from (suc m) lanes over = and_from (is_none (asks p lanes m)) (over_to p m lanes) (ap is_none (over m)) (over_from m lanes over)
+  over_from (suc m) lanes over = and_from _ _ (ap is_none (over m)) (over_from m _ over)
 
   pub over_is : (lanes : List L) → is_over p lanes ≡ true → IsOver p lanes
-  over_is lanes over k = elim (below_or k (length lanes)) [
-    | inl below ↦ over_below (length lanes) lanes over k below
-    | inr past ↦ none_past p lanes k past
+  over_is lanes over k = elim (below_or k _) [
+    | inl below ↦ over_below _ _ over k below
+    | inr past ↦ none_past p _ k past
   ]
     where
       below_or : (k n : ℕ) → (k < n) ⊎ (n ≤ k)
       below_or k n = grind arith
 
   pub is_over_from : (lanes : List L) → IsOver p lanes → is_over p lanes ≡ true
-  is_over_from lanes over = over_from (length lanes) lanes over
+  is_over_from lanes over = over_from _ _ over
 
   -- ---- no lane has a call left in an earlier phase
   not_before : (e : E) (o : Option E) → is_not_before p e o ≡ true → (f : E) → o ≡ Some f → p.phase e ≤ p.phase f
-  not_before e None is f has = let none : None ≡ Some f = has in cc
-  not_before e (Some g) is f has = let same : g ≡ f = cc in subst (λ (x : E). p.phase e ≤ p.phase x) same (leb-true (p.phase e) (p.phase g) is)
+  not_before e None is f has = cc has
+  not_before e (Some g) is f has = let same : g ≡ f = cc in subst (λ x. p.phase e ≤ p.phase x) same (leb-true _ _ is)
 
   not_before_from : (e : E) (o : Option E) → ((f : E) → o ≡ Some f → p.phase e ≤ p.phase f) → is_not_before p e o ≡ true
   not_before_from e None h = refl
-  not_before_from e (Some g) h = le-leb (p.phase e) (p.phase g) (h g refl)
+  not_before_from e (Some g) h = le-leb _ _ (h g refl)
 
   pub least_below : (m : ℕ) (lanes : List L) (e : E) → least_to p m lanes e ≡ true → (k : ℕ) (f : E) → k < m → asks p lanes k ≡ Some f
       → p.phase e ≤ p.phase f
   least_below zero lanes e least k f below is = absurd (omega (arith, below))
   least_below (suc m) lanes e least k f below is =
-      let parts = and_parts (is_not_before p e (asks p lanes m)) (least_to p m lanes e) least in
+      let parts = and_parts _ _ least in
       elim (cases_eq k m) [
-        | inl same ↦ not_before e (asks p lanes m) parts.0 f (subst (λ (n : ℕ). asks p lanes n ≡ Some f) same is)
-        | inr apart ↦ least_below m lanes e parts.1 k f (omega (arith, below, apart)) is
+        | inl same ↦ not_before e _ parts.0 f (subst (λ n. asks p lanes n ≡ Some f) same is)
+        | inr apart ↦ least_below m _ e parts.1 k f (omega (arith, below, apart)) is
       ]
 
   pub least_from : (m : ℕ) (lanes : List L) (e : E) → ((k : ℕ) (f : E) → asks p lanes k ≡ Some f → p.phase e ≤ p.phase f)
       → least_to p m lanes e ≡ true
   least_from zero lanes e h = refl
   least_from (suc m) lanes e h =
-      and_from (is_not_before p e (asks p lanes m)) (least_to p m lanes e) (not_before_from e (asks p lanes m) (λ f is. h m f is)) (least_from m lanes e h)
+      and_from _ _ (not_before_from e _ (λ f is. h m f is)) (least_from m _ e h)
 
   module _ (count : ℕ) (lawful : Lawful p count) where
     -- an asked call is its seat's
     pub asked_seat : (lanes : List L) (k : ℕ) (e : E) → asks p lanes k ≡ Some e → p.seat e ≡ k
-    asked_seat lanes k e is = let found = asking_lane p lanes k e is in lawful.seats k found.0 e found.2
+    asked_seat lanes k e is = let found = asking_lane p _ k e is in lawful.seats k found.0 e found.2
 
     turn_from : (lanes : List L) (k : ℕ) (e : E) → asks p lanes k ≡ Some e
         → ((j : ℕ) (f : E) → asks p lanes j ≡ Some f → p.phase e ≤ p.phase f) → IsTurn p lanes e
-    turn_from lanes k e is least = record { call = subst (λ (n : ℕ). asks p lanes n ≡ Some e) (sym (asked_seat lanes k e is)) is; least = least }
+    turn_from lanes k e is least = record { call = subst (λ n. asks p lanes n ≡ Some e) (sym (asked_seat _ k e is)) is; least = least }
 
     -- ---- the call that a line tells of
     -- what is found is the turn's
     pub told_turn : (at : State W L) (l : T) (e : E) → told_call p at l ≡ Some e → IsTurn p at.lanes e
-    told_turn at l e = by_seat (p.told at.place l)
+    told_turn at l e = by_seat _
       where
         tested : (k : ℕ) (f : E) (b : Bool) → least_to p (length at.lanes) at.lanes f ≡ b → asks p at.lanes k ≡ Some f
             → (if b then Some f else None) ≡ Some e → IsTurn p at.lanes e
-        tested k f false test is has = let none : None ≡ Some e = has in cc
+        tested k f false test is has = cc has
         tested k f true test is has =
             let same : f ≡ e = cc in
-            subst (λ (x : E). IsTurn p at.lanes x) same
-            (turn_from at.lanes k f is (λ j g asked. least_below (length at.lanes) at.lanes f test j g (asks_within p at.lanes j g asked) asked))
+            subst (λ x. IsTurn p at.lanes x) same
+            (turn_from _ k f is (λ j g asked. least_below _ _ f test j g (asks_within p _ j g asked) asked))
 
         by_call : (k : ℕ) (o : Option E) → asks p at.lanes k ≡ o → on_turn p at.lanes o ≡ Some e → IsTurn p at.lanes e
-        by_call k None is has = let none : None ≡ Some e = has in cc
-        by_call k (Some f) is has = tested k f (least_to p (length at.lanes) at.lanes f) refl is has
+        by_call k None is has = cc has
+        by_call k (Some f) is has = tested k f _ refl is has
 
         by_seat : (o : Option ℕ) → called_by p at.lanes o ≡ Some e → IsTurn p at.lanes e
-        by_seat None has = let none : None ≡ Some e = has in cc
-        by_seat (Some k) has = by_call k (asks p at.lanes k) refl has
+        by_seat None has = cc has
+        by_seat (Some k) has = by_call k _ refl has
 
     -- the turn's is found by its line
     pub turn_told : (at : State W L) (e : E) → length at.lanes ≡ count → IsTurn p at.lanes e
         → told_call p at (p.line at.world at.place e) ≡ Some e
     turn_told at e all turn =
-        let within : p.seat e < count = subst (λ (n : ℕ). p.seat e < n) all (asks_within p at.lanes (p.seat e) e turn.call) in
+        let within = subst (λ n. p.seat e < n) all (asks_within p _ _ e turn.call) in
         ap (called_by p at.lanes) (lawful.names at.world at.place e within)
         ∙ ap (on_turn p at.lanes) turn.call
-        ∙ ap (λ (b : Bool). if b then Some e else None) (least_from (length at.lanes) at.lanes e turn.least)
+        ∙ ap (λ b. if b then Some e else None) (least_from _ _ e turn.least)
 
     -- ---- there is a turn while not all is over
     pub IsLeastOf : ℕ → List L → E → ℕ → Type 0
@@ -107,20 +106,20 @@ module _ {W E A L T : Type 0} (p : Plan W E A L T) where
     least_of : (m : ℕ) (lanes : List L) → ((k : ℕ) → k < m → asks p lanes k ≡ None) ⊎ ((e : E) × (k : ℕ) × IsLeastOf m lanes e k)
     unfolding IsLeastOf
     least_of zero lanes = inl (λ k below. absurd (omega (arith, below)))
-    least_of (suc m) lanes = go (least_of m lanes) (asks p lanes m) refl
+    least_of (suc m) lanes = go (least_of m _) _ refl
       where
         at_one : (o : Option E) (q : ℕ) → asks p lanes m ≡ o → ((g : E) → o ≡ Some g → q ≤ p.phase g)
             → ((j : ℕ) (g : E) → j < m → asks p lanes j ≡ Some g → q ≤ p.phase g)
             → (j : ℕ) (g : E) → j < suc m → asks p lanes j ≡ Some g → q ≤ p.phase g
         at_one o q here h below j g lt is = elim (cases_eq j m) [
-          | inl same ↦ h g (sym here ∙ subst (λ (n : ℕ). asks p lanes n ≡ Some g) same is)
+          | inl same ↦ h g (sym here ∙ subst (λ n. asks p lanes n ≡ Some g) same is)
           | inr apart ↦ below j g (omega (arith, lt, apart)) is
         ]
 
         go : ((k : ℕ) → k < m → asks p lanes k ≡ None) ⊎ ((e : E) × (k : ℕ) × IsLeastOf m lanes e k) → (o : Option E) → asks p lanes m ≡ o
             → ((k : ℕ) → k < suc m → asks p lanes k ≡ None) ⊎ ((e : E) × (k : ℕ) × IsLeastOf (suc m) lanes e k)
         go (inl none) None here = inl (λ k below. elim (cases_eq k m) [
-          | inl same ↦ subst (λ (n : ℕ). asks p lanes n ≡ None) (sym same) here
+          | inl same ↦ subst (λ n. asks p lanes n ≡ None) (sym same) here
           | inr apart ↦ none k (omega (arith, below, apart))
         ])
         go (inl none) (Some f) here = inr (
@@ -129,22 +128,22 @@ module _ {W E A L T : Type 0} (p : Plan W E A L T) where
           (
             here,
             λ j g lt is. elim (cases_eq j m) [
-              | inl same ↦ let one : f ≡ g = cc (sym here ∙ subst (λ (n : ℕ). asks p lanes n ≡ Some g) same is) in subst (λ (x : E). p.phase f ≤ p.phase x) one (omega arith)
-              | inr apart ↦ let no : None ≡ Some g = sym (none j (omega (arith, lt, apart))) ∙ is in cc
+              | inl same ↦ let one : f ≡ g = cc (sym here ∙ subst (λ (n : ℕ). asks p lanes n ≡ Some g) same is) in subst (λ x. p.phase f ≤ p.phase x) one (omega arith)
+              | inr apart ↦ cc (sym (none j (omega (arith, lt, apart))) ∙ is)
             ],
           ),
         )
-        go (inr found) None here = inr (found.0, found.1, (found.2.0, at_one None (p.phase found.0) here (λ g no. let none : None ≡ Some g = no in cc) found.2.1))
-        go (inr found) (Some f) here = elim (order (p.phase found.0) (p.phase f)) [
+        go (inr found) None here = inr (found.0, found.1, (found.2.0, at_one _ _ here (λ g no. cc no) found.2.1))
+        go (inr found) (Some f) here = elim (order _ _) [
           | inl le ↦
-              let least : (g : E) → Some f ≡ Some g → p.phase found.0 ≤ p.phase g = λ g is. let one : f ≡ g = cc in subst (λ (x : E). p.phase found.0 ≤ p.phase x) one le in
-              inr (found.0, found.1, (found.2.0, at_one (Some f) (p.phase found.0) here least found.2.1))
+              let least : (g : E) → Some f ≡ Some g → p.phase found.0 ≤ p.phase g = λ g is. let one : f ≡ g = cc in subst (λ x. p.phase found.0 ≤ p.phase x) one le in
+              inr (found.0, found.1, (found.2.0, at_one _ _ here least found.2.1))
           | inr gt ↦ inr (
             f,
             m,
             (
               here,
-              at_one (Some f) (p.phase f) here (λ g is. let one : f ≡ g = cc in subst (λ (x : E). p.phase f ≤ p.phase x) one (omega arith))
+              at_one _ _ here (λ g is. let one : f ≡ g = cc in subst (λ x. p.phase f ≤ p.phase x) one (omega arith))
                   (λ j g lt is. let more = found.2.1 j g lt is in omega (arith, more, gt)),
             ),
           )
@@ -160,7 +159,7 @@ module _ {W E A L T : Type 0} (p : Plan W E A L T) where
         | inl below ↦ none k below
         | inr past ↦ none_past p lanes k past
       ])
-      | inr found ↦ inr (found.0, turn_from lanes found.1 found.0 found.2.0 (λ j f is. found.2.1 j f (asks_within p lanes j f is) is))
+      | inr found ↦ inr (found.0, turn_from lanes found.1 found.0 found.2.0 (λ j f is. found.2.1 j f (asks_within p _ j f is) is))
     ]
       where
         below_or : (k n : ℕ) → (k < n) ⊎ (n ≤ k)

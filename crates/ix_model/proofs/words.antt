@@ -1,3 +1,4 @@
+pub mod OpenRows
 pub mod Keeps
 pub mod LetGo
 pub mod Rowwise

@@ -1,23 +1,17 @@
 -- A step keeps to a form, and so does a run from the opening world of a config that fits.
-use Rattle.std.proofs.Common.{◌≡◌, ℕ, zero, suc, ◌-◌, Bool, true, false, List, [], ◌∷◌, ◌++◌, map, replicate, take, Option, Some, None, sym, subst, arith}
-use Rattle.std.proofs.Common.{if◌then◌else◌}
+use Rattle.std.proofs.Common.{◌≡◌, ℕ, zero, suc, ◌-◌, Bool, true, false, List, [], ◌∷◌, ◌++◌, map, replicate, take, Option, Some, None, sym, subst, arith, if◌then◌else◌}
 use Rattle.std.{specs.{Prelude.{All, slice_get, unwrap_or}, Option.option_map_or}, proofs.lemmas.List.Elements.{All-nil, All-tail, All-take}}
 use Rattle.ix_label.specs.{declared.form.Form.Form, Forms.Fits}
-use Rattle.ix_model.specs.{world.{World.{Frame, World, Object, Process, Open, lives}, Numbers.free_inode}, rows.Outcomes.{Outcome, Refuse, Pass}}
-use Rattle.ix_model.specs.{rows.OnDescriptors.LengthChecks, rows.Refusals.keeps_label, rows.Table.{Decision, row, settled, verdict}, rows.Telling.told}
-use Rattle.ix_model.specs.{rows.Walks.{OpenFile, node, behind}, history.{Events.{Op, Event}, Spelled.{AuditFits, CallFits, ConfigFits, EventsFit, ReplyFits}}}
-use Rattle.ix_model.specs.declared.{audit.AuditLine.AuditLine, config.{Config.Config, FsSpec.FsSpec, ObjSpec.ObjSpec}, reply.Reply.Reply}
-use Rattle.ix_model.specs.opening.Opening.{root_of, bare, bare_objects, process_of, directory_of, object_of, placed, with_object, with_objects, bare_world}
-use Rattle.ix_model.specs.opening.Opening.{opening_world}
-use Rattle.ix_model.specs.history.Events as op
+use Rattle.ix_model.specs.{world.World.{Frame, World, Object}, rows.{Outcomes.{Outcome, Refuse, Pass}, OnDescriptors.LengthChecks, Table.{Decision, row, settled, verdict}}}
+use Rattle.ix_model.specs.{rows.Walks.{OpenFile, node}, history.{Events.{Op, Event}, Spelled.{AuditFits, CallFits, ConfigFits, EventsFit, ReplyFits}}, opening.Opening.opening_world}
+use Rattle.ix_model.{specs.{declared.{config.{Config.Config, FsSpec.FsSpec, ObjSpec.ObjSpec}, reply.Reply.Reply}, history.Step.{step, step_of, run}}, proofs.words.Answered.step_frame}
+use Rattle.ix_model.specs.opening.Opening.{root_of, bare, bare_objects, directory_of, placed, with_object, with_objects, bare_world}
 use Rattle.ix_model.specs.history.Step.{plainly, read_answer, write_answer, cut_answer, seek_answer, stat_answer, exit_answer, wait_answer, pex_answer, answer}
-use Rattle.ix_model.specs.history.Step.{step, step_of, run}
+use Rattle.ix_iso.{specs.{Forms.{FrameFits, FormsStay}, Laws.given_after}, proofs.forms.{Frames.{AllAt, fits-bottom, all_put, all_changed, all_get}, Rows.{Fit, fit_row}}}
+use Rattle.ix_model.specs.history.Events as op
 use Rattle.ix_model.specs.declared.refusal.Refusal.TheVariants as refusal
 use Rattle.ix_model.specs.declared.reply.Kind.TheVariants as kind
 use Rattle.ix_model.specs.declared.reply.Reply.TheVariants as reply
-use Rattle.ix_model.proofs.words.Answered.{step_frame}
-use Rattle.ix_iso.specs.{Forms.{FrameFits, FormsStay}, Laws.given_after}
-use Rattle.ix_iso.proofs.forms.{Frames.{AllAt, fits-bottom, all_put, all_changed, all_get}, Rows.{Fit, fit_row}}
 
 module _ (form : Form) where
   -- ---- a decision
@@ -31,16 +25,16 @@ module _ (form : Form) where
 
   settled_fits : (f : Frame) (o : Outcome Reply) → FrameFits form f → Fit form o → DecisionFits (settled f o)
   unfolding Fit
-  settled_fits f (Refuse r g) hf h = record { reply = tt; frame = one_fits (keeps_label r) f g hf h }
-  settled_fits f (Pass a g) hf h = record { reply = h.1; frame = h.0 }
+  settled_fits f (Refuse r g) hf h = record { reply = tt; frame = one_fits _ f g hf h }
+  settled_fits f (Pass a g) hf h = search
 
   verdict_fits : (t : LengthChecks) (place pid : ℕ) (c : Op) (f : Frame) → CallFits form c → FrameFits form f → DecisionFits (verdict t place pid c f)
   unfolding verdict
-  verdict_fits t place pid c f call h = go (lives f pid)
+  verdict_fits t place pid c f call h = go _
     where
       go : (b : Bool) → DecisionFits (if b then settled f (row t place pid c f) else record { reply = reply.No refusal.NoProcess; frame = f })
-      go true = settled_fits f (row t place pid c f) h ((fit_row form t place pid c call).led f h)
-      go false = record { reply = tt; frame = h }
+      go true = settled_fits f (row t _ _ c f) h ((fit_row _ t _ _ c call).led f h)
+      go false = search
 
   -- ---- an answer
   read_fits : (w : World) (count : ℕ) (b : Option OpenFile) (r : Reply) (g : Frame) → ReplyFits form r → ReplyFits form (read_answer w count b r g).reply
@@ -85,35 +79,35 @@ module _ (form : Form) where
 
   answer_fits : (w : World) (pid : ℕ) (c : Op) (d : Decision) → ReplyFits form d.reply → ReplyFits form (answer w pid c d).reply
   unfolding answer plainly
-  answer_fits w pid (op.ReadFd fd count) d h = read_fits w count (behind w.frame pid fd) d.reply d.frame h
-  answer_fits w pid (op.WriteFd fd bytes) d h = write_fits w bytes (behind w.frame pid fd) d.reply d.frame h
-  answer_fits w pid (op.CutFd fd len) d h = cut_fits w len (behind w.frame pid fd) d.reply d.frame h
-  answer_fits w pid (op.SeekFd fd offset) d h = seek_fits w offset (behind w.frame pid fd) d.reply d.frame h
-  answer_fits w pid (op.StatAt path) d h = stat_fits w d.reply d.frame h
-  answer_fits w pid (op.Exit status) d h = exit_fits w pid status d.reply d.frame h
-  answer_fits w pid op.WaitChild d h = wait_fits w d.reply d.frame h
-  answer_fits w pid (op.Pex fd) d h = pex_fits w (behind w.frame pid fd) d.reply d.frame h
+  answer_fits w pid (op.ReadFd fd count) d h = read_fits w _ _ _ _ h
+  answer_fits w pid (op.WriteFd fd bytes) d h = write_fits w _ _ _ _ h
+  answer_fits w pid (op.CutFd fd len) d h = cut_fits w _ _ _ _ h
+  answer_fits w pid (op.SeekFd fd offset) d h = seek_fits w _ _ _ _ h
+  answer_fits w pid (op.StatAt path) d h = stat_fits w _ _ h
+  answer_fits w pid (op.Exit status) d h = exit_fits w _ _ _ _ h
+  answer_fits w pid op.WaitChild d h = wait_fits w _ _ h
+  answer_fits w pid (op.Pex fd) d h = pex_fits w _ _ _ h
   answer_fits w pid c d h = h
 
   -- ---- a step
   pub step_fits : (w : World) (place pid : ℕ) (c : Op) → CallFits form c → FrameFits form w.frame → FrameFits form (step w place pid c).world.frame
-  step_fits w place pid c call h = subst (FrameFits form) (sym (step_frame w place pid c)) (verdict_fits (told w pid c) place pid c w.frame call h).frame
+  step_fits w place pid c call h = subst (FrameFits form) (sym (step_frame w _ _ c)) (verdict_fits _ _ _ c _ call h).frame
 
   pub step_reply_fits : (w : World) (place pid : ℕ) (c : Op) → CallFits form c → FrameFits form w.frame → ReplyFits form (step w place pid c).reply
   unfolding step
-  step_reply_fits w place pid c call h = answer_fits w pid c _ (verdict_fits (told w pid c) place pid c w.frame call h).reply
+  step_reply_fits w place pid c call h = answer_fits w _ c _ (verdict_fits _ _ _ c _ call h).reply
 
   -- ---- a run
   pub run_fits : (w : World) (place : ℕ) (events : List Event) → EventsFit form events → FrameFits form w.frame → FrameFits form (run w place events).frame
   run_fits w place [] calls h = h
-  run_fits w place (e ∷ events) calls h = run_fits (step_of w place e).world (suc place) events (All-tail (λ (e : Event). CallFits form e.op) e events calls)
-      (step_fits w place e.pid e.op (calls 0 e (omega arith)) h)
+  run_fits w place (e ∷ events) calls h = run_fits (step_of w place e).world _ events (All-tail (λ (e : Event). CallFits form e.op) e events calls)
+      (step_fits w _ e.pid e.op (calls 0 e (omega arith)) h)
 
   pub given_fits : (w : World) (place : ℕ) (events : List Event) → EventsFit form events → FrameFits form w.frame → (n : ℕ) (e : Event)
       → slice_get events n ≡ Some e → ReplyFits form (given_after w place events n e).reply
   given_fits w place events calls h n e is =
       let Fitting : Event → Type 0 = λ e. CallFits form e.op in
-      step_reply_fits (run w place (take n events)) _ e.pid e.op (all_get Fitting events n e calls is) (run_fits w place (take n events) (All-take Fitting n events calls) h)
+      step_reply_fits _ _ _ _ (all_get Fitting _ n e calls is) (run_fits w _ _ (All-take Fitting n events calls) h)
 
   -- ---- the opening world
   at_append : {A : Type 0} (P : A → Type 0) (t u : List (Option A)) → AllAt P t → AllAt P u → AllAt P (t ++ u)
@@ -145,25 +139,25 @@ module _ (form : Form) where
   bare_fits : (k : ℕ) (fss : List FsSpec) → AllAt Labelled (bare k fss)
   bare_fits k [] n y here = cc
   bare_fits k (s ∷ fss) n y here =
-      at_append Labelled (Some (root_of k) ∷ replicate (s.inodes - 1) None) (bare (suc k) fss)
-      (at_append Labelled (Some (root_of k) ∷ []) (replicate (s.inodes - 1) None) (at_one Labelled (root_of k) (fits-bottom form))
-      (at_free Labelled (s.inodes - 1))) (bare_fits (suc k) fss) n y here
+      at_append _ (Some (root_of k) ∷ replicate (s.inodes - 1) None) _
+      (at_append _ (Some (root_of k) ∷ []) _ (at_one Labelled (root_of k) (fits-bottom form))
+      (at_free _ _)) (bare_fits (suc k) fss) n y here
 
   bare_world_fits : (c : Config) → ConfigFits form c → FrameFits form (bare_world c).frame
   unfolding bare_objects
   bare_world_fits c h = record {
     fss = h.fss;
-    objects = all_changed Labelled _ (at_append Labelled (bare 0 c.fss) (replicate c.limits.pipes None) (bare_fits 0 c.fss) (at_free Labelled c.limits.pipes)) 0 _ (λ x fits. fits);
-    labels = after_none _ _ (at_map (λ (q : Process). Fits form q.label) process_of c.procs h.labels);
-    ceilings = after_none _ _ (at_map (λ (q : Process). Fits form q.ceiling) process_of c.procs h.ceilings);
-    opens = at_free (λ (x : Open). Fits form x.label) c.limits.opens;
-    log = All-nil (λ (l : AuditLine). AuditFits form l);
+    objects = all_changed _ _ (at_append _ (bare 0 _) (replicate c.limits.pipes None) (bare_fits 0 c.fss) (at_free _ c.limits.pipes)) 0 _ (λ x fits. fits);
+    labels = after_none _ _ (at_map _ _ _ h.labels);
+    ceilings = after_none _ _ (at_map _ _ _ h.ceilings);
+    opens = at_free _ _;
+    log = All-nil (λ l. AuditFits form l);
   }
 
   placed_fits : (w : World) (spec : ObjSpec) (dir k o : ℕ) → Fits form spec.label → FrameFits form w.frame → FrameFits form (placed w spec dir k o).frame
   placed_fits w spec dir k o label h = record {
     fss = h.fss;
-    objects = all_changed Labelled _ (all_put Labelled w.frame.objects h.objects o (object_of k spec) label) dir _ (λ x fits. fits);
+    objects = all_changed _ _ (all_put _ _ h.objects o _ label) _ _ (λ x fits. fits);
     labels = h.labels;
     ceilings = h.ceilings;
     opens = h.opens;
@@ -172,7 +166,7 @@ module _ (form : Form) where
 
   with_object_fits : (w : World) (spec : ObjSpec) → Fits form spec.label → FrameFits form w.frame → FrameFits form (with_object w spec).frame
   unfolding with_object
-  with_object_fits w spec label h = go (free_inode w.frame _)
+  with_object_fits w spec label h = go _
     where
       go : (o : Option ℕ) → FrameFits form
           (option_map_or (placed w spec (directory_of w.frame.objects 0 spec.path.names)
@@ -182,16 +176,16 @@ module _ (form : Form) where
 
   with_objects_fits : (w : World) (specs : List ObjSpec) → All (λ (x : ObjSpec). Fits form x.label) specs → FrameFits form w.frame → FrameFits form (with_objects w specs).frame
   with_objects_fits w [] labels h = h
-  with_objects_fits w (spec ∷ specs) labels h = with_objects_fits (with_object w spec) specs (All-tail (λ (x : ObjSpec). Fits form x.label) spec specs labels)
-      (with_object_fits w spec (labels 0 spec (omega arith)) h)
+  with_objects_fits w (spec ∷ specs) labels h = with_objects_fits (with_object w spec) specs (All-tail (λ x. Fits form x.label) spec specs labels)
+      (with_object_fits w _ (labels 0 spec (omega arith)) h)
 
   pub opening_fits : (c : Config) → ConfigFits form c → FrameFits form (opening_world c).frame
   unfolding opening_world
-  opening_fits c h = with_objects_fits (bare_world c) c.objects h.objects (bare_world_fits c h)
+  opening_fits c h = with_objects_fits _ _ h.objects (bare_world_fits c h)
 
 -- ---- the law
 pub forms_stay : FormsStay
 forms_stay form c events config calls = record {
-  frames = λ n. run_fits form (opening_world c) 1 (take n events) (All-take (λ (e : Event). CallFits form e.op) n events calls) (opening_fits form c config);
-  replies = given_fits form (opening_world c) 1 events calls (opening_fits form c config);
+  frames = λ n. run_fits _ _ 1 (take n _) (All-take (λ e. CallFits form e.op) n events calls) (opening_fits _ c config);
+  replies = given_fits _ _ 1 events calls (opening_fits _ c config);
 }

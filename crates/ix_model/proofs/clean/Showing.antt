@@ -1,13 +1,11 @@
 -- A call gives as many bytes as its reply says.
-use Rattle.std.proofs.Common.{◌≡◌, ◌≤◌, ℕ, Bool, true, false, List, [], Option, Some, None, refl, sym, subst, arith, nat_le, if◌then◌else◌}
-use Rattle.std.proofs.lemmas.{Bool.leb-true, List.length-take}
+use Rattle.std.proofs.{Common.{◌≡◌, ℕ, Bool, true, false, List, [], Option, Some, None, refl, sym, subst, arith, nat_le, if◌then◌else◌}, lemmas.{Bool.leb-true, List.length-take}}
 use Rattle.ix_label.specs.Category.{Categories}
-use Rattle.ix_model.proofs.{words.{Looks.ends_float_entry, Ends.{Ends, Anything, ending}}, refused.Refusing.{is_bare, Relabels, relabels_row}}
-use Rattle.ix_model.specs.{world.{World.{World, Frame, lives}, Contents.readable}, rows.Outcomes.{Outcome, Refuse, Pass}, rows.Rows.observe, rows.Telling.told}
-use Rattle.ix_model.specs.{rows.Walks.{OpenFile, behind}, rows.OnDescriptors.{LengthChecks, read_fd}, rows.Table.{Decision, row, settled, verdict}}
+use Rattle.ix_model.{proofs.{words.{Looks.ends_float_entry, Ends.{Ends, Anything, ending}}, refused.Refusing.{is_bare, Relabels, relabels_row}}, specs.history.Step.step}
+use Rattle.ix_model.specs.{world.{World.{World, Frame}, Contents.readable}, rows.{Outcomes.{Outcome, Refuse, Pass}, Rows.observe, Telling.told}}
+use Rattle.ix_model.specs.rows.{Walks.{OpenFile, behind}, OnDescriptors.{LengthChecks, read_fd}, Table.{Decision, row, settled, verdict}}
 use Rattle.ix_model.specs.{history.{Shown.AreShown, Events.Op}, declared.{refusal.Refusal.Refusal, reply.Reply.Reply}}
 use Rattle.ix_model.specs.history.Step.{plainly, read_answer, write_answer, cut_answer, seek_answer, stat_answer, exit_answer, wait_answer, pex_answer, answer}
-use Rattle.ix_model.specs.history.Step.{step}
 use Rattle.ix_model.specs.history.Events as op
 use Rattle.ix_model.specs.declared.refusal.Refusal.TheVariants as refusal
 use Rattle.ix_model.specs.declared.reply.Kind.TheVariants as kind
@@ -28,20 +26,20 @@ without pid f (Pass r g) h = bare_without r h
 
 decided_without : (t : LengthChecks) (place pid : ℕ) (o : Op) (f : Frame) → Relabels is_bare pid f (row t place pid o f) → Without (verdict t place pid o f).reply
 unfolding verdict
-decided_without t place pid o f h = go (lives f pid)
+decided_without t place pid o f h = go _
   where
     unknown : Decision
     unknown = record { reply = reply.No refusal.NoProcess; frame = f }
 
     go : (b : Bool) → Without (if b then settled f (row t place pid o f) else unknown).reply
-    go true = without pid f (row t place pid o f) h
+    go true = without _ f (row t place pid o f) h
     go false = refl
 
 -- ---- a read
 -- whatever a look comes to
 any_observe : (pid : ℕ) (seen : Categories) (f : Frame) (Q : Unit {0} → Frame → Type 0) → ((g : Frame) → Q tt g) → Ends (observe pid seen f) Anything Q
 unfolding Ends
-any_observe pid seen f Q h = go (observe pid seen f)
+any_observe pid seen f Q h = go _
   where
     go : (o : Outcome (Unit {0})) → Ends o Anything Q
     go (Refuse r g) = tt
@@ -70,13 +68,13 @@ settled_said pid fd count f (Pass r g) h = Passed h
 
 read_said : (t : LengthChecks) (place pid fd count : ℕ) (f : Frame) → Said pid fd count f (verdict t place pid (op.ReadFd fd count) f).reply
 unfolding verdict row
-read_said t place pid fd count f = go (lives f pid)
+read_said t place pid fd count f = go _
   where
     unknown : Decision
     unknown = record { reply = reply.No refusal.NoProcess; frame = f }
 
     go : (b : Bool) → Said pid fd count f (if b then settled f (read_fd t pid fd count f) else unknown).reply
-    go true = settled_said pid fd count f (read_fd t pid fd count f) (read_ends t pid fd count f)
+    go true = settled_said _ fd _ f (read_fd t pid fd count f) (read_ends t _ fd _ f)
     go false = Refused
 
 read_shown : (w : World) (pid fd count : ℕ) (b : Option OpenFile) (r : Reply) (g : Frame) → behind w.frame pid fd ≡ b → Said pid fd count w.frame r
@@ -86,8 +84,8 @@ read_shown w pid fd count None _ g is Refused = refl
 read_shown w pid fd count (Some e) _ g is Refused = refl
 read_shown w pid fd count None r g is (Passed facts) = let h = facts.is_entry in absurd (cc)
 read_shown w pid fd count (Some e) r g is (Passed facts) =
-    subst (λ (s : Reply). AreShown (read_answer w count (Some e) s g).reply (read_answer w count (Some e) s g).bytes) (sym facts.is_bytes)
-    (refl, let few : count ≤ 4096 = leb-true count 4096 facts.few in omega (arith, length-take count (readable w.frame w.content e)))
+    subst (λ s. AreShown (read_answer w count (Some e) s g).reply (read_answer w count (Some e) s g).bytes) (sym facts.is_bytes)
+    (refl, let few = leb-true count 4096 facts.few in omega (arith, length-take count (readable w.frame w.content e)))
 
 write_shown : (w : World) (new : List ℕ) (b : Option OpenFile) (r : Reply) (g : Frame) → Without r → AreShown (write_answer w new b r g).reply (write_answer w new b r g).bytes
 unfolding write_answer plainly
@@ -126,16 +124,16 @@ pex_shown w None r g h = h
 
 pub shown_step : (w : World) (place pid : ℕ) (o : Op) → AreShown (step w place pid o).reply (step w place pid o).bytes
 unfolding step answer told plainly
-shown_step w place pid (op.ReadFd fd count) = read_shown w pid fd count (behind w.frame pid fd) _ _ refl (read_said _ place pid fd count w.frame)
+shown_step w place pid (op.ReadFd fd count) = read_shown w _ fd _ _ _ _ refl (read_said _ _ _ fd _ _)
 shown_step w place pid (op.WriteFd fd bytes) =
-    write_shown w bytes (behind w.frame pid fd) _ _ (decided_without _ place pid (op.WriteFd fd bytes) w.frame
-    (relabels_row pid w.frame _ place (op.WriteFd fd bytes)))
-shown_step w place pid (op.CutFd fd len) = cut_shown w len (behind w.frame pid fd) _ _ (decided_without _ place pid (op.CutFd fd len) w.frame (relabels_row pid w.frame _ place (op.CutFd fd len)))
+    write_shown w _ _ _ _ (decided_without _ _ _ _ _
+    (relabels_row _ _ _ _ _))
+shown_step w place pid (op.CutFd fd len) = cut_shown w _ _ _ _ (decided_without _ _ _ _ _ (relabels_row _ _ _ _ _))
 shown_step w place pid (op.SeekFd fd offset) =
-    seek_shown w offset (behind w.frame pid fd) _ _ (decided_without _ place pid (op.SeekFd fd offset) w.frame
-    (relabels_row pid w.frame _ place (op.SeekFd fd offset)))
-shown_step w place pid (op.StatAt path) = stat_shown w _ _ (decided_without _ place pid (op.StatAt path) w.frame (relabels_row pid w.frame _ place (op.StatAt path)))
-shown_step w place pid (op.Exit status) = exit_shown w pid status _ _ (decided_without _ place pid (op.Exit status) w.frame (relabels_row pid w.frame _ place (op.Exit status)))
-shown_step w place pid op.WaitChild = wait_shown w _ _ (decided_without _ place pid op.WaitChild w.frame (relabels_row pid w.frame _ place op.WaitChild))
-shown_step w place pid (op.Pex fd) = pex_shown w (behind w.frame pid fd) _ _ (decided_without _ place pid (op.Pex fd) w.frame (relabels_row pid w.frame _ place (op.Pex fd)))
-shown_step w place pid o = decided_without _ place pid o w.frame (relabels_row pid w.frame _ place o)
+    seek_shown w _ _ _ _ (decided_without _ _ _ _ _
+    (relabels_row _ _ _ _ _))
+shown_step w place pid (op.StatAt path) = stat_shown w _ _ (decided_without _ _ _ _ _ (relabels_row _ _ _ _ _))
+shown_step w place pid (op.Exit status) = exit_shown w _ _ _ _ (decided_without _ _ _ _ _ (relabels_row _ _ _ _ _))
+shown_step w place pid op.WaitChild = wait_shown w _ _ (decided_without _ _ _ _ _ (relabels_row _ _ _ _ _))
+shown_step w place pid (op.Pex fd) = pex_shown w _ _ _ (decided_without _ _ _ _ _ (relabels_row _ _ _ _ _))
+shown_step w place pid o = decided_without _ _ _ o _ (relabels_row _ _ _ _ o)

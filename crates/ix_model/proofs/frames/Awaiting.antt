@@ -3,8 +3,8 @@ use Rattle.std.proofs.Common.{◌≡◌, ◌≢◌, ◌<◌, ◌≤◌, ◌+◌,
 use Rattle.std.proofs.Common.{Option, None, is_none, if◌then◌else◌, refl, sym, ap, ◌∙◌, subst, arith, inl, inr, length-set}
 use Rattle.std.{specs.Option.option_map_or, proofs.lemmas.{Bool.Decides.eqb_tells, List.get_or-set_other}}
 use Rattle.ix_label.specs.Category.{leq}
-use Rattle.ix_model.specs.{world.World.{fs_at, Frame, Object, at, put, is_file, is_dir, is_pipe, held, ceiling_of, no_claims}, world.Numbers.first_inode}
-use Rattle.ix_model.specs.{world.Owners.{times_in, times_named, names_in_all}, opening.Valid.all_differ}
+use Rattle.ix_model.specs.world.{World.{fs_at, Frame, Object, at, put, is_file, is_dir, is_pipe, held, ceiling_of, no_claims}, Numbers.first_inode}
+use Rattle.ix_model.specs.{world.Owners.{times_named, names_in_all}, opening.Valid.all_differ}
 use Rattle.ix_model.specs.laws.Sound.{LabelsBelow, NamesSound, LivesSound, OpensSound, ProcessesSound, ClaimsSound, WithinLimits}
 use Rattle.ix_model.proofs.{tables.{Finds.{at_put, sum_put}, Labels.labels_put_object}, frames.Frames.FrameSound}
 
@@ -86,39 +86,39 @@ module _ (f : Frame) (o : ℕ) (x : Object) (new : IsNew f o x) where
   stands_apart test none m h same = true≢false (sym h ∙ ap (λ n. test (at f.objects n)) same ∙ ap test new.free ∙ none)
 
   still : (test : Option Object → Bool) → test None ≡ false → (m : ℕ) → test (at f.objects m) ≡ true → test (at (put f.objects o (Some x)) m) ≡ true
-  still test none m h = ap test (get_or-set_other f.objects o m (Some x) None (stands_apart test none m h)) ∙ h
+  still test none m h = ap test (get_or-set_other f.objects o m _ None (stands_apart test none m h)) ∙ h
 
   sum_new : (F : Option Object → ℕ) → F None ≡ 0 → F (Some x) ≡ 0 → sum (map F (put f.objects o (Some x))) ≡ sum (map F f.objects)
   sum_new F none here =
-      let before : F (at f.objects o) ≡ 0 = ap F new.free ∙ none in
+      let before = ap F new.free ∙ none in
       omega (arith, sum_put F f.objects o (Some x) new.inside, before, here)
 
   pub times_new : (m : ℕ) → times_named (put f.objects o (Some x)) m ≡ times_named f.objects m
-  times_new m = sum_new (times_in m) refl (ap (count_by (λ n. n.1 == m)) new.nameless)
+  times_new m = sum_new _ refl (ap (count_by (λ n. n.1 == m)) new.nameless)
 
   pub names_in_new : names_in_all (put f.objects o (Some x)) ≡ names_in_all f.objects
-  names_in_new = sum_new (λ y. option_map_or (λ z. length z.names) y 0) refl (ap length new.nameless)
+  names_in_new = sum_new _ refl (ap length new.nameless)
 
   pub names_new : NamesSound f → NamesBut o (record f { objects = put f.objects o (Some x) })
   names_new n = record {
     root = still (λ y. option_map_or is_dir y false) refl 0 n.root;
-    in_directories = λ d y is other. elim (at_put f.objects o d (Some x) y is) [
-      | inl here ↦ let e : Some x ≡ Some y = here.1 in let same : x ≡ y = cc in ap (λ z. z.names) (sym same) ∙ new.nameless
+    in_directories = λ d y is other. elim (at_put _ o d _ y is) [
+      | inl here ↦ let e = here.1 in let same : x ≡ y = cc in ap (λ z. z.names) (sym same) ∙ new.nameless
       | inr apart ↦ n.in_directories d y apart.1 other
     ];
-    living = λ d m y is named. elim (at_put f.objects o d (Some x) y is) [
+    living = λ d m y is named. elim (at_put _ o d _ y is) [
       | inl here ↦
-          let e : Some x ≡ Some y = here.1 in
+          let e = here.1 in
           let same : x ≡ y = cc in
-          let none : count_by (λ n. n.1 == m) y.names ≡ 0 = ap (λ z. count_by (λ n. n.1 == m) z.names) (sym same) ∙ ap (count_by (λ n. n.1 == m)) new.nameless in
+          let none = ap (λ z. count_by (λ n. n.1 == m) z.names) (sym same) ∙ ap (count_by (λ n. n.1 == m)) new.nameless in
           absurd (omega arith)
       | inr apart ↦ still (λ z. option_map_or (λ y. not (is_pipe y)) z false) refl m (n.living d m y apart.1 named)
     ];
-    differ = λ d y is. elim (at_put f.objects o d (Some x) y is) [
-      | inl here ↦ let e : Some x ≡ Some y = here.1 in let same : x ≡ y = cc in ap (λ z. all_differ (map (λ n. n.0) z.names)) (sym same) ∙ ap (λ ns. all_differ (map (λ n. n.0) ns)) new.nameless
+    differ = λ d y is. elim (at_put _ o d _ y is) [
+      | inl here ↦ let e = here.1 in let same : x ≡ y = cc in ap (λ z. all_differ (map (λ n. n.0) z.names)) (sym same) ∙ ap (λ ns. all_differ (map (λ n. n.0) ns)) new.nameless
       | inr apart ↦ n.differ d y apart.1
     ];
-    once = λ m y other is dir. elim (at_put f.objects o m (Some x) y is) [
+    once = λ m y other is dir. elim (at_put _ o m _ y is) [
       | inl here ↦ absurd (other here.0)
       | inr apart ↦ times_new m ∙ n.once m y apart.1 dir
     ];
@@ -126,11 +126,11 @@ module _ (f : Frame) (o : ℕ) (x : Object) (new : IsNew f o x) where
 
   pub lives_new : LivesSound f → LivesBut o (record f { objects = put f.objects o (Some x) })
   lives_new l = record {
-    file = λ m y other is kind. elim (at_put f.objects o m (Some x) y is) [
+    file = λ m y other is kind. elim (at_put _ o m _ y is) [
       | inl here ↦ absurd (other here.0)
       | inr apart ↦ ap (λ t. not (t == 0) || held f.opens m 0) (times_new m) ∙ l.file m y apart.1 kind
     ];
-    pipe = λ m y other is kind. elim (at_put f.objects o m (Some x) y is) [
+    pipe = λ m y other is kind. elim (at_put _ o m _ y is) [
       | inl here ↦ absurd (other here.0)
       | inr apart ↦ l.pipe m y apart.1 kind
     ];
@@ -142,8 +142,8 @@ module _ (f : Frame) (o : ℕ) (x : Object) (new : IsNew f o x) where
     owned = r.owned;
     target = λ e y is. still (λ z. option_map_or (λ y. not (is_dir y)) z false) refl y.object (r.target e y is);
     end = λ e y is.
-        let apart = stands_apart (λ z. option_map_or (λ y. not (is_dir y)) z false) refl y.object (r.target e y is) in
-        ap (λ z. y.end == 0 || y.end == 1 && option_map_or is_pipe z false) (get_or-set_other f.objects o y.object (Some x) None apart) ∙ r.end e y is;
+        let apart = stands_apart (λ z. option_map_or (λ y. not (is_dir y)) z false) refl _ (r.target e y is) in
+        ap (λ z. y.end == 0 || y.end == 1 && option_map_or is_pipe z false) (get_or-set_other f.objects o y.object _ None apart) ∙ r.end e y is;
   }
 
   pub processes_new : ProcessesSound f → ProcessesSound (record f { objects = put f.objects o (Some x) })
@@ -151,26 +151,26 @@ module _ (f : Frame) (o : ℕ) (x : Object) (new : IsNew f o x) where
 
   pub claims_new : ClaimsSound f → ClaimsSound (record f { objects = put f.objects o (Some x) })
   claims_new c = record {
-    claimant = λ m end p y is claim. elim (at_put f.objects o m (Some x) y is) [
-      | inl here ↦ let e : Some x ≡ Some y = here.1 in let same : x ≡ y = cc in absurd (no_claim end p (ap (λ t. at t end) (sym new.unclaimed) ∙ ap (λ z. at z.claims end) same ∙ claim))
+    claimant = λ m end p y is claim. elim (at_put _ o m _ y is) [
+      | inl here ↦ let e = here.1 in let same : x ≡ y = cc in absurd (no_claim _ p (ap (λ t. at t end) (sym new.unclaimed) ∙ ap (λ z. at z.claims end) same ∙ claim))
       | inr apart ↦ c.claimant m end p y apart.1 claim
     ];
   }
 
   pub limits_new : WithinLimits f → WithinLimits (record f { objects = put f.objects o (Some x) })
   limits_new l = record {
-    objects = length-set f.objects o (Some x) ∙ l.objects;
-    pipes = λ m y is. elim (at_put f.objects o m (Some x) y is) [
-      | inl here ↦ let e : Some x ≡ Some y = here.1 in let same : x ≡ y = cc in subst (λ (z : Object). is_none z.fs ≡ is_pipe z) same new.pipe
+    objects = length-set f.objects o _ ∙ l.objects;
+    pipes = λ m y is. elim (at_put _ o m _ y is) [
+      | inl here ↦ let e = here.1 in let same : x ≡ y = cc in subst (λ z. is_none z.fs ≡ is_pipe z) same new.pipe
       | inr apart ↦ l.pipes m y apart.1
     ];
-    past = λ m y is kind. elim (at_put f.objects o m (Some x) y is) [
-      | inl here ↦ let e : Some x ≡ Some y = here.1 in let same : x ≡ y = cc in let low = new.past (ap is_pipe same ∙ kind) in let at_o : m ≡ o = here.0 in omega arith
+    past = λ m y is kind. elim (at_put _ o m _ y is) [
+      | inl here ↦ let e = here.1 in let same : x ≡ y = cc in let low = new.past (ap is_pipe same ∙ kind) in let at_o = here.0 in omega arith
       | inr apart ↦ l.past m y apart.1 kind
     ];
-    numbers = λ m k y is on. elim (at_put f.objects o m (Some x) y is) [
-      | inl here ↦ let e : Some x ≡ Some y = here.1 in let same : x ≡ y = cc in let low = new.number k (ap (λ z. z.fs) same ∙ on) in
-          let at_o : m ≡ o = here.0 in (omega (arith, low.0), omega (arith, low.1))
+    numbers = λ m k y is on. elim (at_put _ o m _ y is) [
+      | inl here ↦ let e = here.1 in let same : x ≡ y = cc in let low = new.number k (ap (λ z. z.fs) same ∙ on) in
+          let at_o = here.0 in (omega (arith, low.0), omega (arith, low.1))
       | inr apart ↦ l.numbers m k y apart.1 on
     ];
     opens = l.opens;
@@ -181,7 +181,7 @@ module _ (f : Frame) (o : ℕ) (x : Object) (new : IsNew f o x) where
 
   pub awaiting_new : FrameSound f → Awaiting o (record f { objects = put f.objects o (Some x) })
   awaiting_new s = record {
-    labels = labels_put_object f s.labels o (Some x) (λ y is. let e : x ≡ y = cc in subst (λ (z : Object). leq z.label (ceiling_of f.fss z) ≡ true) e new.low);
+    labels = labels_put_object f s.labels o _ (λ y is. let e : x ≡ y = cc in subst (λ z. leq z.label (ceiling_of f.fss z) ≡ true) e new.low);
     names = names_new s.names;
     lives = lives_new s.lives;
     opens = opens_new s.opens;
@@ -192,7 +192,7 @@ module _ (f : Frame) (o : ℕ) (x : Object) (new : IsNew f o x) where
 
 -- ---- the whole
 pub awaiting : (o : ℕ) (f : Frame) → FrameSound f → Awaiting o f
-awaiting o f s = record { labels = s.labels; names = names_but o f s.names; lives = lives_but o f s.lives; opens = s.opens; processes = s.processes; claims = s.claims; limits = s.limits }
+awaiting o f s = let names = names_but o f s.names in let lives = lives_but o f s.lives in search
 
 -- the one object is as it has to be
 pub record Arrived (o : ℕ) (f : Frame) : Type 0 where
@@ -201,13 +201,4 @@ pub record Arrived (o : ℕ) (f : Frame) : Type 0 where
   pub pipe : (x : Object) → at f.objects o ≡ Some x → is_pipe x ≡ true → (held f.opens o 0 || held f.opens o 1) ≡ true
 
 pub arrived : (o : ℕ) (f : Frame) → Awaiting o f → Arrived o f → FrameSound f
-arrived o f s a = record {
-  labels = s.labels;
-  names = names_all o f s.names a.once;
-  lives = lives_all o f s.lives a.file a.pipe;
-  opens = s.opens;
-  processes =
-      s.processes;
-  claims = s.claims;
-  limits = s.limits;
-}
+arrived o f s a = let names = names_all o f s.names a.once in let lives = lives_all o f s.lives a.file a.pipe in search

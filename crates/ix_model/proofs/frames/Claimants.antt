@@ -1,5 +1,5 @@
 -- Who claims an end: a claimant has a descriptor on it. The claims of one object change, and all else stays.
-use Rattle.std.proofs.Common.{◌≡◌, ◌==◌, ◌&&◌, ℕ, true, false, not, Option, Some, None, option_map, refl, sym, ap, ◌∙◌, subst, inl, inr}
+use Rattle.std.proofs.Common.{◌≡◌, ◌&&◌, ℕ, true, false, not, Option, Some, None, option_map, refl, sym, ap, ◌∙◌, subst, inl, inr}
 use Rattle.std.{specs.{Option.option_map_or, List.list_any}, proofs.lemmas.Bool.{and_from, eq-eqb}}
 use Rattle.ix_label.specs.Category.{leq, top}
 use Rattle.ix_model.specs.{world.{World.{fs_at, Frame, Object, Process, Open, at, put, change, living, is_on}, Owners.has_end}, declared.reply.Reply.Reply}
@@ -19,7 +19,7 @@ pub record IsBehind (f : Frame) (pid fd : ℕ) (e : OpenFile) : Type 0 where
 
 entry_of : (f : Frame) (d : Option ℕ) (e : OpenFile) → entry_at f d ≡ Some e → d ≡ Some e.id
 entry_of f None e h = cc
-entry_of f (Some n) e h = go (at f.opens n) h
+entry_of f (Some n) e h = go _ h
   where
     go : (o : Option Open) → option_map (λ x. let b : OpenFile = record { id = n; entry = x } in b) o ≡ Some e → Some n ≡ Some e.id
     go None h = cc
@@ -27,25 +27,25 @@ entry_of f (Some n) e h = go (at f.opens n) h
 
 pub is_behind : (f : Frame) (pid fd : ℕ) (e : OpenFile) → behind f pid fd ≡ Some e → IsBehind f pid fd e
 unfolding behind
-is_behind f pid fd e h = go (living (at f.processes pid)) refl h
+is_behind f pid fd e h = go _ refl h
   where
     go : (p : Option Process) → living (at f.processes pid) ≡ p → behind_of p f fd ≡ Some e → IsBehind f pid fd e
     go None is h = cc
-    go (Some p) is h = record { process = p; lives = is; descriptor = entry_of f (at p.fds fd) e h; stands = behind_is f pid fd e (ap (λ q. behind_of q f fd) is ∙ h) }
+    go (Some p) is h = record { process = p; lives = is; descriptor = entry_of f _ e h; stands = behind_is f _ fd e (ap (λ q. behind_of q f fd) is ∙ h) }
 
 -- the descriptor makes a claimant
 pub claims_by : (f : Frame) (pid fd : ℕ) (e : OpenFile) → IsBehind f pid fd e → has_end f e.entry.object e.entry.end pid ≡ true
 claims_by f pid fd e b =
-    let o : ℕ = e.entry.object in
-    let end : ℕ = e.entry.end in
-    let on : is_on e.entry.object e.entry.end (at f.opens e.id) ≡ true = ap (is_on e.entry.object e.entry.end) b.stands
-    ∙ and_from (e.entry.object == e.entry.object) (e.entry.end == e.entry.end) (eq-eqb e.entry.object e.entry.object refl)
+    let o = e.entry.object in
+    let end = e.entry.end in
+    let on = ap (is_on e.entry.object e.entry.end) b.stands
+    ∙ and_from _ _ (eq-eqb e.entry.object e.entry.object refl)
     (eq-eqb e.entry.end e.entry.end refl) in
-    let some : list_any (λ d. option_map_or (λ k. is_on e.entry.object e.entry.end (at f.opens k)) d false) b.process.fds ≡ true =
+    let some =
     any_by (λ d. option_map_or (λ k. is_on e.entry.object e.entry.end (at f.opens k)) d false) refl b.process.fds fd
     (ap (λ d. option_map_or (λ k. is_on e.entry.object e.entry.end (at f.opens k)) d false) b.descriptor ∙ on) in
-    ap (λ q. option_map_or (λ q. not q.ended && list_any (λ d. option_map_or (λ k. is_on e.entry.object e.entry.end (at f.opens k)) d false) q.fds) q false) (is_living _ b.process b.lives)
-    ∙ and_from (not b.process.ended) _ (ap not (not_ended _ b.process b.lives)) some
+    ap (λ q. option_map_or (λ q. not q.ended && list_any (λ d. option_map_or (λ k. is_on e.entry.object e.entry.end (at f.opens k)) d false) q.fds) q false) (is_living _ _ b.lives)
+    ∙ and_from _ _ (ap not (not_ended _ _ b.lives)) some
 
 -- ---- other claims of one object
 pub reclaimed : (f : Frame) (o : ℕ) (h : Object → Object) → ((x : Object) → object_but (h x) ≡ object_but x) → ((x : Object) → (h x).label ≡ x.label)
@@ -67,8 +67,8 @@ reclaimed f o h same label fs claimants s =
 -- a claim more, of a claimant; or one fewer
 with_claim : (f : Frame) (o end : ℕ) (c : Option ℕ) → ((p : ℕ) → c ≡ Some p → has_end f o end p ≡ true) → FrameSound f → (m k p : ℕ) (x : Object)
     → at (change f.objects o (λ y. record y { claims = put y.claims end c })) m ≡ Some x → at x.claims k ≡ Some p → has_end f m k p ≡ true
-with_claim f o end c new s m k p x is claim = elim (at_change f.objects o (λ y. record y { claims = put y.claims end c }) m x is) [
-  | inl here ↦ elim (at_put here.was.claims end k c p (ap (λ y. at y.claims k) (sym here.same) ∙ claim)) [
+with_claim f o end c new s m k p x is claim = elim (at_change _ o _ m x is) [
+  | inl here ↦ elim (at_put _ _ k c p (ap (λ y. at y.claims k) (sym here.same) ∙ claim)) [
     | inl new_one ↦ (λ i. has_end f (here.here i) (new_one.0 i) p) ∙ new p new_one.1
     | inr old ↦ ap (λ n. has_end f n k p) here.here ∙ s.claims.claimant o k p here.was here.is_was old.1
   ]
@@ -84,8 +84,8 @@ module _ (f : Frame) (s : FrameSound f) where
 
   -- a claim is answered from the frame as it stands
   answered : (other : Option ℕ) (Q : Reply → Frame → Type 0) → ((a : Reply) → Q a f) → Ends (claimed other f) (Refused f) Q
-  answered other Q next = ends_kept (λ g. f ≡ g) (claimed other f) (Refused f) Q ((keeps_claimed (λ g. f ≡ g) other).led f refl)
-      (λ r g e. subst (λ (h : Frame). Follows f h) e (follows_itself f s)) (λ a g e. subst (λ (h : Frame). Q a h) e (next a))
+  answered other Q next = ends_kept _ (claimed other f) _ Q ((keeps_claimed _ _).led f refl)
+      (λ r g e. subst (λ h. Follows f h) e (follows_itself f s)) (λ a g e. subst (λ h. Q a h) e (next a))
 
   pub pex_ends : (pid fd : ℕ) → Ends (pex pid fd f) (Refused f) (Passed f)
   unfolding pex

@@ -1,8 +1,7 @@
 -- Frames that are one but for labels, those of open entries too, ceilings, frozen marks, privileges, claims, working directories and the log.
 use Rattle.std.proofs.Common.{◌≡◌, ℕ, false, refl}
 use Rattle.ix_label.specs.Category.{Categories, bottom}
-use Rattle.ix_model.specs.world.{Privs.no_privileges, World.{Frame, Object, Process, Open, change, no_claims}}
-use Rattle.ix_model.specs.rows.Rows.{change_object, change_process, change_open, observe, affect}
+use Rattle.ix_model.specs.{world.{Privs.no_privileges, World.{Frame, Object, Process, Open, change, no_claims}}, rows.Rows.{change_object, change_process, change_open, observe, affect}}
 use Rattle.ix_model.proofs.{tables.Tables.{SameBut, same_itself, same_changed}, words.Keeps.{Holds, Keeps, keeping}}
 
 -- an object by its kind, its file system and its names
@@ -26,17 +25,17 @@ pub record Floats (f g : Frame) : Type 0 where
   pub opens : SameBut open_but f.opens g.opens
 
 pub floats_itself : (f : Frame) → Floats f f
-floats_itself f = record { limits = refl; fss = refl; objects = same_itself object_but f.objects; processes = same_itself process_but f.processes; opens = same_itself open_but f.opens }
+floats_itself f = record { limits = refl; fss = refl; objects = same_itself _ _; processes = same_itself _ _; opens = same_itself _ _ }
 
 -- one change
 pub floats_object : (f g : Frame) (o : ℕ) (h : Object → Object) → ((x : Object) → object_but (h x) ≡ object_but x) → Floats f g → Floats f (record g { objects = change g.objects o h })
-floats_object f g o h same r = record { limits = r.limits; fss = r.fss; objects = same_changed object_but _ _ o h same r.objects; processes = r.processes; opens = r.opens }
+floats_object f g o h same r = let objects = same_changed object_but _ _ o h same r.objects in search
 
 pub floats_process : (f g : Frame) (p : ℕ) (h : Process → Process) → ((q : Process) → process_but (h q) ≡ process_but q) → Floats f g → Floats f (record g { processes = change g.processes p h })
-floats_process f g p h same r = record { limits = r.limits; fss = r.fss; objects = r.objects; processes = same_changed process_but _ _ p h same r.processes; opens = r.opens }
+floats_process f g p h same r = let processes = same_changed process_but _ _ p h same r.processes in search
 
 pub floats_open : (f g : Frame) (e : ℕ) (h : Open → Open) → ((x : Open) → open_but (h x) ≡ open_but x) → Floats f g → Floats f (record g { opens = change g.opens e h })
-floats_open f g e h same r = record { limits = r.limits; fss = r.fss; objects = r.objects; processes = r.processes; opens = same_changed open_but _ _ e h same r.opens }
+floats_open f g e h same r = let opens = same_changed open_but _ _ e h same r.opens in search
 
 module _ (f : Frame) where
   pub floats_change_object : (o : ℕ) (h : Object → Object) → ((x : Object) → object_but (h x) ≡ object_but x) → Keeps (Floats f) (change_object o h)
@@ -45,7 +44,7 @@ module _ (f : Frame) where
 
   pub floats_change_process : (pid : ℕ) (h : Process → Process) → ((p : Process) → process_but (h p) ≡ process_but p) → Keeps (Floats f) (change_process pid h)
   unfolding change_process Holds
-  floats_change_process pid h same = record { led = λ g r. floats_process f g pid h same r }
+  floats_change_process pid h same = record { led = λ g r. floats_process f g _ h same r }
 
   pub floats_change_open : (e : ℕ) (h : Open → Open) → ((x : Open) → open_but (h x) ≡ open_but x) → Keeps (Floats f) (change_open e h)
   unfolding change_open Holds

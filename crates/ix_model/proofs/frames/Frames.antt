@@ -1,12 +1,10 @@
 -- Sound frames: all that is said of a sound world but its lengths. What a frame that is one but for labels and the like keeps.
 use Rattle.std.proofs.Common.{◌≡◌, ◌≤◌, ℕ, List, Some, option_map, true, refl, ap, ◌∙◌, length}
 use Rattle.ix_label.specs.Category.{Categories, leq}
-use Rattle.ix_model.specs.{world.World.{World, Frame, Content, Object, Process, Open, at, change, ceiling_of}, declared.config.FsSpec.FsSpec}
-use Rattle.ix_model.specs.rows.Rows.{change_object, change_process, change_open, observe, affect}
+use Rattle.ix_model.specs.{world.World.{World, Frame, Content, Object, Process, Open, at, change, ceiling_of}, declared.config.FsSpec.FsSpec, laws.Sound.{HoldingsSound, Sound}}
+use Rattle.ix_model.{specs.rows.Rows.{change_object, change_process, change_open, observe, affect}, proofs.tables.SameKinds.{Kinds, kinds_itself, kinds_floats}}
 use Rattle.ix_model.specs.laws.Sound.{LabelsBelow, NamesSound, LivesSound, OpensSound, ProcessesSound, ClaimsSound, WithinLimits, LengthsSound, ShapesSound}
-use Rattle.ix_model.specs.laws.Sound.{HoldingsSound, Sound}
-use Rattle.ix_model.proofs.{tables.Tables.seen_changed, tables.Labels.{labels_object, labels_process, labels_observed, labels_affected}}
-use Rattle.ix_model.proofs.tables.SameKinds.{Kinds, kinds_itself, kinds_floats}
+use Rattle.ix_model.proofs.tables.{Tables.seen_changed, Labels.{labels_object, labels_process, labels_observed, labels_affected}}
 use Rattle.ix_model.proofs.words.{Keeps.{Holds, Keeps}, Ends.{Ends, kept_ends}, Looks.{ends_observe, ends_affect}}
 use Rattle.ix_model.proofs.frames.Floats.{Floats, object_but, process_but, open_but, floats_open, floats_itself, floats_object, floats_process}
 use Rattle.ix_model.proofs.frames.Floated.{names_floated, lives_floated, opens_floated, processes_floated, claims_floated, limits_floated}
@@ -21,7 +19,7 @@ pub record FrameSound (f : Frame) : Type 0 where
   pub limits : WithinLimits f
 
 pub frame_of : (w : World) → Sound w → FrameSound w.frame
-frame_of w s = record { labels = s.labels; names = s.names; lives = s.lives; opens = s.opens; processes = s.processes; claims = s.claims; limits = s.limits }
+frame_of w s = search
 
 -- sound but for what stands at a number and what it may hold
 pub record Measured (w : World) : Type 0 where
@@ -29,23 +27,11 @@ pub record Measured (w : World) : Type 0 where
   pub lengths : LengthsSound w
 
 pub measured_of : (g : Frame) (c : Content) → FrameSound g → LengthsSound (record { frame = g; content = c }) → Measured (record { frame = g; content = c })
-measured_of g c s lengths = record { frame = s; lengths = lengths }
+measured_of g c s lengths = search
 
 pub whole_of : (w : World) → Measured w → ShapesSound w.frame → HoldingsSound w → Sound w
 whole_of w m shapes holdings = let s = m.frame in
-    record {
-      labels = s.labels;
-      names = s.names;
-      lives = s.lives;
-      opens = s.opens;
-      processes = s.processes;
-      claims = s.claims;
-      limits = s.limits;
-      lengths =
-          m.lengths;
-      shapes = shapes;
-      holdings = holdings;
-    }
+    search
 
 -- a frame that may follow a frame: a sound one, in which what stays is of the same kind
 pub record Follows (f g : Frame) : Type 0 where
@@ -53,7 +39,7 @@ pub record Follows (f g : Frame) : Type 0 where
   pub kinds : Kinds f.objects g.objects
 
 pub follows_itself : (f : Frame) → FrameSound f → Follows f f
-follows_itself f s = record { sound = s; kinds = kinds_itself f.objects }
+follows_itself f s = record { sound = s; kinds = kinds_itself _ }
 
 -- ---- one but for labels and the like
 -- the working directories and the claims are as they were
@@ -78,14 +64,14 @@ steady_object : (g : Frame) (o : ℕ) (h : Object → Object) → ((x : Object) 
 steady_object g o h same claims = record {
   floats = floats_object g g o h same (floats_itself g);
   homes = λ n. refl;
-  claims = λ n. seen_changed (option_map (λ (x : Object). x.claims)) h (λ x. ap Some (claims x)) g.objects o n;
+  claims = λ n. seen_changed (option_map (λ x. x.claims)) h (λ x. ap Some (claims x)) g.objects o n;
 }
 
 steady_process : (g : Frame) (p : ℕ) (h : Process → Process) → ((q : Process) → process_but (h q) ≡ process_but q) → ((q : Process) → (h q).cwd ≡ q.cwd)
     → Steady g (record g { processes = change g.processes p h })
 steady_process g p h same homes = record {
   floats = floats_process g g p h same (floats_itself g);
-  homes = λ n. seen_changed (option_map (λ (q : Process). q.cwd)) h (λ q. ap Some (homes q)) g.processes p n;
+  homes = λ n. seen_changed (option_map (λ q. q.cwd)) h (λ q. ap Some (homes q)) g.processes p n;
   claims = λ n. refl;
 }
 

@@ -1,14 +1,12 @@
 -- An object goes.
-use Rattle.std.proofs.Common.{◌≡◌, ◌≢◌, ◌<◌, ◌==◌, ℕ, Bool, true, false, true≢false, not, ◌&&◌, ◌||◌, List, [], map, sum, length, count_by, Option, Some, None}
+use Rattle.std.{proofs.Common.{◌≡◌, ◌≢◌, ◌<◌, ◌==◌, ℕ, Bool, true, false, true≢false, not, ◌&&◌, ◌||◌, List, [], map, sum, length, count_by, Option, Some, None}, specs.Option.option_map_or}
 use Rattle.std.proofs.Common.{refl, sym, ap, ◌∙◌, arith, ◌⊎◌, inl, inr, length-set}
-use Rattle.std.specs.Option.{option_map_or}
 use Rattle.std.proofs.lemmas.{Bool.{and_from, or_parts, or_cases, and_parts, not-true, not-false, eqb-true, eq-eqb, cases_lt}, List.get_or-set_other}
-use Rattle.ix_model.specs.world.World.{Frame, Object, Process, Open, at, put, is_file, is_dir, is_pipe, is_on, held, living}
+use Rattle.ix_model.specs.{world.World.{Frame, Object, Process, Open, at, put, is_file, is_dir, is_pipe, is_on, held, living}, declared.{refusal.Refusal.Refusal, reply.Kind.Kind}}
 use Rattle.ix_model.specs.{world.Owners.{times_in, times_named, names_in_all}, rows.{Rows.put_object, Lifetimes.{stays, let_go_object}}}
-use Rattle.ix_model.specs.declared.{refusal.Refusal.Refusal, reply.Kind.Kind}
-use Rattle.ix_model.specs.declared.reply.Kind.TheVariants as kind
 use Rattle.ix_model.proofs.tables.{Finds.{at_put, any_by, in_table, passes_some, sum_put, sum_at, sum_zero}, Labels.labels_put_object}
 use Rattle.ix_model.proofs.{frames.{Frames.FrameSound, Awaiting.{Awaiting, Arrived, arrived}}, words.Ends.{Ends, ends_only_if}}
+use Rattle.ix_model.specs.declared.reply.Kind.TheVariants as kind
 
 -- an object that nothing needs
 pub record IsUnneeded (f : Frame) (o : ℕ) (x : Object) : Type 0 where
@@ -28,24 +26,24 @@ module _ (f : Frame) (o : ℕ) (x : Object) (u : IsUnneeded f o x) where
 
   -- what stands stood, at another number
   stood : (m : ℕ) (y : Object) → at left m ≡ Some y → (m ≢ o) × (at f.objects m ≡ Some y)
-  stood m y is = elim (at_put f.objects o m None y is) [
-    | inl here ↦ let e : None ≡ Some y = here.1 in cc
+  stood m y is = elim (at_put _ o m _ y is) [
+    | inl here ↦ let e = here.1 in cc
     | inr apart ↦ apart
   ]
 
   sum_left : (F : Option Object → ℕ) → F None ≡ 0 → F (Some x) ≡ 0 → sum (map F left) ≡ sum (map F f.objects)
   sum_left F none here =
-      let before : F (at f.objects o) ≡ 0 = ap F u.there ∙ here in
+      let before = ap F u.there ∙ here in
       omega (arith, sum_put F f.objects o None (in_table f.objects o x u.there), before, none)
 
   times_left : (m : ℕ) → times_named left m ≡ times_named f.objects m
-  times_left m = sum_left (times_in m) refl (ap (count_by (λ n. n.1 == m)) u.nameless)
+  times_left m = sum_left _ refl (ap (count_by (λ n. n.1 == m)) u.nameless)
 
   -- nothing names it
   named_other : (d m : ℕ) (y : Object) → at f.objects d ≡ Some y → 0 < count_by (λ n. n.1 == m) y.names → m ≢ o
   named_other d m y is some same =
-      let here : times_in m (at f.objects d) ≡ count_by (λ n. n.1 == m) y.names = ap (times_in m) is in
-      let none : times_named f.objects m ≡ 0 = ap (times_named f.objects) same ∙ u.unnamed in
+      let here = ap (times_in m) is in
+      let none = ap (times_named f.objects) same ∙ u.unnamed in
       absurd (omega (arith, sum_at (times_in m) refl f.objects d, here, none, some))
 
   pub gone_sound : Awaiting o f → FrameSound (record f { objects = left })
@@ -94,7 +92,7 @@ module _ (f : Frame) (o : ℕ) (x : Object) (u : IsUnneeded f o x) where
 -- ---- an object that goes where it doesn't stay
 -- what is no directory is a file or a pipe
 pub kinds_left : (x : Object) → is_dir x ≡ false → ((is_file x ≡ true) × (is_pipe x ≡ false)) ⊎ ((is_file x ≡ false) × (is_pipe x ≡ true))
-kinds_left x h = go x.kind h
+kinds_left x h = go _ h
   where
     go : (k : Kind) → (elim k [ kind.Dir ↦ true | _ ↦ false ]) ≡ false
         → (((elim k [ kind.File ↦ true | _ ↦ false ]) ≡ true) × ((elim k [ kind.Pipe ↦ true | _ ↦ false ]) ≡ false))
@@ -110,13 +108,13 @@ pub record GoesOn (f : Frame) (o : ℕ) (x : Object) : Type 0 where
 
 goes_on : (f : Frame) (o : ℕ) (x : Object) → stays f o x ≡ false → GoesOn f o x
 goes_on f o x h =
-    let p = or_parts (is_dir x || is_file x && (not (times_named f.objects o == 0) || held f.opens o 0)) (is_pipe x && (held f.opens o 0 || held f.opens o 1)) h in
+    let p = or_parts _ (is_pipe x && (held f.opens o 0 || held f.opens o 1)) h in
     let q = or_parts (is_dir x) (is_file x && (not (times_named f.objects o == 0) || held f.opens o 0)) p.0 in
     record {
       file = λ kind.
-          let r = or_parts (not (times_named f.objects o == 0)) (held f.opens o 0) (ap (λ b. b && (not (times_named f.objects o == 0) || held f.opens o 0)) (sym kind) ∙ q.1) in
+          let r = or_parts _ _ (ap (λ b. b && (not (times_named f.objects o == 0) || held f.opens o 0)) (sym kind) ∙ q.1) in
           (not-false _ r.0, r.1);
-      pipe = λ kind. or_parts (held f.opens o 0) (held f.opens o 1) (ap (λ b. b && (held f.opens o 0 || held f.opens o 1)) (sym kind) ∙ p.1);
+      pipe = λ kind. or_parts _ _ (ap (λ b. b && (held f.opens o 0 || held f.opens o 1)) (sym kind) ∙ p.1);
     }
 
 either_false : (b : Bool) → (b || false) ≡ true → b ≡ true
@@ -125,11 +123,11 @@ either_false false h = h
 
 module _ (f : Frame) (o : ℕ) (s : Awaiting o f) where
   on_end : (e : ℕ) (y : Open) (end : ℕ) → at f.opens e ≡ Some y → y.object ≡ o → (y.end == end) ≡ true → held f.opens o end ≡ true
-  on_end e y end is same at_end = any_by (is_on o end) refl f.opens e (ap (is_on o end) is ∙ and_from (y.object == o) (y.end == end) (eq-eqb y.object o same) at_end)
+  on_end e y end is same at_end = any_by (is_on o end) refl f.opens e (ap (is_on o end) is ∙ and_from _ _ (eq-eqb y.object o same) at_end)
 
   module _ (x : Object) (there : at f.objects o ≡ Some x) (no_dir : is_dir x ≡ false) where
     pipe_unnamed : is_pipe x ≡ true → times_named f.objects o ≡ 0
-    pipe_unnamed kind = sum_zero (times_in o) f.objects (λ n. go n (at f.objects n) refl)
+    pipe_unnamed kind = sum_zero (times_in o) f.objects (λ n. go n _ refl)
       where
         go : (n : ℕ) (y : Option Object) → at f.objects n ≡ y → times_in o (at f.objects n) ≡ 0
         go n None is = ap (times_in o) is
@@ -139,14 +137,14 @@ module _ (f : Frame) (o : ℕ) (s : Awaiting o f) where
         ]
 
     unopened : GoesOn f o x → (e : ℕ) (y : Open) → at f.opens e ≡ Some y → y.object ≢ o
-    unopened goes e y is same = elim (or_cases (y.end == 0) (y.end == 1 && option_map_or is_pipe (at f.objects y.object) false) (s.opens.end e y is)) [
+    unopened goes e y is same = elim (or_cases _ _ (s.opens.end e y is)) [
       | inl first ↦ elim (kinds_left x no_dir) [
         | inl file ↦ true≢false (sym (on_end e y 0 is same first) ∙ (goes.file file.0).1)
         | inr pipe ↦ true≢false (sym (on_end e y 0 is same first) ∙ (goes.pipe pipe.1).0)
       ]
       | inr second ↦
-          let p = and_parts (y.end == 1) (option_map_or is_pipe (at f.objects y.object) false) second in
-          let kind : is_pipe x ≡ true = sym (ap (λ z. option_map_or is_pipe z false) there) ∙ ap (λ n. option_map_or is_pipe (at f.objects n) false) (sym same) ∙ p.1 in
+          let p = and_parts _ _ second in
+          let kind = sym (ap (λ z. option_map_or is_pipe z false) there) ∙ ap (λ n. option_map_or is_pipe (at f.objects n) false) (sym same) ∙ p.1 in
           true≢false (sym (on_end e y 1 is same p.0) ∙ (goes.pipe kind).1)
     ]
 
@@ -167,21 +165,21 @@ module _ (f : Frame) (o : ℕ) (s : Awaiting o f) where
     stayed h = record {
       once = λ y is dir. absurd (true≢false (sym dir ∙ sym (ap (λ z. option_map_or is_dir z false) is) ∙ ap (λ z. option_map_or is_dir z false) there ∙ no_dir));
       file = λ y is kind.
-          let here : is_file x ≡ true = sym (ap (λ z. option_map_or is_file z false) there) ∙ ap (λ z. option_map_or is_file z false) is ∙ kind in
+          let here = sym (ap (λ z. option_map_or is_file z false) there) ∙ ap (λ z. option_map_or is_file z false) is ∙ kind in
           elim (kinds_left x no_dir) [
             | inl file ↦
-                let a : (false || true && (not (times_named f.objects o == 0) || held f.opens o 0) || false && (held f.opens o 0 || held f.opens o 1)) ≡ true =
+                let a =
                 (λ i. sym no_dir i || sym file.0 i && (not (times_named f.objects o == 0) || held f.opens o 0) || sym file.1 i
                 && (held f.opens o 0 || held f.opens o 1)) ∙ h in
                 either_false _ a
             | inr pipe ↦ absurd (true≢false (sym here ∙ pipe.0))
           ];
       pipe = λ y is kind.
-          let here : is_pipe x ≡ true = sym (ap (λ z. option_map_or is_pipe z false) there) ∙ ap (λ z. option_map_or is_pipe z false) is ∙ kind in
+          let here = sym (ap (λ z. option_map_or is_pipe z false) there) ∙ ap (λ z. option_map_or is_pipe z false) is ∙ kind in
           elim (kinds_left x no_dir) [
             | inl file ↦ absurd (true≢false (sym here ∙ file.1))
             | inr pipe ↦
-                let a : (false || false && (not (times_named f.objects o == 0) || held f.opens o 0) || true && (held f.opens o 0 || held f.opens o 1)) ≡ true =
+                let a =
                 (λ i. sym no_dir i || sym pipe.0 i && (not (times_named f.objects o == 0) || held f.opens o 0) || sym pipe.1 i
                 && (held f.opens o 0 || held f.opens o 1)) ∙ h in
                 a
@@ -193,20 +191,20 @@ pub object_released : (f : Frame) (o : ℕ) (P : Refusal → Frame → Type 0) (
     → option_map_or is_dir (at f.objects o) false ≡ false → (FrameSound f → Q tt f) → (FrameSound (record f { objects = put f.objects o None })
     → Q tt (record f { objects = put f.objects o None })) → Ends (let_go_object o f) P Q
 unfolding let_go_object put_object Ends
-object_released f o P Q s no_dir kept gone = ends_only_if (option_map_or (λ x. not (stays f o x)) (at f.objects o) false) (put_object o None) f P Q
+object_released f o P Q s no_dir kept gone = ends_only_if _ (put_object o None) f P Q
     (λ goes.
-    let x = passes_some (λ y. option_map_or (λ z. not (stays f o z)) y false) refl (at f.objects o) goes in
-    let other : is_dir x.0 ≡ false = sym (ap (λ y. option_map_or is_dir y false) x.1) ∙ no_dir in
-    let leaves : stays f o x.0 ≡ false = not-true _ (sym (ap (λ y. option_map_or (λ z. not (stays f o z)) y false) x.1) ∙ goes) in
-    gone (gone_sound f o x.0 (unneeded f o s x.0 x.1 other (goes_on f o x.0 leaves)) s))
-    (λ remains. kept (arrived o f s (here (at f.objects o) refl remains no_dir)))
+    let x = passes_some (λ y. option_map_or (λ z. not (stays f o z)) y false) refl _ goes in
+    let other = sym (ap (λ y. option_map_or is_dir y false) x.1) ∙ no_dir in
+    let leaves = not-true _ (sym (ap (λ y. option_map_or (λ z. not (stays f o z)) y false) x.1) ∙ goes) in
+    gone (gone_sound f o x.0 (unneeded f o s x.0 x.1 other (goes_on f o _ leaves)) s))
+    (λ remains. kept (arrived o f s (here _ refl remains no_dir)))
   where
     here : (y : Option Object) → at f.objects o ≡ y → option_map_or (λ z. not (stays f o z)) (at f.objects o) false ≡ false → option_map_or is_dir (at f.objects o) false ≡ false → Arrived o f
     here None is remains other = record {
-      once = λ x there kind. let e : None ≡ Some x = sym is ∙ there in
+      once = λ x there kind. let e = sym is ∙ there in
           cc;
-      file = λ x there kind. let e : None ≡ Some x = sym is ∙ there in cc;
-      pipe = λ x there kind. let e : None ≡ Some x = sym is ∙ there in cc;
+      file = λ x there kind. let e = sym is ∙ there in cc;
+      pipe = λ x there kind. let e = sym is ∙ there in cc;
     }
     here (Some x) is remains other = stayed f o s x is (sym (ap (λ y. option_map_or is_dir y false) is)
         ∙ other) (not-false _ (sym (ap (λ y. option_map_or (λ z. not (stays f o z)) y false) is) ∙ remains))

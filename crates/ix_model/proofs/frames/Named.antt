@@ -1,14 +1,12 @@
 -- A name more, and a name fewer, in one directory.
-use Rattle.std.proofs.Common.{◌≡◌, ◌≢◌, ◌<◌, ◌≤◌, ◌+◌, ◌==◌, ℕ, Bool, true, false, true≢false, not, ◌&&◌, ◌||◌, List, [], ◌∷◌, ◌++◌, map, sum, length, count_by}
+use Rattle.std.proofs.Common.{◌≡◌, ◌≢◌, ◌<◌, ◌≤◌, ◌+◌, ◌==◌, ℕ, Bool, true, false, true≢false, not, ◌&&◌, ◌||◌, List, [], ◌∷◌, ◌++◌, map, sum, length, count_by, length-append}
 use Rattle.std.proofs.Common.{cond, Option, Some, None, is_none, option_map, if◌then◌else◌, refl, sym, ap, ◌∙◌, subst, arith, inl, inr, length-set}
-use Rattle.std.proofs.Common.{length-append}
 use Rattle.std.{specs.Option.option_map_or, proofs.lemmas.Bool.{Decides.eqb_tells, ltb-true, ne_eqb, eq-eqb}}
-use Rattle.ix_model.specs.{world.Directories.{with_name, without_name, has_room_for_a_name}, world.Owners.{times_in, times_named, names_in_all}}
+use Rattle.ix_model.specs.world.{Directories.{with_name, without_name, has_room_for_a_name}, Owners.{times_named, names_in_all}}
 use Rattle.ix_model.specs.{world.World.{Frame, Object, at, change, is_file, is_dir, is_pipe, held}, rows.Walks.child, opening.Valid.all_differ}
-use Rattle.ix_model.specs.laws.Sound.{OpensSound, ProcessesSound, ClaimsSound, WithinLimits}
-use Rattle.ix_model.proofs.{tables.Tables.seen_changed, tables.Finds.{in_table, at_change, sum_put}, tables.Labels.labels_object}
+use Rattle.ix_model.{specs.laws.Sound.{OpensSound, ProcessesSound, ClaimsSound, WithinLimits}, proofs.frames.{Frames.FrameSound, Awaiting.{NamesBut, LivesBut, Awaiting, arrived}}}
+use Rattle.ix_model.proofs.tables.{Tables.seen_changed, Finds.{in_table, at_change, sum_put}, Labels.labels_object}
 use Rattle.ix_model.proofs.tables.Listed.{Names, count_more, differ_more, others, count_out, differ_fewer, length_fewer}
-use Rattle.ix_model.proofs.frames.{Frames.FrameSound, Awaiting.{NamesBut, LivesBut, Awaiting, arrived}}
 
 -- an object with other names
 abbrev pub renaming : (Names → Names) → Object → Object
@@ -20,22 +18,22 @@ module _ (f : Frame) (d : ℕ) (x : Object) (is : at f.objects d ≡ Some x) (di
 
   -- a test that doesn't look at names
   sees : {B : Type 0} (F : Option Object → B) → ((y : Object) → F (Some (renaming k y)) ≡ F (Some y)) → (m : ℕ) → F (at renamed m) ≡ F (at f.objects m)
-  sees F blind m = seen_changed F (renaming k) blind f.objects d m
+  sees F blind m = seen_changed F _ blind _ d m
 
   sum_renamed : (F : Option Object → ℕ) → sum (map F renamed) + F (Some x) ≡ sum (map F f.objects) + F (Some (renaming k x))
   sum_renamed F =
-      let one : F (at f.objects d) ≡ F (Some x) = ap F is in
-      let two : F (option_map (renaming k) (at f.objects d)) ≡ F (Some (renaming k x)) = ap (λ y. F (option_map (renaming k) y)) is in
+      let one = ap F is in
+      let two = ap (λ y. F (option_map (renaming k) y)) is in
       omega (arith, one, two, sum_put F f.objects d (option_map (renaming k) (at f.objects d)) (in_table f.objects d x is))
 
   pub times_renamed : (m : ℕ) → times_named renamed m + count_by (λ n. n.1 == m) x.names ≡ times_named f.objects m + count_by (λ n. n.1 == m) (k x.names)
-  times_renamed m = sum_renamed (times_in m)
+  times_renamed m = sum_renamed _
 
   pub names_in_renamed : names_in_all renamed + length x.names ≡ names_in_all f.objects + length (k x.names)
-  names_in_renamed = sum_renamed (λ y. option_map_or (λ z. length z.names) y 0)
+  names_in_renamed = sum_renamed _
 
   it_is : (y : Object) → at f.objects d ≡ Some y → x ≡ y
-  it_is y here = let e : Some x ≡ Some y = sym is ∙ here in cc
+  it_is y here = let e = sym is ∙ here in cc
 
   -- what is said of the new list of names, of an object o
   module _ (o : ℕ) (named : (m : ℕ) → 0 < count_by (λ n. n.1 == m) (k x.names) → option_map_or (λ y. not (is_pipe y)) (at f.objects m) false ≡ true)
@@ -47,21 +45,21 @@ module _ (f : Frame) (d : ℕ) (x : Object) (is : at f.objects d ≡ Some x) (di
     names_renamed : NamesBut o f → NamesBut o (record f { objects = renamed })
     names_renamed n = record {
       root = sees (λ y. option_map_or is_dir y false) (λ y. refl) 0 ∙ n.root;
-      in_directories = λ e y here other. elim (at_change f.objects d (renaming k) e y here) [
-        | inl c ↦ absurd (true≢false (sym dir ∙ ap is_dir (it_is c.was c.is_was) ∙ ap is_dir (sym c.same) ∙ other))
+      in_directories = λ e y here other. elim (at_change _ d _ e y here) [
+        | inl c ↦ absurd (true≢false (sym dir ∙ ap is_dir (it_is _ c.is_was) ∙ ap is_dir (sym c.same) ∙ other))
         | inr apart ↦ n.in_directories e y apart.1 other
       ];
-      living = λ e m y here some. sees (λ z. option_map_or (λ y. not (is_pipe y)) z false) (λ z. refl) m ∙ elim (at_change f.objects d (renaming k) e y here) [
+      living = λ e m y here some. sees (λ z. option_map_or (λ y. not (is_pipe y)) z false) (λ z. refl) m ∙ elim (at_change _ d _ e y here) [
         | inl c ↦
-            let list : y.names ≡ k x.names = ap (λ z. z.names) c.same ∙ ap (λ z. k z.names) (sym (it_is c.was c.is_was)) in
-            named m (subst (λ (ns : Names). 0 < count_by (λ n. n.1 == m) ns) list some)
+            let list = ap (λ z. z.names) c.same ∙ ap (λ z. k z.names) (sym (it_is _ c.is_was)) in
+            named m (subst (λ ns. 0 < count_by (λ n. n.1 == m) ns) list some)
         | inr apart ↦ n.living e m y apart.1 some
       ];
-      differ = λ e y here. elim (at_change f.objects d (renaming k) e y here) [
-        | inl c ↦ ap (λ z. all_differ (map (λ n. n.0) z.names)) c.same ∙ ap (λ z. all_differ (map (λ n. n.0) (k z.names))) (sym (it_is c.was c.is_was)) ∙ differ
+      differ = λ e y here. elim (at_change _ d _ e y here) [
+        | inl c ↦ ap (λ z. all_differ (map (λ n. n.0) z.names)) c.same ∙ ap (λ z. all_differ (map (λ n. n.0) (k z.names))) (sym (it_is _ c.is_was)) ∙ differ
         | inr apart ↦ n.differ e y apart.1
       ];
-      once = λ m y other here is_d. times_apart m other ∙ elim (at_change f.objects d (renaming k) m y here) [
+      once = λ m y other here is_d. times_apart m other ∙ elim (at_change _ d _ m y here) [
         | inl c ↦ n.once m c.was other (ap (at f.objects) c.here ∙ c.is_was) (ap is_dir (sym c.same) ∙ is_d)
         | inr apart ↦ n.once m y other apart.1 is_d
       ];
@@ -69,11 +67,11 @@ module _ (f : Frame) (d : ℕ) (x : Object) (is : at f.objects d ≡ Some x) (di
 
     lives_renamed : LivesBut o f → LivesBut o (record f { objects = renamed })
     lives_renamed l = record {
-      file = λ m y other here kind. ap (λ t. not (t == 0) || held f.opens m 0) (times_apart m other) ∙ elim (at_change f.objects d (renaming k) m y here) [
+      file = λ m y other here kind. ap (λ t. not (t == 0) || held f.opens m 0) (times_apart m other) ∙ elim (at_change _ d _ m y here) [
         | inl c ↦ l.file m c.was other (ap (at f.objects) c.here ∙ c.is_was) (ap is_file (sym c.same) ∙ kind)
         | inr apart ↦ l.file m y other apart.1 kind
       ];
-      pipe = λ m y other here kind. elim (at_change f.objects d (renaming k) m y here) [
+      pipe = λ m y other here kind. elim (at_change _ d _ m y here) [
         | inl c ↦ l.pipe m c.was other (ap (at f.objects) c.here ∙ c.is_was) (ap is_pipe (sym c.same) ∙ kind)
         | inr apart ↦ l.pipe m y other apart.1 kind
       ];
@@ -92,7 +90,7 @@ module _ (f : Frame) (d : ℕ) (x : Object) (is : at f.objects d ≡ Some x) (di
 
     claims_renamed : ClaimsSound f → ClaimsSound (record f { objects = renamed })
     claims_renamed r = record {
-      claimant = λ m end p y here claim. elim (at_change f.objects d (renaming k) m y here) [
+      claimant = λ m end p y here claim. elim (at_change _ d _ m y here) [
         | inl c ↦ r.claimant m end p c.was (ap (at f.objects) c.here ∙ c.is_was) (ap (λ z. at z.claims end) (sym c.same) ∙ claim)
         | inr apart ↦ r.claimant m end p y apart.1 claim
       ];
@@ -100,16 +98,16 @@ module _ (f : Frame) (d : ℕ) (x : Object) (is : at f.objects d ≡ Some x) (di
 
     limits_renamed : WithinLimits f → WithinLimits (record f { objects = renamed })
     limits_renamed l = record {
-      objects = length-set f.objects d (option_map (renaming k) (at f.objects d)) ∙ l.objects;
-      pipes = λ m y here. elim (at_change f.objects d (renaming k) m y here) [
+      objects = length-set f.objects d _ ∙ l.objects;
+      pipes = λ m y here. elim (at_change _ d _ m y here) [
         | inl c ↦ ap (λ z. is_none z.fs) c.same ∙ l.pipes m c.was (ap (at f.objects) c.here ∙ c.is_was) ∙ ap is_pipe (sym c.same)
         | inr apart ↦ l.pipes m y apart.1
       ];
-      past = λ m y here kind. elim (at_change f.objects d (renaming k) m y here) [
+      past = λ m y here kind. elim (at_change _ d _ m y here) [
         | inl c ↦ l.past m c.was (ap (at f.objects) c.here ∙ c.is_was) (ap is_pipe (sym c.same) ∙ kind)
         | inr apart ↦ l.past m y apart.1 kind
       ];
-      numbers = λ m j y here on. elim (at_change f.objects d (renaming k) m y here) [
+      numbers = λ m j y here on. elim (at_change _ d _ m y here) [
         | inl c ↦ l.numbers m j c.was (ap (at f.objects) c.here ∙ c.is_was) (ap (λ z. z.fs) (sym c.same) ∙ on)
         | inr apart ↦ l.numbers m j y apart.1 on
       ];
@@ -121,7 +119,7 @@ module _ (f : Frame) (d : ℕ) (x : Object) (is : at f.objects d ≡ Some x) (di
 
     pub awaiting_renamed : Awaiting o f → Awaiting o (record f { objects = renamed })
     awaiting_renamed s = record {
-      labels = labels_object f s.labels d (renaming k) (λ y here. s.labels.objects d y here);
+      labels = labels_object f s.labels d _ (λ y here. s.labels.objects d y here);
       names = names_renamed s.names;
       lives = lives_renamed s.lives;
       opens = opens_renamed s.opens;
@@ -143,7 +141,7 @@ module _ (f : Frame) (d o : ℕ) (x y : Object) (name : List ℕ) (is : at f.obj
   few_more : names_in_all (change f.objects d (with_name name o)) ≤ f.limits.names
   unfolding has_room_for_a_name
   few_more =
-      let low = ltb-true (names_in_all f.objects) f.limits.names room in
+      let low = ltb-true _ f.limits.names room in
       let n = names_in_renamed f d x is dir more in
       omega (arith, n, low, length-append x.names ((name, o) ∷ []))
 
@@ -151,13 +149,13 @@ module _ (f : Frame) (d o : ℕ) (x y : Object) (name : List ℕ) (is : at f.obj
   names_it s m some = elim (eqb_tells o m) [
     | inl same ↦ ap (λ n. option_map_or (λ z. not (is_pipe z)) (at f.objects n) false) (sym same.1) ∙ ap (λ z. option_map_or (λ z. not (is_pipe z)) z false) there ∙ ap not no_pipe
     | inr other ↦
-        let zero_more : cond {A = ℕ} (o == m) 1 0 ≡ 0 = ap (λ b. cond {A = ℕ} b 1 0) other.0 in
+        let zero_more : cond {A = ℕ} (o == m) 1 0 ≡ 0 = ap (λ b. cond b 1 0) other.0 in
         s.names.living d m x is (omega (arith, count_more m o name x.names, zero_more, some))
   ]
 
   counts_apart : (m : ℕ) → m ≢ o → count_by (λ n. n.1 == m) (more x.names) ≡ count_by (λ n. n.1 == m) x.names
   counts_apart m other =
-      let zero_more : cond {A = ℕ} (o == m) 1 0 ≡ 0 = ap (λ b. cond {A = ℕ} b 1 0) (ne_eqb o m (λ e. other (sym e))) in
+      let zero_more : cond {A = ℕ} (o == m) 1 0 ≡ 0 = ap (λ b. cond b 1 0) (ne_eqb o m (λ e. other (sym e))) in
       omega (arith, count_more m o name x.names, zero_more)
 
   -- the object has that name, and whatever it needs to be named for
@@ -192,7 +190,7 @@ module _ (f : Frame) (d o : ℕ) (x : Object) (name : List ℕ) (is : at f.objec
   -- it is named once less
   pub times_fewer : NamesBut o f → times_named (change f.objects d (without_name name)) o + 1 ≡ times_named f.objects o
   times_fewer n =
-      let one_less : cond {A = ℕ} (o == o) 1 0 ≡ 1 = ap (λ b. cond {A = ℕ} b 1 0) (eq-eqb o o refl) in
+      let one_less : cond {A = ℕ} (o == o) 1 0 ≡ 1 = ap (λ b. cond b 1 0) (eq-eqb o o refl) in
       omega (arith, times_renamed f d x is dir fewer o, counted n o, one_less)
 
   pub unnamed : Awaiting o f → Awaiting o (record f { objects = change f.objects d (without_name name) })

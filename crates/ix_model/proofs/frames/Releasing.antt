@@ -1,15 +1,13 @@
 -- An open entry without an owner goes, and with it the object that it alone kept.
-use Rattle.std.proofs.Common.{◌≡◌, ◌≢◌, ◌==◌, ℕ, true, false, not, List, Option, Some, None, is_some, refl, sym, ap, ◌∙◌, inl, inr, length-set}
-use Rattle.std.specs.{Option.option_map_or, List.list_any}
+use Rattle.std.{proofs.Common.{◌≡◌, ◌≢◌, ◌==◌, ℕ, true, false, not, List, Option, Some, None, is_some, refl, sym, ap, ◌∙◌, inl, inr, length-set}, specs.{Option.option_map_or, List.list_any}}
 use Rattle.std.proofs.lemmas.{Bool.{and_from, and_parts, eq-eqb, eqb-true, not-true, not-false, Decides.eqb_tells}, List.get_or-set_other}
-use Rattle.ix_model.specs.{world.World.{Frame, Object, Process, Open, at, put, change, living, is_dir, is_on, held}, declared.refusal.Refusal.Refusal}
-use Rattle.ix_model.specs.world.Owners.{times_named, is_at, owns, owned}
+use Rattle.ix_model.specs.{world.{World.{Frame, Object, Process, Open, at, put, change, living, is_dir, is_on, held}, Owners.{is_at, owns, owned}}, declared.refusal.Refusal.Refusal}
 use Rattle.ix_model.specs.rows.{Walks.{OpenFile, behind}, Rows.{◌>>◌, put_open}, Lifetimes.{has_lost, let_go_claim, let_go_open, let_go_object, let_go}}
-use Rattle.ix_model.proofs.{tables.Tables.seen_changed, tables.Finds.{at_put, any_by, any_into, no_any, passes_some}, frames.Floated.has_on}
+use Rattle.ix_model.proofs.{tables.{Tables.seen_changed, Finds.{at_put, any_by, any_into, no_any, passes_some}}, frames.Floated.has_on}
 use Rattle.ix_model.proofs.{tables.SameKinds.{Kinds, kinds_floats, kinds_gone}, words.Living.{is_living, not_ended, lives_as}, frames.Gone.object_released}
 use Rattle.ix_model.proofs.{words.Ends.{Ends, ends_then, ends_only_if, ends_change_object, ends_change_caller, ends_put_open}, frames.Claimants.is_behind}
-use Rattle.ix_model.proofs.{frames.Floats.{floats_itself, floats_object}, frames.Frames.{FrameSound, Follows}, frames.Given.{or_more, either_more}}
-use Rattle.ix_model.proofs.{frames.Awaiting.{Awaiting, awaiting, names_but}, frames.Loose.{Loose, loose_taken, loose_unclaimed, claims_kept}}
+use Rattle.ix_model.proofs.frames.{Floats.{floats_itself, floats_object}, Frames.{FrameSound, Follows}, Given.{or_more, either_more}}
+use Rattle.ix_model.proofs.frames.{Awaiting.{Awaiting, awaiting, names_but}, Loose.{Loose, loose_taken, loose_unclaimed, claims_kept}}
 
 -- ---- the open entry
 module _ (e : ℕ) (f : Frame) (l : Loose e f) where
@@ -38,14 +36,14 @@ module _ (e : ℕ) (f : Frame) (l : Loose e f) where
 
     not_on : (n : ℕ) (q : Process) (fd : ℕ) → living (at f.processes n) ≡ Some q → at q.fds fd ≡ Some e → ⊥
     not_on n q fd lives on = no_any (owns e) refl f.processes lost n (ap (owns e) (is_living _ q lives)
-        ∙ and_from (not q.ended) (list_any (is_at e) q.fds) (ap not (not_ended _ q lives)) (any_by (is_at e) refl q.fds fd (ap (is_at e) on ∙ eq-eqb e e refl)))
+        ∙ and_from _ _ (ap not (not_ended _ q lives)) (any_by (is_at e) refl q.fds fd (ap (is_at e) on ∙ eq-eqb e e refl)))
 
     elsewhere : (n : ℕ) → n ≢ e → at left n ≡ at f.opens n
     elsewhere n other = get_or-set_other f.opens e n None None other
 
     stood : (n : ℕ) (z : Open) → at left n ≡ Some z → (n ≢ e) × (at f.opens n ≡ Some z)
-    stood n z is = elim (at_put f.opens e n None z is) [
-      | inl here ↦ let h : None ≡ Some z = here.1 in cc
+    stood n z is = elim (at_put _ e n _ z is) [
+      | inl here ↦ let h = here.1 in cc
       | inr apart ↦ apart
     ]
 
@@ -60,24 +58,24 @@ module _ (e : ℕ) (f : Frame) (l : Loose e f) where
     on_left : (n : ℕ) (q : Process) (m k : ℕ) → living (at f.processes n) ≡ Some q → list_any (λ d. option_map_or (λ j. is_on m k (at f.opens j)) d false) q.fds
         ≡ true → list_any (λ d. option_map_or (λ j. is_on m k (at left j)) d false) q.fds ≡ true
     on_left n q m k lives h = any_into (λ d. option_map_or (λ j. is_on m k (at f.opens j)) d false) (λ d. option_map_or (λ j. is_on m k (at left j)) d false) refl refl q.fds q.fds (λ fd on.
-        let d = passes_some (λ d. option_map_or (λ j. is_on m k (at f.opens j)) d false) refl (at q.fds fd) on in
+        let d = passes_some (λ d. option_map_or (λ j. is_on m k (at f.opens j)) d false) refl _ on in
         let apart : d.0 ≢ e = λ same. not_on n q fd lives (d.1 ∙ ap Some same) in
-        ap (λ o. option_map_or (λ j. is_on m k (at left j)) o false) d.1 ∙ ap (is_on m k) (elsewhere d.0 apart) ∙ ap (λ o. option_map_or (λ j. is_on m k (at f.opens j)) o false) (sym d.1) ∙ on) h
+        ap (λ o. option_map_or (λ j. is_on m k (at left j)) o false) d.1 ∙ ap (is_on m k) (elsewhere _ apart) ∙ ap (λ o. option_map_or (λ j. is_on m k (at f.opens j)) o false) (sym d.1) ∙ on) h
 
     has_left : (n m k : ℕ) → has_on f.opens m k (at f.processes n) ≡ true → has_on left m k (at f.processes n) ≡ true
     has_left n m k h =
         let q = passes_some (has_on f.opens m k) refl (at f.processes n) h in
-        let p = and_parts (not q.0.ended) (list_any (λ d. option_map_or (λ j. is_on m k (at f.opens j)) d false) q.0.fds) (ap (has_on f.opens m k) (sym q.1) ∙ h) in
-        ap (has_on left m k) q.1 ∙ and_from (not q.0.ended) _ p.0 (on_left n q.0 m k (lives_as _ q.0 q.1 (not-true _ p.0)) p.1)
+        let p = and_parts _ (list_any (λ d. option_map_or (λ j. is_on m k (at f.opens j)) d false) q.0.fds) (ap (has_on f.opens m k) (sym q.1) ∙ h) in
+        ap (has_on left m k) q.1 ∙ and_from _ _ p.0 (on_left n _ m k (lives_as _ _ q.1 (not-true _ p.0)) p.1)
 
     awaiting_left : Awaiting y.object (record f { opens = left })
     awaiting_left = record {
-      labels = record { objects = l.labels.objects; processes = l.labels.processes };
+      labels = search;
       names =
-          let n = names_but y.object f l.names in
+          let n = names_but _ f l.names in
           record { root = n.root; in_directories = n.in_directories; living = n.living; differ = n.differ; once = n.once };
       lives = record {
-        file = λ m x other is kind. or_more (not (times_named f.objects m == 0)) _ _ (held_left m 0 other) (l.lives.file m x is kind);
+        file = λ m x other is kind. or_more _ _ _ (held_left m 0 other) (l.lives.file m x is kind);
         pipe = λ m x other is kind. either_more _ _ _ _ (held_left m 0 other) (held_left m 1 other) (l.lives.pipe m x is kind);
       };
       opens = record {
@@ -85,25 +83,15 @@ module _ (e : ℕ) (f : Frame) (l : Loose e f) where
             let apart : e2 ≢ e = λ same. not_on n q fd lives (is ∙ ap Some same) in
             ap is_some (elsewhere e2 apart) ∙ l.opens.descriptor n q fd e2 lives is;
         owned = λ e2 stands.
-            let z = passes_some is_some refl (at left e2) stands in
-            let w = stood e2 z.0 z.1 in
+            let z = passes_some is_some refl _ stands in
+            let w = stood e2 _ z.1 in
             l.opens.owned e2 w.0 (ap is_some w.1);
         target = λ n z is. l.opens.target n z (stood n z is).1;
         end = λ n z is. l.opens.end n z (stood n z is).1;
       };
-      processes = record { none = l.processes.none; home = l.processes.home; parent = l.processes.parent; descriptors = l.processes.descriptors };
+      processes = search;
       claims = record { claimant = λ m k n x is claim. has_left n m k (l.claims.claimant m k n x is claim) };
-      limits = record {
-        objects = l.limits.objects;
-        pipes = l.limits.pipes;
-        past = l.limits.past;
-        numbers = l.limits.numbers;
-        opens = length-set f.opens e None
-            ∙ l.limits.opens;
-        processes = l.limits.processes;
-        names = l.limits.names;
-        log = l.limits.log;
-      };
+      limits = let opens = length-set f.opens e None ∙ l.limits.opens in search;
     }
 
 -- ---- the whole
@@ -117,15 +105,15 @@ module _ (base : Frame) (P : Refusal → Frame → Type 0) (Q : Unit {0} → Fra
       → Kinds base.objects f.objects → ((h : Frame) → Follows base h → h.processes ≡ f.processes → Q tt h)
       → Ends (◌>>◌ (let_go_open e) (let_go_object y.object) f) P Q
   unfolding let_go_open
-  released e f l y there no_dir kinds next = ends_then _ _ f P Q (ends_only_if (not (owned f.processes e)) (put_open e None) f P _
+  released e f l y there no_dir kinds next = ends_then _ _ f P Q (ends_only_if _ (put_open e None) f P _
       (λ lost.
       let g : Frame = record f { opens = put f.opens e None } in
-      ends_put_open e None f P _ (object_released g y.object P Q (awaiting_left e f l y there (not-true _ lost)) no_dir
+      ends_put_open e _ f P _ (object_released g _ P Q (awaiting_left e f l y there (not-true _ lost)) no_dir
       (λ sound. next _ (record { sound = sound; kinds = kinds }) refl)
       (λ sound. next _ (record { sound = sound; kinds = kinds_gone base.objects f.objects kinds y.object }) refl)))
       (λ own.
       let s = owned_sound e f l (not-false _ own) in
-      object_released f y.object P Q (awaiting y.object f s) no_dir
+      object_released f _ P Q (awaiting _ f s) no_dir
       (λ sound. next f (record { sound = sound; kinds = kinds }) refl)
       (λ sound. next _ (record { sound = sound; kinds = kinds_gone base.objects f.objects kinds y.object }) refl)))
 

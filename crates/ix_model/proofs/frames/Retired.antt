@@ -1,13 +1,10 @@
 -- A record that nothing needs is put in the place of a process, or none.
-use Rattle.std.proofs.Common.{◌≡◌, ◌≢◌, ◌≤◌, ℕ, Bool, true, false, true≢false, not, ◌&&◌, List, length, cond, Option, Some, None, is_some, refl, sym, ap, ◌∙◌}
-use Rattle.std.proofs.Common.{arith, inl, inr}
-use Rattle.std.specs.{Option.option_map_or, List.list_any}
-use Rattle.std.proofs.lemmas.{Bool.{Decides.eqb_tells, and_parts}, List.{get_or-set_other, Sums.sum-map, Quantifiers.position-Some}}
+use Rattle.std.proofs.Common.{◌≡◌, ◌≢◌, ◌≤◌, ℕ, Bool, true, false, true≢false, not, ◌&&◌, List, length, cond, Option, Some, None, is_some, refl, sym, ap, ◌∙◌, arith, inl, inr}
+use Rattle.std.{specs.Option.option_map_or, proofs.lemmas.{Bool.{Decides.eqb_tells, and_parts}, List.{get_or-set_other, Sums.sum-map, Quantifiers.position-Some}}}
 use Rattle.ix_label.specs.Category.{leq}
-use Rattle.ix_model.specs.world.{World.{Frame, Process, at, put, living, lives, is_ended, is_on}, Owners.{is_at, owns}}
-use Rattle.ix_model.specs.rows.{Rows.observe, OnProcesses.{is_child, wait_child}}
+use Rattle.ix_model.specs.{world.{World.{Frame, Process, at, put, living, lives, is_ended}, Owners.owns}, rows.{Rows.observe, OnProcesses.{is_child, wait_child}}}
 use Rattle.ix_model.proofs.tables.{Tables.seen_same, Finds.{at_put, any_into, in_table, passes_some, sum_put}, Labels.labels_put_process}
-use Rattle.ix_model.proofs.{words.Living.{is_living, not_ended, lives_as}, words.Endings.{ends_put_process, ends_record_of}, frames.Floated.has_on}
+use Rattle.ix_model.proofs.{words.{Living.{is_living, not_ended, lives_as}, Endings.{ends_put_process, ends_record_of}}, frames.Floated.has_on}
 use Rattle.ix_model.proofs.words.Ends.{Ends, ends_kept, ends_bind, ends_then, ends_pass, ends_frame, ends_need, ends_some}
 use Rattle.ix_model.proofs.{frames.Floats.{Floats, process_but, floats_itself, floats_observe}, sound.Logging.{Refused, Passed, holds_both}}
 use Rattle.ix_model.proofs.frames.Frames.{FrameSound, Follows, follows_itself, follows_observe}
@@ -40,7 +37,7 @@ module _ (f : Frame) (n : ℕ) (y : Option Process) (r : Retires f n y) (s : Fra
   ]
 
   lived : (m : ℕ) (q : Process) → living (at left m) ≡ Some q → living (at f.processes m) ≡ Some q
-  lived m q lives = elim (at_put f.processes n m y q (is_living _ q lives)) [
+  lived m q lives = elim (at_put _ n m y q (is_living _ q lives)) [
     | inl here ↦ absurd (true≢false (sym (r.gone q here.1) ∙ not_ended _ q lives))
     | inr other ↦ lives_as _ q other.1 (not_ended _ q lives)
   ]
@@ -95,7 +92,7 @@ module _ (f : Frame) (n : ℕ) (y : Option Process) (r : Retires f n y) (s : Fra
 
 -- ---- an ended child is collected
 ended_apart : (f : Frame) (c : ℕ) → is_ended (at f.processes c) ≡ true → (p : List (Option ℕ) → Bool) → option_map_or (λ q. not q.ended && p q.fds) (at f.processes c) false ≡ true → ⊥
-ended_apart f c ended p h = go (at f.processes c) ended h
+ended_apart f c ended p h = go _ ended h
   where
     go : (o : Option Process) → is_ended o ≡ true → option_map_or (λ q. not q.ended && p q.fds) o false ≡ true → ⊥
     go None ended h = true≢false (sym ended)
@@ -103,7 +100,7 @@ ended_apart f c ended p h = go (at f.processes c) ended h
 
 collects : (f : Frame) (c : ℕ) → FrameSound f → is_ended (at f.processes c) ≡ true → Retires f c None
 collects f c s ended =
-    let q = passes_some is_ended refl (at f.processes c) ended in
+    let q = passes_some is_ended refl _ ended in
     record {
       process = q.0;
       is = q.1;
@@ -111,8 +108,8 @@ collects f c s ended =
       label = λ p none. cc;
       long = λ p none. cc;
       parent = λ p k none. cc;
-      unowned = λ e h. ended_apart f c ended (list_any (is_at e)) h;
-      unclaimed = λ m k h. ended_apart f c ended (list_any (λ d. option_map_or (λ j. is_on m k (at f.opens j)) d false)) h;
+      unowned = λ e h. ended_apart f c ended _ h;
+      unclaimed = λ m k h. ended_apart f c ended _ h;
       childless = λ m p is parent. true≢false (sym (s.processes.parent m c p is parent) ∙ ap (λ z. option_map_or (λ y. not y.ended) z false) q.1 ∙ ap not (sym (ap is_ended q.1) ∙ ended));
     }
 

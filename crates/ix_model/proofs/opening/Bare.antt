@@ -1,22 +1,19 @@
 -- The table of objects before any line: a root for each file system, and nothing else.
-use Rattle.std.proofs.Common.{◌≡◌, ◌≢◌, ◌<◌, ◌≤◌, ◌+◌, ◌-◌, ℕ, zero, suc, true, List, [], ◌∷◌, ◌++◌, length, drop, replicate, Option, Some, None, option_map}
-use Rattle.std.proofs.Common.{nat_le, refl, sym, ap, ◌∙◌, subst, arith, append_assoc, inl, inr, length-append}
-use Rattle.std.specs.List.{list_all}
-use Rattle.std.proofs.Math.ListN.{get_or-append}
+use Rattle.std.{proofs.Common.{◌≡◌, ◌≢◌, ◌<◌, ◌≤◌, ◌+◌, ◌-◌, ℕ, zero, suc, true, List, [], ◌∷◌, ◌++◌, length, drop, replicate, Option, Some, None, option_map}, specs.List.list_all}
+use Rattle.std.proofs.{Common.{refl, sym, ap, ◌∙◌, subst, arith, append_assoc, inl, inr, length-append}, Math.ListN.get_or-append}
 use Rattle.std.proofs.lemmas.{Bool.{and_parts, leb-true, cases_lt, Decides.eqb_tells}, List.{get_or-append-add, get_or-set_other, length-replicate}}
 use Rattle.ix_model.specs.{world.{World.{fs_at, Object, at, change}, Numbers.first_inode}, declared.config.FsSpec.FsSpec}
-use Rattle.ix_model.specs.opening.{Opening.{root_of, bare, mounts}, Valid.{is_within, fs_fits}}
-use Rattle.ix_model.proofs.{tables.{Inodes.first-cons, Tables.at_changed}, opening.Openings.all_one}
+use Rattle.ix_model.{specs.opening.{Opening.{root_of, bare, mounts}, Valid.{is_within, fs_fits}}, proofs.{tables.{Inodes.first-cons, Tables.at_changed}, opening.Openings.all_one}}
 
 -- ---- each file system has an inode
 has_inode : (s : FsSpec) → fs_fits s ≡ true → 1 ≤ s.inodes
 has_inode s fits =
     let parts = and_parts (is_within 1 65536 s.blocks) (is_within 1 65536 s.inodes) fits in
-    leb-true 1 s.inodes (and_parts (nat_le 1 s.inodes) (nat_le s.inodes 65536) parts.1).0
+    leb-true 1 s.inodes (and_parts _ _ parts.1).0
 
 pub first_fits : (s : FsSpec) (fss : List FsSpec) → list_all fs_fits (s ∷ fss) ≡ true → (1 ≤ s.inodes) × (list_all fs_fits fss ≡ true)
 first_fits s fss fit =
-    let p = and_parts (fs_fits s) (list_all fs_fits fss) fit in
+    let p = and_parts _ _ fit in
     (has_inode s p.0, p.1)
 
 pub some_inodes : (fss : List FsSpec) (k : ℕ) → list_all fs_fits fss ≡ true → k < length fss → 1 ≤ (fs_at fss k).inodes
@@ -29,30 +26,30 @@ abbrev pub roots : ℕ → List FsSpec → ℕ → List (Option Object)
 roots k fss pipes = bare k fss ++ replicate pipes None
 
 roots-cons : (k : ℕ) (s : FsSpec) (fss : List FsSpec) (pipes : ℕ) → roots k (s ∷ fss) pipes ≡ (Some (root_of k) ∷ replicate (s.inodes - 1) None) ++ roots (suc k) fss pipes
-roots-cons k s fss pipes = append_assoc (Some (root_of k) ∷ replicate (s.inodes - 1) None) (bare (suc k) fss) (replicate pipes None)
+roots-cons k s fss pipes = append_assoc (Some (root_of k) ∷ replicate _ None) (bare (suc k) fss) (replicate pipes None)
 
 length-front : (k : ℕ) (s : FsSpec) → 1 ≤ s.inodes → length (Some (root_of k) ∷ replicate {A = Option Object} (s.inodes - 1) None) ≡ s.inodes
 length-front k s some = omega (arith, length-replicate {A = Option Object} (s.inodes - 1) None)
 
 pub length-roots : (k : ℕ) (fss : List FsSpec) (pipes : ℕ) → list_all fs_fits fss ≡ true → length (roots k fss pipes) ≡ first_inode fss (length fss) + pipes
-length-roots k [] pipes fit = length-replicate {A = Option Object} pipes None ∙ omega arith
+length-roots k [] pipes fit = length-replicate pipes None ∙ omega arith
 length-roots k (s ∷ fss) pipes fit =
     let p = first_fits s fss fit in
-    ap length (roots-cons k s fss pipes)
+    ap length (roots-cons k s _ _)
     ∙ length-append (Some (root_of k) ∷ replicate (s.inodes - 1) None) (roots (suc k) fss pipes)
     ∙ omega (arith, length-front k s p.0, length-roots (suc k) fss pipes p.1, first-cons s fss (length fss))
 
 -- past a file system's inodes come those of the next
 at_past : (k : ℕ) (s : FsSpec) (fss : List FsSpec) (pipes m : ℕ) → 1 ≤ s.inodes → at (roots k (s ∷ fss) pipes) (s.inodes + m) ≡ at (roots (suc k) fss pipes) m
 at_past k s fss pipes m some =
-    ap (λ t. at t (s.inodes + m)) (roots-cons k s fss pipes)
+    ap (λ t. at t (s.inodes + m)) (roots-cons k s _ _)
     ∙ ap (λ n. at ((Some (root_of k) ∷ replicate (s.inodes - 1) None) ++ roots (suc k) fss pipes) (n + m)) (sym (length-front k s some))
-    ∙ get_or-append-add (Some (root_of k) ∷ replicate (s.inodes - 1) None) (roots (suc k) fss pipes) m None
+    ∙ get_or-append-add (Some (root_of k) ∷ replicate _ None) _ m None
 
 at_gap : (k : ℕ) (s : FsSpec) (fss : List FsSpec) (pipes m : ℕ) → 1 ≤ s.inodes → suc m < s.inodes → at (roots k (s ∷ fss) pipes) (suc m) ≡ None
 at_gap k s fss pipes m some low =
     ap (λ t. at t (suc m)) (roots-cons k s fss pipes)
-    ∙ get_or-append (Some (root_of k) ∷ replicate (s.inodes - 1) None) (roots (suc k) fss pipes) None (suc m) (omega (arith, length-front k s some))
+    ∙ get_or-append (Some (root_of k) ∷ replicate _ None) (roots (suc k) fss pipes) None (suc m) (omega (arith, length-front k s some))
     ∙ all_one {A = Option Object} None (s.inodes - 1) m
 
 -- each file system's root is at its first inode
@@ -61,9 +58,9 @@ root_at k [] pipes j fit low = absurd (omega arith)
 root_at k (s ∷ fss) pipes zero fit low = ap (λ n. Some (root_of n)) (omega arith)
 root_at k (s ∷ fss) pipes (suc j) fit low =
     let p = first_fits s fss fit in
-    ap (at (roots k (s ∷ fss) pipes)) (first-cons s fss j)
-    ∙ at_past k s fss pipes (first_inode fss j) p.0
-    ∙ root_at (suc k) fss pipes j p.1 (omega arith)
+    ap (at (roots k (s ∷ fss) pipes)) (first-cons s _ j)
+    ∙ at_past k s _ _ _ p.0
+    ∙ root_at (suc k) fss _ j p.1 (omega arith)
     ∙ ap (λ n. Some (root_of n)) (omega arith)
 
 -- and there is nothing else
@@ -97,28 +94,28 @@ bare_table fss pipes = change (roots 0 fss pipes) 0 (with_mounts fss)
 
 module _ (fss : List FsSpec) (pipes : ℕ) (fit : list_all fs_fits fss ≡ true) (some : 0 < length fss) where
   first_there : at (roots 0 fss pipes) 0 ≡ Some (root_of 0)
-  first_there = root_at 0 fss pipes 0 fit some
+  first_there = root_at 0 _ _ 0 fit some
 
   pub at_first : at (bare_table fss pipes) 0 ≡ Some (with_mounts fss (root_of 0))
-  at_first = at_changed (roots 0 fss pipes) 0 (with_mounts fss) ∙ ap (option_map (with_mounts fss)) first_there
+  at_first = at_changed _ 0 _ ∙ ap (option_map _) first_there
 
   pub at_others : (o : ℕ) → o ≢ 0 → at (bare_table fss pipes) o ≡ at (roots 0 fss pipes) o
-  at_others o other = get_or-set_other (roots 0 fss pipes) 0 o _ None other
+  at_others o other = get_or-set_other _ 0 o _ None other
 
   -- what holds of the first root, and of each other root, holds of each object
   pub each_root : (P : ℕ → Object → Type 0) → P 0 (with_mounts fss (root_of 0)) → ((k : ℕ) → suc k < length fss → P (first_inode fss (suc k)) (root_of (suc k)))
       → (o : ℕ) (x : Object) → at (bare_table fss pipes) o ≡ Some x → P o x
   each_root P first others o x is = elim (eqb_tells o 0) [
     | inl here ↦
-        let both : Some (with_mounts fss (root_of 0)) ≡ Some x = sym at_first ∙ ap (at (bare_table fss pipes)) (sym here.1) ∙ is in
+        let both = sym at_first ∙ ap (at (bare_table fss pipes)) (sym here.1) ∙ is in
         let same : with_mounts fss (root_of 0) ≡ x = cc in
-        subst (λ (n : ℕ). P n x) (sym here.1) (subst (λ (y : Object). P 0 y) same first)
-    | inr other ↦ go (is_root 0 fss pipes o x fit (sym (at_others o other.1) ∙ is)) other.1
+        subst (λ n. P n x) (sym here.1) (subst (λ y. P 0 y) same first)
+    | inr other ↦ go (is_root 0 _ _ o x fit (sym (at_others o other.1) ∙ is)) other.1
   ]
     where
       at_root : (k : ℕ) → k < length fss → o ≡ first_inode fss k → x ≡ root_of k → o ≢ 0 → P o x
       at_root zero low is root other = absurd (other is)
-      at_root (suc k) low is root other = subst (λ (n : ℕ). P n x) (sym is) (subst (λ (y : Object). P (first_inode fss (suc k)) y) (sym root) (others k low))
+      at_root (suc k) low is root other = subst (λ n. P n x) (sym is) (subst (λ y. P (first_inode fss (suc k)) y) (sym root) (others k low))
 
       go : RootAt 0 fss o x → o ≢ 0 → P o x
-      go r other = at_root r.place r.low r.is (r.root ∙ ap root_of (omega arith)) other
+      go r other = at_root _ r.low r.is (r.root ∙ ap root_of (omega arith)) other

@@ -1,15 +1,13 @@
 -- What holds of the objects before any line.
-use Rattle.std.proofs.Common.{◌≡◌, ◌<◌, ◌≤◌, ◌+◌, ◌==◌, ℕ, zero, suc, Bool, true, false, true≢false, not, ◌||◌, List, [], ◌∷◌, ◌++◌, length, length-set, map}
+use Rattle.std.proofs.Common.{◌≡◌, ◌<◌, ◌≤◌, ◌+◌, ◌==◌, ℕ, zero, suc, Bool, true, false, true≢false, not, List, [], ◌∷◌, ◌++◌, length, length-set, map, subst, arith, inr}
 use Rattle.std.proofs.Common.{sum, drop, count_by, find, replicate, if◌then◌else◌, Option, Some, None, is_some, option_map, unwrap_or, refl, sym, ap, ◌∙◌, inl}
-use Rattle.std.proofs.Common.{subst, arith, inr}
 use Rattle.std.{specs.{Option.{option_map_or, option_and_then}, List.{list_any, list_all, sum_by}}, proofs.lemmas.Bool.{and_parts, or_cases, or_left, ne_eqb}}
-use Rattle.std.{proofs.lemmas.List.length-replicate, proofs.lemmas.List.Sums.{sum-map, sum_by-set}, proofs.lemmas.Iterator.Adapters.position_from-zero}
+use Rattle.std.proofs.lemmas.{List.{length-replicate, Sums.{sum-map, sum_by-set}}, Iterator.Adapters.position_from-zero}
 use Rattle.ix_label.specs.Lattice.{bottom-leq}
-use Rattle.ix_model.specs.{world.Naming.{same_bytes, same_names}, world.World.{fs_at, Object, Holding, at, is_file, is_dir, is_pipe}, world.Numbers.first_inode}
-use Rattle.ix_model.specs.{world.Contents.holds_nothing, world.Owners.{times_in, times_named}, declared.config.{FsSpec.FsSpec, Limits.Limits}}
-use Rattle.ix_model.specs.rows.{Walks.{nothing, node, child}, Telling.{blocks_for, blocks_where}}
+use Rattle.ix_model.specs.world.{Naming.{same_bytes, same_names}, World.{fs_at, Object, Holding, at, is_file, is_dir, is_pipe}, Numbers.first_inode}
+use Rattle.ix_model.specs.{world.{Contents.holds_nothing, Owners.times_named}, declared.config.{FsSpec.FsSpec, Limits.Limits}}
+use Rattle.ix_model.{specs.rows.{Walks.{nothing, node, child}, Telling.{blocks_for, blocks_where}}, proofs.tables.{Alike.names_are, Inodes.{first-cons, first_next, one_fs, filled_one}}}
 use Rattle.ix_model.specs.opening.{Opening.{root_of, mounts}, Valid.{all_differ, fs_fits, fs_of, is_mount, is_taken, has_directory}}
-use Rattle.ix_model.proofs.tables.{Alike.names_are, Inodes.{first-cons, first_next, one_fs, filled_one}}
 use Rattle.ix_model.proofs.opening.{Openings.all_one, Built.{Fits, Named, DirAt, Ways, is_on_fs, Counted, Held, Built}, NamesPlaced.sum_nothing}
 use Rattle.ix_model.proofs.opening.Bare.{some_inodes, roots, length-roots, root_at, is_root, with_mounts, bare_table, at_first, at_others, each_root}
 use Rattle.ix_model.proofs.opening.Mounts.{length-mounts, mounts_names, mounts_any, mounts_past, mounts_without, mounts_once, mount_at, mounted}
@@ -21,11 +19,11 @@ first_split (s ∷ ms) k some = omega (arith, first-cons s ms k, first-cons s ms
 
 pub further_fit : (fss : List FsSpec) → list_all fs_fits fss ≡ true → list_all fs_fits (drop 1 fss) ≡ true
 further_fit [] fit = refl
-further_fit (s ∷ ms) fit = (and_parts (fs_fits s) (list_all fs_fits ms) fit).1
+further_fit (s ∷ ms) fit = (and_parts _ _ fit).1
 
 further_differ : (fss : List FsSpec) → all_differ (map (λ s. s.name) fss) ≡ true → all_differ (map (λ s. s.name) (drop 1 fss)) ≡ true
 further_differ [] differ = refl
-further_differ (s ∷ ms) differ = (and_parts (not (list_any (same_bytes s.name) (map (λ (t : FsSpec). t.name) ms))) (all_differ (map (λ (t : FsSpec). t.name) ms)) differ).1
+further_differ (s ∷ ms) differ = (and_parts (not (list_any _ (map (λ t. t.name) ms))) (all_differ (map (λ t. t.name) ms)) differ).1
 
 length-further : (fss : List FsSpec) → 0 < length fss → suc (length (drop 1 fss)) ≡ length fss
 length-further [] some = absurd (omega arith)
@@ -35,7 +33,7 @@ length-further (s ∷ ms) some = refl
 blocks_of_nothing : (p : ℕ → Bool) (m n : ℕ) → blocks_where p m (replicate n holds_nothing) ≡ 0
 blocks_of_nothing p m zero = refl
 blocks_of_nothing p m (suc n) =
-    let first : (if p m then blocks_for (length holds_nothing.first) else 0) ≡ 0 = go (p m) in
+    let first = go (p m) in
     omega (arith, blocks_of_nothing p (suc m) n)
   where
     go : (b : Bool) → (if b then blocks_for (length holds_nothing.first) else 0) ≡ 0
@@ -56,16 +54,16 @@ module _ (fss : List FsSpec) (l : Limits) (fit : list_all fs_fits fss ≡ true) 
   past_first k = omega (arith, first_split fss k some, first_some)
 
   root_there : (k : ℕ) → suc k < length fss → at table (first_inode fss (suc k)) ≡ Some (root_of (suc k))
-  root_there k low = at_others fss l.pipes fit some (first_inode fss (suc k)) (λ e. absurd (omega (arith, past_first k)))
-      ∙ root_at 0 fss l.pipes (suc k) fit low ∙ ap (λ n. Some (root_of n)) (omega arith)
+  root_there k low = at_others _ _ fit some _ (λ e. absurd (omega (arith, past_first k)))
+      ∙ root_at 0 _ _ _ fit low ∙ ap (λ n. Some (root_of n)) (omega arith)
 
   each : (P : ℕ → Object → Type 0) → P 0 (with_mounts fss (root_of 0)) → ((k : ℕ) → suc k < length fss → P (first_inode fss (suc k)) (root_of (suc k)))
       → (o : ℕ) (x : Object) → at table o ≡ Some x → P o x
-  each P first others = each_root fss l.pipes fit some P first others
+  each P first others = each_root _ _ fit some P first others
 
   -- ---- each object by itself
   bare_fits : (o : ℕ) (x : Object) → at table o ≡ Some x → Fits fss o x
-  bare_fits = each (λ o x. Fits fss o x)
+  bare_fits = each _
       (record { low = bottom-leq _; no_pipe = refl; unclaimed = refl; fs = 0; is_fs = refl; from = omega arith; to = omega (arith, some_inodes fss 0 fit some) })
       (λ k low. record { low = bottom-leq _; no_pipe = refl; unclaimed = refl; fs = suc k; is_fs = refl; from = omega arith; to = omega (arith, some_inodes fss (suc k) fit low) })
 
@@ -88,24 +86,24 @@ module _ (fss : List FsSpec) (l : Limits) (fit : list_all fs_fits fss ≡ true) 
 
       go : (m : ℕ) (x : Option Object) → at (roots 0 fss l.pipes) m ≡ x → F x ≡ 0
       go m None is = none
-      go m (Some x) is = let r = is_root 0 fss l.pipes m x fit is in ap (λ y. F (Some y)) r.root ∙ empty (0 + r.place)
+      go m (Some x) is = let r = is_root 0 _ _ m x fit is in ap (λ y. F (Some y)) r.root ∙ empty (0 + r.place)
 
   times_bare : (q : ℕ) → times_named table q ≡ count_by (λ n. n.1 == q) named
-  times_bare q = sum_bare (times_in q) refl (λ k. refl)
+  times_bare q = sum_bare _ refl (λ k. refl)
 
   further_low : (k : ℕ) → suc k < length fss → k < length (drop 1 fss)
   further_low k low = omega (arith, length-further fss some)
 
   root_named_once : (k : ℕ) → suc k < length fss → times_named table (first_inode fss (suc k)) ≡ 1
   root_named_once k low =
-      ap (times_named table) (first_split fss k some)
-      ∙ times_bare (first_inode fss 1 + first_inode (drop 1 fss) k)
-      ∙ mounts_once (drop 1 fss) (first_inode fss 1) k (further_fit fss fit) (further_low k low)
+      ap (times_named table) (first_split _ k some)
+      ∙ times_bare _
+      ∙ mounts_once _ _ k (further_fit fss fit) (further_low k low)
 
   named_root : (q : ℕ) → 0 < count_by (λ n. n.1 == q) named → option_map_or (λ y. not (is_pipe y)) (at table q) false ≡ true
   named_root q h =
-      let r = mount_at (drop 1 fss) (first_inode fss 1) q h in
-      ap (λ x. option_map_or (λ y. not (is_pipe y)) x false) (ap (at table) (r.is ∙ sym (first_split fss r.place some)) ∙ root_there r.place (omega (arith, r.low, length-further fss some)))
+      let r = mount_at _ _ q h in
+      ap (λ x. option_map_or (λ y. not (is_pipe y)) x false) (ap (at table) (r.is ∙ sym (first_split _ _ some)) ∙ root_there _ (omega (arith, r.low, length-further fss some)))
 
   bare_named : Named table
   bare_named = record {
@@ -125,7 +123,7 @@ module _ (fss : List FsSpec) (l : Limits) (fit : list_all fs_fits fss ≡ true) 
 
   place_root : place_bare 0 ≡ []
   unfolding place_bare
-  place_root = ap (λ x. option_map_or (λ name. name ∷ []) (option_map (λ (e : List ℕ × ℕ). e.0) x) []) (mounts_without (drop 1 fss) (first_inode fss 1) 0 first_some)
+  place_root = ap (λ x. option_map_or (λ name. name ∷ []) (option_map (λ e. e.0) x) []) (mounts_without _ _ 0 first_some)
 
   entries_bare : (d : ℕ) (x : Object) (name : List ℕ) → at table d ≡ Some x → list_any (λ e. same_bytes e.0 name) x.names ≡ true → is_taken fss [] (place_bare d ++ name ∷ []) ≡ true
   entries_bare d x name is = each (λ d x. list_any (λ e. same_bytes e.0 name) x.names ≡ true → is_taken fss [] (place_bare d ++ name ∷ []) ≡ true)
@@ -135,13 +133,13 @@ module _ (fss : List FsSpec) (l : Limits) (fit : list_all fs_fits fss ≡ true) 
 
   root_dir : (p : List (List ℕ)) → same_names [] p ≡ true → DirAt fss table place_bare p
   root_dir p h =
-      let none : [] ≡ p = names_are [] p h in
-      subst (λ (q : List (List ℕ)). DirAt fss table place_bare q) none (record {
+      let none = names_are [] p h in
+      subst (λ q. DirAt fss table place_bare q) none (record {
         number = 0;
         leads = refl;
         object = with_mounts fss (root_of 0);
         is_object =
-            at_first fss l.pipes fit some;
+            at_first _ _ fit some;
         dir = refl;
         on = refl;
         back = place_root;
@@ -172,8 +170,8 @@ module _ (fss : List FsSpec) (l : Limits) (fit : list_all fs_fits fss ≡ true) 
   bare_ways = record { place = place_bare; entries = entries_bare; dirs = dirs }
     where
       dirs : (p : List (List ℕ)) → has_directory fss [] p ≡ true → DirAt fss table place_bare p
-      dirs p h = elim (or_cases (same_names [] p || is_mount fss p) false h) [
-        | inl there ↦ elim (or_cases (same_names [] p) (is_mount fss p) there) [
+      dirs p h = elim (or_cases _ _ h) [
+        | inl there ↦ elim (or_cases _ _ there) [
           | inl root ↦ root_dir p root
           | inr mount ↦ mount_dir p mount
         ]
@@ -182,14 +180,14 @@ module _ (fss : List FsSpec) (l : Limits) (fit : list_all fs_fits fss ≡ true) 
 
   -- ---- counts
   gap : (k m : ℕ) → first_inode fss k < m → m < first_inode fss k + (fs_at fss k).inodes → is_some (at table m) ≡ false
-  gap k m from to = ap is_some (at_others fss l.pipes fit some m (λ e. absurd (omega arith))) ∙ go (at (roots 0 fss l.pipes) m) refl
+  gap k m from to = ap is_some (at_others _ _ fit some m (λ e. absurd (omega arith))) ∙ go _ refl
     where
       go : (x : Option Object) → at (roots 0 fss l.pipes) m ≡ x → is_some x ≡ false
       go None is = refl
       go (Some x) is =
-          let r = is_root 0 fss l.pipes m x fit is in
-          let same : r.place ≡ k = one_fs fss r.place k m (omega (arith, r.is)) (omega (arith, r.is, some_inodes fss r.place fit r.low)) (omega arith) to in
-          let first : m ≡ first_inode fss k = r.is ∙ ap (first_inode fss) same in
+          let r = is_root 0 _ _ m x fit is in
+          let same = one_fs _ _ k m (omega (arith, r.is)) (omega (arith, r.is, some_inodes fss r.place fit r.low)) (omega arith) to in
+          let first = r.is ∙ ap (first_inode fss) same in
           absurd (omega arith)
 
   bare_counted : Counted fss l [] table (replicate (length table) holds_nothing)
@@ -206,8 +204,8 @@ module _ (fss : List FsSpec) (l : Limits) (fit : list_all fs_fits fss ≡ true) 
 
   bare_held : Held table (replicate (length table) holds_nothing)
   bare_held = record {
-    directory = λ o x is dir. ap (λ h. h.first) (all_one holds_nothing (length table) o);
-    second = λ o. ap (λ h. h.second) (all_one holds_nothing (length table) o);
+    directory = λ o x is dir. ap (λ h. h.first) (all_one holds_nothing _ o);
+    second = λ o. ap (λ h. h.second) (all_one holds_nothing _ o);
   }
 
   pub bare_built : Built fss l [] table (replicate (length table) holds_nothing)

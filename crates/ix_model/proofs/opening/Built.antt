@@ -1,12 +1,10 @@
 -- What holds of the objects that a valid config's lines have made so far.
-use Rattle.std.proofs.Common.{◌≡◌, ◌<◌, ◌≤◌, ◌+◌, ◌==◌, ℕ, suc, Bool, true, false, not, List, [], ◌∷◌, ◌++◌, length, map, count_by, Option, Some, if◌then◌else◌}
-use Rattle.std.proofs.Common.{get_or}
+use Rattle.std.proofs.Common.{◌≡◌, ◌<◌, ◌≤◌, ◌+◌, ◌==◌, ℕ, suc, Bool, true, false, not, List, [], ◌∷◌, ◌++◌, length, map, count_by, Option, Some, if◌then◌else◌, get_or}
 use Rattle.std.specs.{Option.option_map_or, List.list_any}
 use Rattle.ix_label.specs.Category.{leq}
-use Rattle.ix_model.specs.{world.Naming.same_bytes, world.World.{fs_at, Object, Holding, at, is_file, is_dir, is_pipe, ceiling_of, no_claims}}
-use Rattle.ix_model.specs.{world.Contents.holds_nothing, world.Numbers.first_inode, world.Owners.{times_named, names_in_all}, rows.Telling.blocks_where}
-use Rattle.ix_model.specs.opening.Valid.{all_differ, fs_of, is_taken, has_directory, lying_on, blocks_taken}
-use Rattle.ix_model.specs.declared.config.{FsSpec.FsSpec, Limits.Limits, ObjSpec.ObjSpec}
+use Rattle.ix_model.specs.world.{Naming.same_bytes, World.{fs_at, Object, Holding, at, is_file, is_dir, is_pipe, ceiling_of, no_claims}}
+use Rattle.ix_model.specs.{world.{Contents.holds_nothing, Numbers.first_inode, Owners.{times_named, names_in_all}}, rows.Telling.blocks_where}
+use Rattle.ix_model.specs.{opening.Valid.{all_differ, fs_of, is_taken, has_directory, lying_on, blocks_taken}, declared.config.{FsSpec.FsSpec, Limits.Limits, ObjSpec.ObjSpec}}
 use Rattle.ix_model.proofs.{tables.Inodes.filled, opening.Leading.lead}
 
 -- ---- each object by itself

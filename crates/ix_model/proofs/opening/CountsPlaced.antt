@@ -6,14 +6,14 @@ use Rattle.ix_label.specs.Category.{leq}
 use Rattle.ix_model.specs.{world.{World.{fs_at, Object, Holding, at}, Contents.holds_nothing, Numbers.first_inode}, rows.Telling.{blocks_for, blocks_where}}
 use Rattle.ix_model.specs.{opening.Valid.{fs_of, lying_on, blocks_taken}, declared.config.{FsSpec.FsSpec, Limits.Limits, ObjSpec.ObjSpec}}
 use Rattle.ix_model.proofs.{tables.{Blocks.{blocks_from, blocks_skip, blocks_edit}, Inodes.{one_fs, filled, filled_same, filled_more}}, opening.Lines.Line}
-use Rattle.ix_model.proofs.{opening.Fitting.taken-cons, opening.Built.{is_on_fs, Fits, Counted}, opening.NamesPlaced.new_no_pipe, sound.Lengths.set_either}
+use Rattle.ix_model.proofs.{opening.{Fitting.taken-cons, Built.{is_on_fs, Fits, Counted}, NamesPlaced.new_no_pipe}, sound.Lengths.set_either}
 use Rattle.ix_model.proofs.opening.Placing.{Place, with_one, at_new, seen, each_after, length-after, names_after}
 
 -- ---- the lines on a file system
 lying_more : (fss : List FsSpec) (j : ℕ) (before : List ObjSpec) (b : ObjSpec) → length (lying_on fss j (before ++ b ∷ [])) ≡ length (lying_on fss j before) + cond (fs_of fss b.path.names == j) 1 0
 lying_more fss j before b =
     let on : ObjSpec → Bool = λ x. fs_of fss x.path.names == j in
-    length-filter on (before ++ b ∷ []) ∙ sum_by_push (λ (x : ObjSpec). cond {A = ℕ} (on x) 1 0) before b ∙ ap (λ n. n + cond (on b) 1 0) (sym (length-filter on before))
+    length-filter on _ ∙ sum_by_push (λ x. cond _ 1 0) before b ∙ ap (λ n. n + cond (on b) 1 0) (sym (length-filter on before))
 
 blocks_more : (fss : List FsSpec) (j : ℕ) (before : List ObjSpec) (b : ObjSpec)
     → blocks_taken fss j (before ++ b ∷ []) ≡ blocks_taken fss j before + cond (fs_of fss b.path.names == j) (blocks_for (length b.bytes)) 0
@@ -31,9 +31,9 @@ module _ (fss : List FsSpec) (l : Limits) (before : List ObjSpec) (t : List (Opt
 
   -- ---- each object by itself
   pub fits_after : ((m : ℕ) (x : Object) → at t m ≡ Some x → Fits fss m x) → (m : ℕ) (x : Object) → at next m ≡ Some x → Fits fss m x
-  fits_after fits = each_after t b o d k p (λ m x. Fits fss m x)
+  fits_after fits = each_after t b o d k p _
       (record { low = low; no_pipe = new_no_pipe k b; unclaimed = refl; fs = k; is_fs = refl; from = from; to = to })
-      (let r = fits d p.dir p.is_dir in record { low = r.low; no_pipe = r.no_pipe; unclaimed = r.unclaimed; fs = r.fs; is_fs = r.is_fs; from = r.from; to = r.to })
+      (let r = fits d _ p.is_dir in search)
       (λ m x other apart is. fits m x is)
     where
       low : leq b.label (fs_at fss k).ceiling ≡ true

@@ -27,7 +27,7 @@ pub lead_on : (t : List (Option Object)) (n d o : ℕ) (names : List (List ℕ))
 lead_on t n d o [] name h k =
     let same : n ≡ d = cc in
     ap (option_and_then (λ m. Some m)) (ap (λ m. child (node t m) name) same ∙ k)
-lead_on t n d o (x ∷ names) name h k = go (child (node t n) x) h (λ m j. lead_on t m d o names name j k)
+lead_on t n d o (x ∷ names) name h k = go (child (node t n) x) h (λ m j. lead_on t m d o names _ j k)
   where
     go : (c : Option ℕ) → option_and_then (λ m. lead t m names) c ≡ Some d → ((m : ℕ) → lead t m names ≡ Some d → lead t m (names ++ name ∷ []) ≡ Some o)
         → option_and_then (λ m. lead t m (names ++ name ∷ [])) c ≡ Some o
@@ -38,7 +38,7 @@ lead_on t n d o (x ∷ names) name h k = go (child (node t n) x) h (λ m j. lead
 pub lead_kept : (t u : List (Option Object)) → ((n m : ℕ) (name : List ℕ) → child (node t n) name ≡ Some m → child (node u n) name ≡ Some m)
     → (n d : ℕ) (names : List (List ℕ)) → lead t n names ≡ Some d → lead u n names ≡ Some d
 lead_kept t u kept n d [] h = h
-lead_kept t u kept n d (x ∷ names) h = go (child (node t n) x) refl h (λ m k. lead_kept t u kept m d names k)
+lead_kept t u kept n d (x ∷ names) h = go _ refl h (λ m k. lead_kept t u kept m d names k)
   where
     go : (c : Option ℕ) → child (node t n) x ≡ c → option_and_then (λ m. lead t m names) c ≡ Some d
         → ((m : ℕ) → lead t m names ≡ Some d → lead u m names ≡ Some d) → option_and_then (λ m. lead u m names) (child (node u n) x) ≡ Some d

@@ -1,14 +1,11 @@
 -- What an object line that fits says, and where a path leads after it.
 use Rattle.std.proofs.Common.{◌≡◌, ◌⊎◌, ◌≤◌, ◌+◌, ◌-◌, ◌==◌, ℕ, suc, Bool, true, false, not, ◌&&◌, ◌||◌, List, [], ◌∷◌, ◌++◌, length, take, drop, cond, Some}
-use Rattle.std.proofs.Common.{None, nat_le, refl, sym, ap, ◌∙◌, arith, get_or, inl, inr, eqb-true}
-use Rattle.std.specs.{Option.option_map_or, List.{list_any, position_from}}
+use Rattle.std.{proofs.Common.{None, nat_le, refl, sym, ap, ◌∙◌, arith, get_or, inl, inr, eqb-true}, specs.{Option.option_map_or, List.{list_any, position_from}}}
 use Rattle.std.proofs.{Math.{Bool.{and-true, or-false}, Seq.drop-cons}, lemmas.Bool.{and_parts, or_parts, or_cases, or_left, or_right, not-true, leb-true}}
-use Rattle.std.proofs.{lemmas.List.{take-append-drop, drop_all}, lemmas.List.Folds.list_any-append, lemmas.Iterator.Adapters.position_from-zero}
+use Rattle.std.proofs.lemmas.{List.{take-append-drop, drop_all, Folds.list_any-append}, Iterator.Adapters.position_from-zero}
 use Rattle.ix_label.specs.Category.{leq}
-use Rattle.ix_model.specs.{world.{World.fs_at, Naming.{same_bytes, same_names, last_name}, Privs.is_empty}, rows.Telling.blocks_for}
-use Rattle.ix_model.specs.declared.config.{FsSpec.FsSpec, Limits.Limits, ObjSpec.ObjSpec}
-use Rattle.ix_model.specs.opening.Valid.{fs_of, is_mount, is_well_formed, is_taken, has_directory, lying_on, blocks_taken, has_room, object_fits}
-use Rattle.ix_model.proofs.tables.Alike.{names_are, names_itself}
+use Rattle.ix_model.{specs.{world.{World.fs_at, Naming.{same_bytes, same_names, last_name}, Privs.is_empty}, rows.Telling.blocks_for}, proofs.tables.Alike.{names_are, names_itself}}
+use Rattle.ix_model.specs.{declared.config.{FsSpec.FsSpec, Limits.Limits, ObjSpec.ObjSpec}, opening.Valid.{fs_of, is_mount, is_taken, has_directory, lying_on, blocks_taken, object_fits}}
 
 -- all names but the last
 abbrev pub parent_of : List (List ℕ) → List (List ℕ)
@@ -28,7 +25,7 @@ pub record Line (fss : List FsSpec) (l : Limits) (before : List ObjSpec) (b : Ob
 
 split_last : (names : List (List ℕ)) → 1 ≤ length names → names ≡ parent_of names ++ last_name names ∷ []
 split_last names some =
-    let i : ℕ = length names - 1 in
+    let i = length names - 1 in
     sym (take-append-drop i names)
     ∙ ap (λ rest. take i names ++ rest) (drop-cons names i [] (omega arith) ∙ ap (λ rest. get_or names i [] ∷ rest) (drop_all (suc i) names (omega arith)))
 
@@ -39,30 +36,30 @@ empty_of (x ∷ xs) none = absurd (omega arith)
 
 no_bytes : (b : ObjSpec) → (not b.dir || (is_empty b.cap && is_empty b.lic && length b.bytes == 0)) ≡ true → b.dir ≡ true → b.bytes ≡ []
 no_bytes b h dir =
-    let bare : (is_empty b.cap && is_empty b.lic && length b.bytes == 0) ≡ true = ap (λ d. not d || (is_empty b.cap && is_empty b.lic && length b.bytes == 0)) (sym dir) ∙ h in
-    empty_of b.bytes (eqb-true (length b.bytes) 0 (and_parts (is_empty b.cap && is_empty b.lic) (length b.bytes == 0) bare).1)
+    let bare = ap (λ d. not d || (is_empty b.cap && is_empty b.lic && length b.bytes == 0)) (sym dir) ∙ h in
+    empty_of _ (eqb-true _ 0 (and_parts _ _ bare).1)
 
 pub line_is : (fss : List FsSpec) (l : Limits) (before : List ObjSpec) (b : ObjSpec) → object_fits fss l before b ≡ true → Line fss l before b
 unfolding object_fits
 line_is fss l before b fits =
-    let names : List (List ℕ) = b.path.names in
-    let k : ℕ = fs_of fss names in
-    let low : Bool = leq b.label (fs_at fss k).ceiling in
-    let new : Bool = not (is_taken fss before names) in
-    let dir : Bool = has_directory fss before (parent_of names) in
-    let p1 = and_parts (is_well_formed b && low && new && dir) (has_room fss l before b) fits in
-    let p2 = and_parts (is_well_formed b && low && new) dir p1.0 in
-    let p3 = and_parts (is_well_formed b && low) new p2.0 in
-    let p4 = and_parts (is_well_formed b) low p3.0 in
-    let w1 = and_parts (b.path.absolute && nat_le 1 (length names) && nat_le (length b.bytes) 1048576) (not b.dir || (is_empty b.cap && is_empty b.lic && length b.bytes == 0)) p4.0 in
-    let w2 = and_parts (b.path.absolute && nat_le 1 (length names)) (nat_le (length b.bytes) 1048576) w1.0 in
-    let w3 = and_parts b.path.absolute (nat_le 1 (length names)) w2.0 in
-    let inodes : Bool = nat_le (length (lying_on fss k before) + 2) (fs_at fss k).inodes in
-    let blocks : Bool = nat_le (blocks_taken fss k before + blocks_for (length b.bytes)) (fs_at fss k).blocks in
-    let r1 = and_parts (nat_le (length fss + length before) l.names && inodes) blocks p1.1 in
-    let r2 = and_parts (nat_le (length fss + length before) l.names) inodes r1.0 in
+    let names = b.path.names in
+    let k = fs_of fss names in
+    let low = leq b.label (fs_at fss k).ceiling in
+    let new = not _ in
+    let dir = has_directory fss before (parent_of names) in
+    let p1 = and_parts _ _ fits in
+    let p2 = and_parts _ dir p1.0 in
+    let p3 = and_parts _ new p2.0 in
+    let p4 = and_parts _ low p3.0 in
+    let w1 = and_parts _ _ p4.0 in
+    let w2 = and_parts _ _ w1.0 in
+    let w3 = and_parts b.path.absolute _ w2.0 in
+    let inodes = nat_le _ _ in
+    let blocks = nat_le _ _ in
+    let r1 = and_parts _ blocks p1.1 in
+    let r2 = and_parts _ inodes r1.0 in
     record {
-      is_path = split_last names (leb-true _ _ w3.1);
+      is_path = split_last _ (leb-true _ _ w3.1);
       short = leb-true _ _ w2.1;
       bare = no_bytes b w1.1;
       low = p4.1;
@@ -77,8 +74,8 @@ line_is fss l before b fits =
 no_mount : (ms : List FsSpec) (name : List ℕ) (i : ℕ) → list_any (λ s. same_names (s.name ∷ []) (name ∷ [])) ms ≡ false → position_from (λ s. same_bytes s.name name) i ms ≡ None
 no_mount [] name i h = refl
 no_mount (s ∷ ms) name i h =
-    let p = or_parts (same_names (s.name ∷ []) (name ∷ [])) (list_any (λ t. same_names (t.name ∷ []) (name ∷ [])) ms) h in
-    ap (λ b. cond b (Some i) (position_from (λ t. same_bytes t.name name) (i + 1) ms)) (sym (and-true (same_bytes s.name name)) ∙ p.0) ∙ no_mount ms name (i + 1) p.1
+    let p = or_parts _ (list_any (λ t. same_names (t.name ∷ []) (name ∷ [])) ms) h in
+    ap (λ b. cond b (Some i) (position_from (λ t. same_bytes t.name name) (i + 1) ms)) (sym (and-true _) ∙ p.0) ∙ no_mount ms _ _ p.1
 
 -- a path that isn't a root lies where its directory does
 pub fs_of_child : (fss : List FsSpec) (names : List (List ℕ)) (name : List ℕ) → is_mount fss (names ++ name ∷ []) ≡ false → fs_of fss (names ++ name ∷ []) ≡ fs_of fss names
@@ -87,7 +84,7 @@ fs_of_child fss (x ∷ names) name h = refl
 
 -- ---- with one line more
 there_more : (p : ObjSpec → Bool) (before : List ObjSpec) (b : ObjSpec) → list_any p (before ++ b ∷ []) ≡ (list_any p before || p b)
-there_more p before b = list_any-append p before (b ∷ []) ∙ ap (λ x. list_any p before || x) (or-false (p b))
+there_more p before b = list_any-append p before _ ∙ ap (λ x. list_any p before || x) (or-false _)
 
 -- what was there is there, and the new object is
 pub still_there : (fss : List FsSpec) (before : List ObjSpec) (b : ObjSpec) (names : List (List ℕ)) → is_taken fss before names ≡ true → is_taken fss (before ++ b ∷ []) names ≡ true
@@ -105,11 +102,11 @@ pub dir_there : (fss : List FsSpec) (before : List ObjSpec) (b : ObjSpec) (names
     → (has_directory fss before names ≡ true) ⊎ ((b.dir ≡ true) × (b.path.names ≡ names))
 dir_there fss before b names h = elim (or_cases (same_names [] names || is_mount fss names) (list_any (λ c. c.dir && same_names c.path.names names) (before ++ b ∷ [])) h) [
   | inl root ↦ inl (or_left _ _ root)
-  | inr made ↦ elim (or_cases (list_any (λ c. c.dir && same_names c.path.names names) before) (b.dir && same_names b.path.names names)
+  | inr made ↦ elim (or_cases (list_any (λ c. c.dir && same_names c.path.names names) before) _
       (sym (there_more (λ c. c.dir && same_names c.path.names names) before b) ∙ made)) [
         | inl old ↦ inl (or_right (same_names [] names || is_mount fss names) _ old)
         | inr new ↦
-            let p = and_parts b.dir (same_names b.path.names names) new in
-            inr (p.0, names_are b.path.names names p.1)
+            let p = and_parts b.dir _ new in
+            inr (p.0, names_are _ _ p.1)
       ]
 ]

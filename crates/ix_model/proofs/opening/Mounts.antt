@@ -1,7 +1,6 @@
 -- The names of the further file systems' roots: how often each number stands among them, and what each leads to.
 use Rattle.std.proofs.Common.{◌≡◌, ◌<◌, ◌+◌, ◌==◌, ℕ, zero, suc, Bool, true, false, ◌&&◌, ◌||◌, List, [], ◌∷◌, length, map, count_by, find, cond, Some, None}
-use Rattle.std.proofs.Common.{option_map, refl, sym, ap, ◌∙◌, arith, inl, inr}
-use Rattle.std.specs.List.{list_any, list_all, position_from}
+use Rattle.std.{proofs.Common.{option_map, refl, sym, ap, ◌∙◌, arith, inl, inr}, specs.List.{list_any, list_all, position_from}}
 use Rattle.std.proofs.{Math.Bool.and-true, lemmas.Bool.{cond-true, cond-false, eq-eqb, ne_eqb, Decides.eqb_tells}}
 use Rattle.ix_model.specs.{world.{Naming.{same_bytes, same_names}, Numbers.first_inode}, opening.{Opening.mounts, Valid.fs_fits}, declared.config.FsSpec.FsSpec}
 use Rattle.ix_model.proofs.{tables.{Alike.{bytes_itself, names_are}, Inodes.first-cons}, opening.Bare.first_fits, words.There.counted}
@@ -17,7 +16,7 @@ mounts_names n (s ∷ ms) = ap (λ ns. s.name ∷ ns) (mounts_names (n + s.inode
 -- a name among them is a further root
 pub mounts_any : (n : ℕ) (ms : List FsSpec) (name : List ℕ) → list_any (λ e. same_bytes e.0 name) (mounts n ms) ≡ true → list_any (λ s. same_names (s.name ∷ []) (name ∷ [])) ms ≡ true
 mounts_any n [] name h = h
-mounts_any n (s ∷ ms) name h = go (same_bytes s.name name) h (mounts_any (n + s.inodes) ms name)
+mounts_any n (s ∷ ms) name h = go (same_bytes s.name name) h (mounts_any (n + s.inodes) ms _)
   where
     go : (b : Bool) → (b || list_any (λ e. same_bytes e.0 name) (mounts (n + s.inodes) ms)) ≡ true
         → (list_any (λ e. same_bytes e.0 name) (mounts (n + s.inodes) ms) ≡ true → list_any (λ t. same_names (t.name ∷ []) (name ∷ [])) ms ≡ true)
@@ -33,21 +32,21 @@ count-mounts q n s ms = counted q (s.name, n) (mounts (n + s.inodes) ms)
 pub mounts_past : (ms : List FsSpec) (n q : ℕ) → q < n → count_by (λ e. e.1 == q) (mounts n ms) ≡ 0
 mounts_past [] n q low = refl
 mounts_past (s ∷ ms) n q low =
-    let none : cond {A = ℕ} (n == q) 1 0 ≡ 0 = ap (λ b. cond {A = ℕ} b 1 0) (ne_eqb n q (λ e. absurd (omega arith))) in
+    let none = ap (λ b. cond {A = ℕ} b 1 0) (ne_eqb n q (λ e. absurd (omega arith))) in
     omega (arith, count-mounts q n s ms, mounts_past ms (n + s.inodes) q (omega arith))
 
 pub mounts_without : (ms : List FsSpec) (n q : ℕ) → q < n → find (λ e. e.1 == q) (mounts n ms) ≡ None
 mounts_without [] n q low = refl
 mounts_without (s ∷ ms) n q low =
-    cond-false (n == q) (Some (s.name, n)) (find (λ e. e.1 == q) (mounts (n + s.inodes) ms)) (ne_eqb n q (λ e. absurd (omega arith)))
-    ∙ mounts_without ms (n + s.inodes) q (omega arith)
+    cond-false _ _ (find (λ e. e.1 == q) _) (ne_eqb n q (λ e. absurd (omega arith)))
+    ∙ mounts_without ms _ q (omega arith)
 
 -- each root's number stands once
 pub mounts_once : (ms : List FsSpec) (n k : ℕ) → list_all fs_fits ms ≡ true → k < length ms → count_by (λ e. e.1 == n + first_inode ms k) (mounts n ms) ≡ 1
 mounts_once [] n k fit low = absurd (omega arith)
 mounts_once (s ∷ ms) n zero fit low =
     let p = first_fits s ms fit in
-    let q : ℕ = n + first_inode (s ∷ ms) 0 in
+    let q = n + first_inode (s ∷ ms) 0 in
     let one : cond {A = ℕ} (n == q) 1 0 ≡ 1 = ap (λ b. cond {A = ℕ} b 1 0) (eq-eqb n q (omega arith)) in
     omega (arith, count-mounts q n s ms, mounts_past ms (n + s.inodes) q (omega (arith, p.0)))
 mounts_once (s ∷ ms) n (suc k) fit low =
@@ -70,7 +69,7 @@ mount_at [] n q some = absurd (omega arith)
 mount_at (s ∷ ms) n q some = elim (eqb_tells n q) [
   | inl here ↦ record { place = 0; low = omega arith; is = omega (arith, here.1) }
   | inr other ↦
-      let none : cond {A = ℕ} (n == q) 1 0 ≡ 0 = ap (λ b. cond {A = ℕ} b 1 0) other.0 in
+      let none : cond {A = ℕ} (n == q) 1 0 ≡ 0 = ap (λ b. cond b 1 0) other.0 in
       let r = mount_at ms (n + s.inodes) q (omega (arith, count-mounts q n s ms)) in
       record { place = suc r.place; low = omega (arith, r.low); is = omega (arith, r.is, first-cons s ms r.place) }
 ]

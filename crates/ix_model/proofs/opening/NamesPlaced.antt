@@ -1,17 +1,16 @@
 -- One object more leaves the names sound.
 use Rattle.std.proofs.Common.{◌≡◌, ◌≢◌, ◌<◌, ◌+◌, ◌==◌, ℕ, suc, Bool, true, false, true≢false, not, List, [], ◌∷◌, ◌++◌, map, sum, count_by, cond, Option, Some}
-use Rattle.std.proofs.Common.{if◌then◌else◌, None, refl, sym, ap, ◌∙◌, arith, inl, inr}
-use Rattle.std.specs.{Option.option_map_or, List.list_any}
-use Rattle.std.proofs.{lemmas.Bool.{and_parts, or_parts, or_from, and_from, not-true, not_from_false, cases_lt, eq-eqb, ne_eqb}, lemmas.Bool.Decides.eqb_tells}
-use Rattle.std.proofs.{lemmas.List.map-append, lemmas.List.Folds.list_any-append, lemmas.List.Sums.{sum_by-cons, sum_by_push}}
+use Rattle.std.{proofs.Common.{if◌then◌else◌, None, refl, sym, ap, ◌∙◌, arith, inl, inr}, specs.{Option.option_map_or, List.list_any}}
+use Rattle.std.proofs.lemmas.Bool.{and_parts, or_parts, or_from, and_from, not-true, not_from_false, cases_lt, eq-eqb, ne_eqb, Decides.eqb_tells}
+use Rattle.std.proofs.lemmas.List.{map-append, Folds.list_any-append, Sums.{sum_by-cons, sum_by_push}}
 use Rattle.ix_model.specs.world.{Naming.{same_bytes, last_name}, World.{Object, at, is_file, is_dir, is_pipe}, Owners.{times_in, times_named}}
 use Rattle.ix_model.specs.{opening.{Opening.object_of, Valid.all_differ}, declared.config.ObjSpec.ObjSpec}
-use Rattle.ix_model.specs.declared.reply.Kind.TheVariants as kind
 use Rattle.ix_model.proofs.opening.{Built.Named, Placing.{Place, naming, with_one, not_new, at_new, seen, each_after, times_after}}
+use Rattle.ix_model.specs.declared.reply.Kind.TheVariants as kind
 
 -- an object line makes no pipe
 pub new_no_pipe : (k : ℕ) (b : ObjSpec) → is_pipe (object_of k b) ≡ false
-new_no_pipe k b = go b.dir
+new_no_pipe k b = go _
   where
     go : (d : Bool) → is_pipe (record (object_of k b) { kind = if d then kind.Dir else kind.File }) ≡ false
     go true = refl
@@ -22,21 +21,21 @@ differ_push : (es : List (List ℕ × ℕ)) (name : List ℕ) (o : ℕ) → list
     → all_differ (map (λ e. e.0) (es ++ (name, o) ∷ [])) ≡ true
 differ_push [] name o new differ = refl
 differ_push (e ∷ es) name o new differ =
-    let news = or_parts (same_bytes e.0 name) (list_any (λ x. same_bytes x.0 name) es) new in
-    let parts = and_parts (not (list_any (same_bytes e.0) (map (λ x. x.0) es))) (all_differ (map (λ x. x.0) es)) differ in
-    let split : map (λ (x : List ℕ × ℕ). x.0) (es ++ (name, o) ∷ []) ≡ map (λ x. x.0) es ++ name ∷ [] = map-append (λ (x : List ℕ × ℕ). x.0) es ((name, o) ∷ []) in
-    let none : list_any (same_bytes e.0) (map (λ x. x.0) (es ++ (name, o) ∷ [])) ≡ false =
-    ap (list_any (same_bytes e.0)) split ∙ list_any-append (same_bytes e.0) (map (λ x. x.0) es) (name ∷ []) ∙ or_from _ _ (not-true _ parts.0) (or_from _ _ news.0 refl) in
-    and_from _ _ (not_from_false _ none) (differ_push es name o news.1 parts.1)
+    let news = or_parts _ (list_any (λ x. same_bytes x.0 name) es) new in
+    let parts = and_parts (not (list_any _ (map (λ x. x.0) es))) (all_differ (map (λ x. x.0) es)) differ in
+    let split = map-append (λ x. x.0) es ((name, o) ∷ []) in
+    let none =
+    ap (list_any (same_bytes e.0)) split ∙ list_any-append (same_bytes e.0) (map (λ x. x.0) es) _ ∙ or_from _ _ (not-true _ parts.0) (or_from _ _ news.0 refl) in
+    and_from _ _ (not_from_false _ none) (differ_push es _ o news.1 parts.1)
 
 -- a sum over a table that counts nothing anywhere
 pub sum_nothing : {A : Type 0} (F : Option A → ℕ) (t : List (Option A)) → ((m : ℕ) → F (at t m) ≡ 0) → sum (map F t) ≡ 0
 sum_nothing F [] none = refl
-sum_nothing F (x ∷ t) none = sum_by-cons (λ (n : ℕ). n) (F x) (map F t) ∙ omega (arith, none 0, sum_nothing F t (λ m. none (suc m)))
+sum_nothing F (x ∷ t) none = sum_by-cons (λ n. n) _ (map F t) ∙ omega (arith, none 0, sum_nothing F t (λ m. none (suc m)))
 
 -- what isn't there isn't named
 unnamed : (t : List (Option Object)) (o : ℕ) → Named t → at t o ≡ None → times_named t o ≡ 0
-unnamed t o r free = sum_nothing (times_in o) t (λ m. go m (at t m) refl)
+unnamed t o r free = sum_nothing _ t (λ m. go m _ refl)
   where
     go : (m : ℕ) (x : Option Object) → at t m ≡ x → times_in o x ≡ 0
     go m None is = refl
@@ -76,7 +75,7 @@ module _ (t : List (Option Object)) (b : ObjSpec) (o d k : ℕ) (p : Place t o d
 
   times_new : times_named next o ≡ 1
   times_new =
-      let one : cond {A = ℕ} (o == o) 1 0 ≡ 1 = ap (λ x. cond {A = ℕ} x 1 0) (eq-eqb o o refl) in
+      let one = ap (λ x. cond {A = ℕ} x 1 0) (eq-eqb o o refl) in
       omega (arith, times_after t b o d k p o, unnamed t o r p.free)
 
   pub named_after : Named next

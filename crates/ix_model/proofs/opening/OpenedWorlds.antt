@@ -1,13 +1,12 @@
 -- The opening world of a valid config, line by line.
 use Rattle.std.proofs.Common.{◌≡◌, ◌<◌, ◌≤◌, ◌+◌, ℕ, true, List, [], ◌∷◌, ◌++◌, length, map, replicate, take, drop, Option, Some, None, option_map, unwrap_or}
-use Rattle.std.proofs.Common.{set, refl, sym, ap, ◌∙◌, subst, arith, append_assoc, append-nil}
-use Rattle.std.{specs.{Option.option_map_or, List.list_any}, proofs.lemmas.Bool.{and_parts, or_parts}}
-use Rattle.ix_model.specs.{world.World.{fs_at, World, Frame, Object, Holding, lowest_free}, world.Naming.{same_names, last_name}, rows.Walks.{nothing, node}}
+use Rattle.std.{proofs.{Common.{set, refl, sym, ap, ◌∙◌, subst, arith, append_assoc, append-nil}, lemmas.Bool.{and_parts, or_parts}}, specs.{Option.option_map_or, List.list_any}}
+use Rattle.ix_model.specs.{world.{World.{fs_at, World, Frame, Object, Holding, lowest_free}, Naming.{same_names, last_name}}, rows.Walks.{nothing, node}}
 use Rattle.ix_model.specs.{world.Numbers.{first_inode, free_inode}, opening.Opening.{process_of, directory_of, placed, with_object, with_objects}}
 use Rattle.ix_model.specs.{opening.Valid.{fs_of, is_mount, object_fits, objects_fit}, declared.config.{Config.Config, ObjSpec.ObjSpec}}
-use Rattle.ix_model.proofs.{tables.Inodes.{first_within, free_is}, opening.Leading.directory_is, opening.Lines.{parent_of, line_is, fs_of_child}}
-use Rattle.ix_model.proofs.{opening.Placing.{Place, with_one}, opening.Built.Built, opening.NamesPlaced.named_after, opening.HeldPlaced.held_after}
-use Rattle.ix_model.proofs.{opening.WaysPlaced.{name_is_new, ways_after}, opening.CountsPlaced.{holding_for, fits_after, counted_after}}
+use Rattle.ix_model.proofs.{tables.Inodes.{first_within, free_is}, opening.{Leading.directory_is, Lines.{parent_of, line_is, fs_of_child}}}
+use Rattle.ix_model.proofs.opening.{Placing.{Place, with_one}, Built.Built, NamesPlaced.named_after, HeldPlaced.held_after}
+use Rattle.ix_model.proofs.opening.{WaysPlaced.{name_is_new, ways_after}, CountsPlaced.{holding_for, fits_after, counted_after}}
 
 -- the config's world with these objects, which hold these
 abbrev pub world_with : Config → List (Option Object) → List Holding → World
@@ -29,8 +28,8 @@ line_at : (c : Config) (t : List (Option Object)) (hs : List Holding) (b : ObjSp
     → with_object (world_with c t hs) b ≡ world_with c (with_one t b d k o) (set hs o (holding_for b))
 unfolding with_object
 line_at c t hs b d k o is_dir is_fs free =
-    let w : World = world_with c t hs in
-    ap (λ e. let j : ℕ = unwrap_or (node t e).fs 0 in option_map_or (placed w b e j) (free_inode w.frame j) w) is_dir
+    let w = world_with c t hs in
+    ap (λ e. let j = unwrap_or (node t e).fs 0 in option_map_or (placed w b e j) (free_inode w.frame j) w) is_dir
     ∙ ap (λ j. option_map_or (placed w b d j) (free_inode w.frame j) w) is_fs
     ∙ ap (λ x. option_map_or (placed w b d k) x w) free
 

@@ -1,17 +1,15 @@
 -- A world that a valid config's lines have made is sound.
 use Rattle.std.proofs.Common.{◌≡◌, ◌<◌, ◌≤◌, ◌+◌, ℕ, zero, suc, true, false, true≢false, List, [], ◌∷◌, length, map, Option, Some, None, is_some, is_none, cond}
-use Rattle.std.proofs.Common.{refl, sym, ap, ◌∙◌, subst, arith}
-use Rattle.std.{specs.{Option.option_map_or, List.list_all}, proofs.lemmas.Bool.{and_parts, or_left, not_from_false, ne_eqb}}
-use Rattle.std.{proofs.lemmas.List.{length-replicate, length-map}, proofs.lemmas.List.Sums.{sum_by-cons, count_by-le-length}}
+use Rattle.std.{proofs.{Common.{refl, sym, ap, ◌∙◌, subst, arith}, lemmas.Bool.{and_parts, or_left, not_from_false, ne_eqb}}, specs.{Option.option_map_or, List.list_all}}
+use Rattle.std.proofs.lemmas.List.{length-replicate, length-map, Sums.{sum_by-cons, count_by-le-length}}
 use Rattle.ix_label.specs.Category.{leq}
-use Rattle.ix_model.specs.world.{World.{fs_at, World, Object, Process, Open, Holding, at, is_dir, no_claims}, Numbers.first_inode, Owners.times_named}
+use Rattle.ix_model.specs.{world.{World.{fs_at, World, Object, Process, Open, Holding, at, is_dir, no_claims}, Numbers.first_inode, Owners.times_named}, laws.Sound.Sound}
 use Rattle.ix_model.specs.{opening.Opening.process_of, laws.Clean.IsClean, declared.config.{Config.Config, ProcSpec.ProcSpec, ObjSpec.ObjSpec}}
 use Rattle.ix_model.specs.laws.Sound.{LabelsBelow, NamesSound, LivesSound, OpensSound, ProcessesSound, ClaimsSound, WithinLimits, LengthsSound, ShapesSound}
-use Rattle.ix_model.specs.laws.Sound.{Sound}
 use Rattle.ix_model.proofs.{opening.{Openings.all_one, Built.Built, OpenedWorlds.world_with}, words.Living.is_living}
 
 none_some : {A : Type 0} (X : Type 0) (o : Option A) (x : A) → o ≡ None → o ≡ Some x → X
-none_some X o x none some = let e : None ≡ Some x = sym none ∙ some in cc
+none_some X o x none some = let e = sym none ∙ some in cc
 
 -- ---- a process is one of a line
 pub record ProcessAt (q : Process) : Type 0 where
@@ -24,12 +22,12 @@ processes_of procs = map (λ p. Some (process_of p)) procs
 
 process_in : (procs : List ProcSpec) (k : ℕ) (q : Process) → list_all (λ p. leq p.label p.ceiling) procs ≡ true → at (processes_of procs) k ≡ Some q → ProcessAt q
 process_in [] k q low is = cc
-process_in (p ∷ procs) zero q low is = record { spec = p; is = cc; low = (and_parts (leq p.label p.ceiling) (list_all (λ p. leq p.label p.ceiling) procs) low).0 }
-process_in (p ∷ procs) (suc k) q low is = process_in procs k q (and_parts (leq p.label p.ceiling) (list_all (λ p. leq p.label p.ceiling) procs) low).1 is
+process_in (p ∷ procs) zero q low is = record { spec = p; is = cc; low = (and_parts _ (list_all (λ p. leq p.label p.ceiling) procs) low).0 }
+process_in (p ∷ procs) (suc k) q low is = process_in procs k q (and_parts _ (list_all (λ p. leq p.label p.ceiling) procs) low).1 is
 
 process_at : (procs : List ProcSpec) (k : ℕ) (q : Process) → list_all (λ p. leq p.label p.ceiling) procs ≡ true → at (None ∷ processes_of procs) k ≡ Some q → ProcessAt q
 process_at procs zero q low is = cc
-process_at procs (suc k) q low is = process_in procs k q low is
+process_at procs (suc k) q low is = process_in _ k q low is
 
 -- ---- the parts
 module _ (c : Config) (before : List ObjSpec) (t : List (Option Object)) (hs : List Holding) (r : Built c.fss c.limits before t hs)
@@ -40,11 +38,11 @@ module _ (c : Config) (before : List ObjSpec) (t : List (Option Object)) (hs : L
   labels_sound : LabelsBelow opened.frame
   labels_sound = record {
     objects = λ o x is. (r.fits o x is).low;
-    processes = λ p q is. let a = process_at c.procs p q low is in ap (λ (x : Process). leq x.label x.ceiling) (sym a.is) ∙ a.low;
+    processes = λ p q is. let a = process_at _ p q low is in ap (λ x. leq x.label x.ceiling) (sym a.is) ∙ a.low;
   }
 
   names_sound : NamesSound opened.frame
-  names_sound = record { root = r.named.root; in_directories = r.named.in_directories; living = r.named.living; differ = r.named.differ; once = r.named.once }
+  names_sound = search
 
   lives_sound : LivesSound opened.frame
   lives_sound = record {
@@ -53,14 +51,14 @@ module _ (c : Config) (before : List ObjSpec) (t : List (Option Object)) (hs : L
   }
 
   not_open : (e : ℕ) (x : Open) (X : Type 0) → at opened.frame.opens e ≡ Some x → X
-  not_open e x X is = none_some X _ x (all_one None c.limits.opens e) is
+  not_open e x X is = none_some X _ x (all_one _ _ e) is
 
   opens_sound : OpensSound opened.frame
   opens_sound = record {
     descriptor = λ p q fd e lives is.
-        let a = process_at c.procs p q low (is_living _ q lives) in
-        none_some _ _ e (ap (λ (x : Process). at x.fds fd) (sym a.is) ∙ all_one None 32 fd) is;
-    owned = λ e some. absurd (true≢false (sym some ∙ ap is_some (all_one None c.limits.opens e)));
+        let a = process_at _ p q low (is_living _ q lives) in
+        none_some _ _ e (ap (λ x. at x.fds fd) (sym a.is) ∙ all_one _ 32 fd) is;
+    owned = λ e some. absurd (true≢false (sym some ∙ ap is_some (all_one _ c.limits.opens e)));
     target = λ e x is. not_open e x _ is;
     end = λ e x is. not_open e x _ is;
   }
@@ -83,7 +81,7 @@ module _ (c : Config) (before : List ObjSpec) (t : List (Option Object)) (hs : L
   no_claim (suc (suc k)) = refl
 
   claims_sound : ClaimsSound opened.frame
-  claims_sound = record { claimant = λ o end p x is claim. none_some _ (at x.claims end) p (ap (λ cs. at cs end) (r.fits o x is).unclaimed ∙ no_claim end) claim }
+  claims_sound = record { claimant = λ o end p x is claim. none_some _ _ p (ap (λ cs. at cs end) (r.fits o x is).unclaimed ∙ no_claim _) claim }
 
   limits_sound : WithinLimits opened.frame
   limits_sound = record {
@@ -92,10 +90,10 @@ module _ (c : Config) (before : List ObjSpec) (t : List (Option Object)) (hs : L
     past = λ o x is pipe. absurd (true≢false (sym pipe ∙ (r.fits o x is).no_pipe));
     numbers = λ o k x is on.
         let f = r.fits o x is in
-        let both : Some f.fs ≡ Some k = sym f.is_fs ∙ on in
+        let both = sym f.is_fs ∙ on in
         let same : f.fs ≡ k = cc in
-        subst (λ (j : ℕ). (first_inode c.fss j ≤ o) × (o < first_inode c.fss j + (fs_at c.fss j).inodes)) same (f.from, f.to);
-    opens = length-replicate {A = Option Open} c.limits.opens None;
+        subst (λ j. (first_inode c.fss j ≤ o) × (o < first_inode c.fss j + (fs_at c.fss j).inodes)) same (f.from, f.to);
+    opens = length-replicate c.limits.opens None;
     processes = omega (
       arith,
       sum_by-cons (λ (q : Option Process). cond {A = ℕ} (is_some q) 1 0) None (processes_of c.procs),
@@ -109,8 +107,8 @@ module _ (c : Config) (before : List ObjSpec) (t : List (Option Object)) (hs : L
   lengths_sound : LengthsSound opened
   lengths_sound = record {
     holdings = r.counted.room;
-    offsets = length-replicate {A = ℕ} c.limits.opens 0 ∙ sym (length-replicate {A = Option Open} c.limits.opens None);
-    offset = λ e. subst (λ (k : ℕ). k ≤ 1048576) (sym (all_one 0 c.limits.opens e)) (omega arith);
+    offsets = length-replicate c.limits.opens 0 ∙ sym (length-replicate c.limits.opens None);
+    offset = λ e. subst (λ k. k ≤ 1048576) (sym (all_one 0 _ e)) (omega arith);
     file = λ o x is file. r.counted.short o;
     pipe = λ o x is pipe. absurd (true≢false (sym pipe ∙ (r.fits o x is).no_pipe));
     blocks = λ k. omega (arith, r.counted.blocks k, r.counted.within k);

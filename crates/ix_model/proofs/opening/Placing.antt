@@ -1,11 +1,9 @@
 -- A table of objects with one more, under a name in a directory.
-use Rattle.std.proofs.Common.{◌≡◌, ◌≢◌, ◌<◌, ◌+◌, ◌==◌, ℕ, zero, suc, List, [], ◌∷◌, ◌++◌, length, map, sum, count_by, cond, Option, Some, None, option_map, ap}
-use Rattle.std.proofs.Common.{refl, sym, ◌∙◌, subst, arith, length-set, inl, inr}
-use Rattle.std.specs.{Option.option_map_or, List.sum_by}
+use Rattle.std.proofs.Common.{◌≡◌, ◌≢◌, ◌<◌, ◌+◌, ◌==◌, ℕ, zero, suc, List, [], ◌∷◌, ◌++◌, length, map, sum, cond, Option, Some, None, option_map, ap}
+use Rattle.std.{proofs.Common.{refl, sym, ◌∙◌, subst, arith, length-set, inl, inr}, specs.{Option.option_map_or, List.sum_by}}
 use Rattle.std.proofs.lemmas.{Bool.Decides.eqb_tells, List.{get_or-set_same, get_or-set_other, length-append, Sums.{sum-map, sum_by-set, sum_by_push}}}
 use Rattle.ix_model.specs.{world.{World.{Object, at, put, change}, Naming.last_name, Owners.{times_in, times_named, names_in_all}}, opening.Opening.object_of}
-use Rattle.ix_model.specs.declared.config.ObjSpec.{ObjSpec}
-use Rattle.ix_model.proofs.tables.Tables.{seen_changed, at_changed}
+use Rattle.ix_model.{specs.declared.config.ObjSpec.ObjSpec, proofs.tables.Tables.{seen_changed, at_changed}}
 
 -- the directory with the object's name, and the table with the object
 abbrev pub naming : ObjSpec → ℕ → Object → Object
@@ -27,40 +25,40 @@ module _ (t : List (Option Object)) (b : ObjSpec) (o d k : ℕ) (p : Place t o d
 
   -- nothing is at the new number
   pub not_new : (m : ℕ) (x : Object) → at t m ≡ Some x → m ≢ o
-  not_new m x is same = let e : None ≡ Some x = sym p.free ∙ ap (at t) (sym same) ∙ is in cc
+  not_new m x is same = let e = sym p.free ∙ ap (at t) (sym same) ∙ is in cc
 
   pub at_new : at after o ≡ Some (object_of k b)
-  at_new = get_or-set_other (put t o (Some (object_of k b))) d o _ None (λ same. not_new d p.dir p.is_dir (sym same)) ∙ get_or-set_same t o (Some (object_of k b)) None p.low
+  at_new = get_or-set_other _ d o _ None (λ same. not_new d _ p.is_dir (sym same)) ∙ get_or-set_same t o _ None p.low
 
   pub at_dir : at after d ≡ Some (naming b o p.dir)
-  at_dir = at_changed (put t o (Some (object_of k b))) d (naming b o) ∙ ap (option_map (naming b o)) (get_or-set_other t o d (Some (object_of k b)) None (not_new d p.dir p.is_dir) ∙ p.is_dir)
+  at_dir = at_changed _ d _ ∙ ap (option_map _) (get_or-set_other t o d _ None (not_new d _ p.is_dir) ∙ p.is_dir)
 
   pub at_rest : (m : ℕ) → m ≢ o → m ≢ d → at after m ≡ at t m
-  at_rest m other apart = get_or-set_other (put t o (Some (object_of k b))) d m _ None apart ∙ get_or-set_other t o m (Some (object_of k b)) None other
+  at_rest m other apart = get_or-set_other _ d m _ None apart ∙ get_or-set_other t o m _ None other
 
   -- what doesn't look at names sees what it saw
   pub seen : {B : Type 0} (F : Option Object → B) → ((x : Object) → F (Some (naming b o x)) ≡ F (Some x)) → (m : ℕ) → m ≢ o → F (at after m) ≡ F (at t m)
-  seen F same m other = seen_changed F (naming b o) same (put t o (Some (object_of k b))) d m ∙ ap F (get_or-set_other t o m (Some (object_of k b)) None other)
+  seen F same m other = seen_changed F _ same _ d m ∙ ap F (get_or-set_other t o m _ None other)
 
   -- what holds of the new object, of the directory and of the others holds of each
   pub each_after : (P : ℕ → Object → Type 0) → P o (object_of k b) → P d (naming b o p.dir) → ((m : ℕ) (x : Object) → m ≢ o → m ≢ d → at t m ≡ Some x → P m x)
       → (m : ℕ) (x : Object) → at after m ≡ Some x → P m x
   each_after P new dir rest m x is = elim (eqb_tells m o) [
     | inl here ↦
-        let both : Some (object_of k b) ≡ Some x = sym at_new ∙ ap (at after) (sym here.1) ∙ is in
+        let both = sym at_new ∙ ap (at after) (sym here.1) ∙ is in
         let same : object_of k b ≡ x = cc in
-        subst (λ (y : Object). P m y) same (subst (λ (i : ℕ). P i (object_of k b)) (sym here.1) new)
+        subst (λ y. P m y) same (subst (λ i. P i (object_of k b)) (sym here.1) new)
     | inr other ↦ elim (eqb_tells m d) [
       | inl here ↦
-          let both : Some (naming b o p.dir) ≡ Some x = sym at_dir ∙ ap (at after) (sym here.1) ∙ is in
+          let both = sym at_dir ∙ ap (at after) (sym here.1) ∙ is in
           let same : naming b o p.dir ≡ x = cc in
-          subst (λ (y : Object). P m y) same (subst (λ (i : ℕ). P i (naming b o p.dir)) (sym here.1) dir)
+          subst (λ y. P m y) same (subst (λ i. P i (naming b o p.dir)) (sym here.1) dir)
       | inr apart ↦ rest m x other.1 apart.1 (sym (at_rest m other.1 apart.1) ∙ is)
     ]
   ]
 
   pub length-after : length after ≡ length t
-  length-after = length-set (put t o (Some (object_of k b))) d _ ∙ length-set t o _
+  length-after = length-set _ d _ ∙ length-set t o _
 
   -- a sum over the table, in which a free number and the new object count nothing
   sum_after : (F : Option Object → ℕ) → F None ≡ 0 → F (Some (object_of k b)) ≡ 0 → sum (map F after) + F (Some p.dir) ≡ sum (map F t) + F (Some (naming b o p.dir))
@@ -86,8 +84,8 @@ module _ (t : List (Option Object)) (b : ObjSpec) (o d k : ℕ) (p : Place t o d
   -- the new object has one name more, the others have as many as before
   pub times_after : (q : ℕ) → times_named after q ≡ times_named t q + cond (o == q) 1 0
   times_after q =
-      let more : count_by (λ n. n.1 == q) (naming b o p.dir).names ≡ count_by (λ n. n.1 == q) p.dir.names + cond {A = ℕ} (o == q) 1 0 =
-      sum_by_push (λ (n : List ℕ × ℕ). cond {A = ℕ} (n.1 == q) 1 0) p.dir.names (last_name b.path.names, o) in
+      let more =
+      sum_by_push (λ n. cond (n.1 == q) 1 0) p.dir.names (last_name b.path.names, o) in
       omega (arith, sum_after (times_in q) refl refl)
 
   pub names_after : names_in_all after ≡ suc (names_in_all t)

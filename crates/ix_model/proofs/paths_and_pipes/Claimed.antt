@@ -2,14 +2,14 @@
 use Rattle.std.{specs.Option.option_map_or, proofs.lemmas.{Bool.{and_parts, or_cases, eqb-true}, List.take-append-drop}}
 use Rattle.std.proofs.Common.{◌≡◌, ◌≤◌, ◌-◌, ◌==◌, ℕ, zero, suc, Bool, true, false, true≢false, not, ◌&&◌, ◌||◌, List, [], ◌∷◌, ◌++◌, take, drop, Option, Some}
 use Rattle.std.proofs.Common.{None, is_some, refl, sym, ap, ◌∙◌, subst, arith, inl, inr, if◌then◌else◌}
-use Rattle.ix_model.specs.{world.World.{World, Frame, Object, at, is_pipe, claimed_by_another, claimed_by}, world.Numbers.first_pipe}
+use Rattle.ix_model.specs.world.{World.{World, Frame, Object, at, is_pipe, claimed_by_another, claimed_by}, Numbers.first_pipe}
 use Rattle.ix_model.specs.{world.Contents.{holding_of, side, on_pipe, readable, offset_of}, rows.{Walks.{OpenFile, behind}, Telling.told, Table.verdict}}
 use Rattle.ix_model.specs.{history.{Step.{plainly, read_answer, answer, step, step_of, run, is_whole}, Events.{Op, Event}}, laws.Sound.{ShapesSound, Sound}}
 use Rattle.ix_model.specs.{laws.WholePaths.{reaches, sent, written_to, IsEndOf}, declared.{reply.Reply.Reply, refusal.Refusal.Refusal}}
 use Rattle.ix_model.specs.laws.ClaimedPaths.{stays_whole, claims_its_end, sent_by_claimant, written_by_claimants, IsInside}
+use Rattle.ix_model.proofs.{words.Standing.behind_is, sound.Soundly.sound_step, paths_and_pipes.{Wholes.becomes_empty, Written.holds_written, Stopping.stops}}
 use Rattle.ix_model.specs.history.Events as op
 use Rattle.ix_model.specs.declared.reply.Reply.TheVariants as reply
-use Rattle.ix_model.proofs.{words.Standing.behind_is, sound.Soundly.sound_step, paths_and_pipes.{Wholes.becomes_empty, Written.holds_written, Stopping.stops}}
 
 -- ---- lists
 inside_end : (part end whole : List ℕ) (n : ℕ) → part ≡ take n end → IsEndOf end whole → IsInside part whole
@@ -31,15 +31,15 @@ record WholeObject (f : Frame) (o : ℕ) : Type 0 where
   second : is_some (at object.claims 1) ≡ true
 
 whole_object : (f : Frame) (o : ℕ) → is_whole f o ≡ true → WholeObject f o
-whole_object f o h = go (at f.objects o) refl h
+whole_object f o h = go _ refl h
   where
     go : (x : Option Object) → at f.objects o ≡ x → option_map_or (λ x. is_some (at x.claims 0) && is_some (at x.claims 1)) x false ≡ true → WholeObject f o
     go None is h = cc
-    go (Some x) is h = let both = and_parts (is_some (at x.claims 0)) (is_some (at x.claims 1)) h in record { object = x; is = is; first = both.0; second = both.1 }
+    go (Some x) is h = let both = and_parts _ _ h in record { object = x; is = is; first = both.0; second = both.1 }
 
 -- it is a pipe
 whole_pipe : (f : Frame) (o : ℕ) (w : WholeObject f o) → ShapesSound f → is_pipe w.object ≡ true
-whole_pipe f o w s = go (is_pipe w.object) refl
+whole_pipe f o w s = go _ refl
   where
     go : (b : Bool) → is_pipe w.object ≡ b → b ≡ true
     go true is = refl
@@ -47,9 +47,9 @@ whole_pipe f o w s = go (is_pipe w.object) refl
 
 -- an open entry is at end 0 or 1
 low_end : (n : ℕ) (b : Bool) → (n == 0 || n == 1 && b) ≡ true → n ≤ 1
-low_end n b h = elim (or_cases (n == 0) (n == 1 && b) h) [
-  | inl first ↦ let e : n ≡ 0 = eqb-true n 0 first in omega (arith, e)
-  | inr second ↦ let e : n ≡ 1 = eqb-true n 1 (and_parts (n == 1) b second).0 in omega (arith, e)
+low_end n b h = elim (or_cases _ _ h) [
+  | inl first ↦ let e = eqb-true n 0 first in omega (arith, e)
+  | inr second ↦ let e = eqb-true n 1 (and_parts _ b second).0 in omega (arith, e)
 ]
 
 claim_at : (x : Object) (n : ℕ) → n ≤ 1 → is_some (at x.claims 0) ≡ true → is_some (at x.claims 1) ≡ true → is_some (at x.claims n) ≡ true
@@ -118,12 +118,12 @@ all_by_claimants w s place (e ∷ h) o end whole =
 whole_at_first : (w : World) (place : ℕ) (h : List Event) (o : ℕ) → stays_whole w place h o ≡ true → is_whole w.frame o ≡ true
 unfolding stays_whole
 whole_at_first w place [] o whole = whole
-whole_at_first w place (e ∷ h) o whole = (and_parts (is_whole w.frame o) (stays_whole (step_of w place e).world (suc place) h o) whole).0
+whole_at_first w place (e ∷ h) o whole = (and_parts _ _ whole).0
 
 whole_at_last : (w : World) (place : ℕ) (h : List Event) (o : ℕ) → stays_whole w place h o ≡ true → is_whole (run w place h).frame o ≡ true
 unfolding stays_whole
 whole_at_last w place [] o whole = whole
-whole_at_last w place (e ∷ h) o whole = whole_at_last (step_of w place e).world (suc place) h o (and_parts (is_whole w.frame o) (stays_whole (step_of w place e).world (suc place) h o) whole).1
+whole_at_last w place (e ∷ h) o whole = whole_at_last (step_of w place e).world _ h o (and_parts (is_whole w.frame o) (stays_whole (step_of w place e).world (suc place) h o) whole).1
 
 sound_run : (w : World) → Sound w → (place : ℕ) (h : List Event) → Sound (run w place h)
 sound_run w s place [] = s
@@ -133,9 +133,9 @@ read_inside : (w : World) (count : ℕ) (e : OpenFile) (a : Reply) (g : Frame) (
     → IsEndOf (side e.entry.end (holding_of w.content e.entry.object)) whole → IsInside (read_answer w count (Some e) a g).bytes whole
 unfolding read_answer plainly readable
 read_inside w count e (reply.Bytes k) g whole pipe held =
-    inside_end _ (side e.entry.end (holding_of w.content e.entry.object)) whole count
+    inside_end _ _ _ count
     (ap (λ b. take count (drop (if b then 0 else offset_of w.content e.id) (side e.entry.end (holding_of w.content e.entry.object)))) pipe) held
-read_inside w count e _ g whole pipe held = inside_none _ whole refl
+read_inside w count e _ g whole pipe held = inside_none _ _ refl
 
 pub claimants_read : (w : World) (place pid : ℕ) (c : Op) (h : List Event) (o : ℕ) → Sound w → is_whole w.frame o ≡ false
     → stays_whole (step w place pid c).world (suc place) h o ≡ true → (n reader fd count : ℕ) (e : OpenFile)

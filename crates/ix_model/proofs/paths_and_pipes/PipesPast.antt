@@ -1,11 +1,9 @@
 -- Past the inodes of all file systems nothing but pipes is ever made.
-use Rattle.std.proofs.Common.{◌≡◌, ◌≢◌, ◌≤◌, ◌+◌, ℕ, zero, suc, Bool, true, false, not, List, [], ◌∷◌, length, map, sum, take, Option, Some, None, is_none, sym}
-use Rattle.std.proofs.Common.{refl, ap, ◌∙◌, arith}
+use Rattle.std.proofs.Common.{◌≡◌, ◌≢◌, ◌≤◌, ◌+◌, ℕ, zero, suc, Bool, true, false, not, List, [], ◌∷◌, length, map, sum, take, Option, Some, None, is_none, sym, refl, ap, ◌∙◌, arith}
 use Rattle.std.{specs.Option.option_map_or, proofs.lemmas.List.{get_or-set_other, Sums.{sum_by-cons, sum-map}}}
-use Rattle.ix_model.specs.world.{World.{fs_at, World, Frame, Object, at, put, change, is_pipe}, Numbers.{first_inode, first_pipe, free_inode}}
-use Rattle.ix_model.specs.{rows.Rows.{change_object, change_process, put_object, put_open, put_process, add_process, change_open}, rows.Auditing.logged}
-use Rattle.ix_model.specs.{rows.OnProcesses.end_process, rows.Telling.told, history.{Step.step, Events.Op}, laws.Sound.WithinLimits}
-use Rattle.ix_model.specs.declared.config.FsSpec.{FsSpec}
+use Rattle.ix_model.specs.{world.{World.{fs_at, World, Frame, Object, at, put, change, is_pipe}, Numbers.{first_inode, first_pipe, free_inode}}, declared.config.FsSpec.FsSpec}
+use Rattle.ix_model.specs.rows.{Rows.{change_object, change_process, put_object, put_open, put_process, add_process, change_open}, Auditing.logged}
+use Rattle.ix_model.specs.{rows.{OnProcesses.end_process, Telling.told}, history.{Step.step, Events.Op}, laws.Sound.WithinLimits}
 use Rattle.ix_model.proofs.tables.{Tables.{seen_changed, seen_put}, FreeNumbers.free_inode_is}
 use Rattle.ix_model.proofs.words.{Keeps.Holds, Lasts.decided, Rowwise.{Words, all, bears_all, changes_of, kept_row}, Answered.step_frame}
 
@@ -63,8 +61,8 @@ module _ (f : Frame) where
     claim = λ can o h same. record { led = λ g. past_changed g o h (λ x. ap (λ y. y.kind) (same x)) };
     log = λ can l. record { led = λ g r. record { fss = r.fss; pipes = r.pipes } };
     inode = λ can m o k kind is free. record { led = λ g. past_inode m g o k _ is free };
-    pipe = λ can m o is free. record { led = λ g. past_objects g _ (λ n past here. seen_put is_other false g.objects o _ n (λ h. refl) here) };
-    gone_object = λ can o. record { led = λ g. past_objects g _ (λ n past here. seen_put is_other false g.objects o None n (λ h. refl) here) };
+    pipe = λ can m o is free. record { led = λ g. past_objects g _ (λ n past here. seen_put is_other _ g.objects o _ n (λ h. refl) here) };
+    gone_object = λ can o. record { led = λ g. past_objects g _ (λ n past here. seen_put is_other _ g.objects o None n (λ h. refl) here) };
     gone_open = λ can e. record { led = λ g r. record { fss = r.fss; pipes = r.pipes } };
     fork = λ can p. record { led = λ g r. record { fss = r.fss; pipes = r.pipes } };
     end = λ can. record { led = λ g r. record { fss = r.fss; pipes = r.pipes } };
@@ -93,4 +91,4 @@ pipes_past f limits = record { fss = refl; pipes = λ o past. go o past (at f.ob
 
     go : (o : ℕ) → first_pipe f.fss ≤ o → (x : Option Object) → at f.objects o ≡ x → is_other x ≡ false
     go o past None is = refl
-    go o past (Some x) is = ap not (kind o x x.fs past is refl)
+    go o past (Some x) is = ap not (kind o x _ past is refl)

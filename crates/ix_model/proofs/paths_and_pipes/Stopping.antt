@@ -1,16 +1,14 @@
 -- Nobody but the claimant gets through a claimed end.
-use Rattle.std.specs.Option.{option_map_or}
-use Rattle.std.proofs.Common.{◌≡◌, ℕ, Bool, true, false, true≢false, not, List, [], Option, Some, None, refl, sym, ap, ◌∙◌, if◌then◌else◌}
-use Rattle.ix_model.specs.{rows.Refusals.keeps_label, rows.Outcomes.{Outcome, Refuse, Pass}, rows.Walks.{OpenFile, behind, behind_of, opened}}
-use Rattle.ix_model.specs.{rows.Rows.{◌>>=◌, on_pass, pass, refuse, need, some, frame, object}, rows.OnDescriptors.{LengthChecks, read_fd, write_fd, pex}}
-use Rattle.ix_model.specs.{rows.Table.{row, settled, verdict}, rows.Telling.told, laws.ClaimedPaths.{Stopped, NotThrough}}
+use Rattle.std.{specs.Option.option_map_or, proofs.Common.{◌≡◌, ℕ, Bool, true, false, true≢false, not, List, [], Option, Some, None, refl, sym, ap, ◌∙◌, if◌then◌else◌}}
+use Rattle.ix_model.specs.{rows.{Refusals.keeps_label, Outcomes.{Outcome, Refuse, Pass}, Walks.{OpenFile, behind, behind_of, opened}}, declared.{reply.Reply.Reply, refusal.Refusal.Refusal}}
+use Rattle.ix_model.specs.rows.{Rows.{◌>>=◌, on_pass, pass, refuse, need, some, frame, object}, OnDescriptors.{LengthChecks, read_fd, write_fd, pex}}
+use Rattle.ix_model.specs.{rows.{Table.{row, settled, verdict}, Telling.told}, laws.ClaimedPaths.{Stopped, NotThrough}}
 use Rattle.ix_model.specs.history.{Step.{plainly, read_answer, write_answer, pex_answer, answer, step}, Events.Op}
-use Rattle.ix_model.specs.declared.{reply.Reply.Reply, refusal.Refusal.Refusal}
 use Rattle.ix_model.specs.world.World.{World, Frame, Object, Process, at, living, lives, is_pipe, may_read, may_write, claimed_by_another}
+use Rattle.ix_model.proofs.{words.Ends.{Ends, ends_bind, ends_then}, refused.RefusedSteps.refused_step}
 use Rattle.ix_model.specs.history.Events as op
 use Rattle.ix_model.specs.declared.reply.Reply.TheVariants as reply
 use Rattle.ix_model.specs.declared.refusal.Refusal.TheVariants as refusal
-use Rattle.ix_model.proofs.{words.Ends.{Ends, ends_bind, ends_then}, refused.RefusedSteps.refused_step}
 
 -- ---- rows
 -- a test, with what is known where it fails
@@ -70,7 +68,7 @@ module _ (f : Frame) (pid fd : ℕ) (e : OpenFile) (x : Object) (leads : behind 
 
   is_live : lives f pid ≡ true
   unfolding behind
-  is_live = go (at f.processes pid) leads
+  is_live = go _ leads
     where
       live : (b : Bool) (q : Process) → behind_of (if b then None else Some q) f fd ≡ Some e → not b ≡ true
       live true q h = cc
@@ -78,7 +76,7 @@ module _ (f : Frame) (pid fd : ℕ) (e : OpenFile) (x : Object) (leads : behind 
 
       go : (o : Option Process) → behind_of (living o) f fd ≡ Some e → option_map_or (λ p. not p.ended) o false ≡ true
       go None h = cc
-      go (Some q) h = live q.ended q h
+      go (Some q) h = live _ q h
 
 -- ---- decisions
 settled_stops : (f : Frame) (o : Outcome Reply) (r : Refusal) → Ends o (λ why g. why ≡ r) never → (settled f o).reply ≡ reply.No r

@@ -1,16 +1,14 @@
 -- A path becomes whole by a claim alone, which empties it.
-use Rattle.std.proofs.Common.{◌≡◌, ℕ, zero, suc, Bool, true, false, not, ◌&&◌, List, [], ◌∷◌, Option, Some, None, is_some, refl, sym, ap, ◌∙◌, true≢false, set}
-use Rattle.std.proofs.Common.{get_or, inl, inr}
+use Rattle.std.proofs.Common.{◌≡◌, ℕ, zero, suc, Bool, true, false, not, ◌&&◌, List, [], ◌∷◌, Option, Some, None, is_some, refl, sym, ap, ◌∙◌, true≢false, set, get_or, inl, inr}
 use Rattle.std.{specs.{Option.option_map_or, List.list_all}, proofs.lemmas.{Bool.{and_parts, Decides.eqb_tells}, List.get_or-set_other}}
 use Rattle.ix_model.specs.world.{World.{World, Frame, Object, Holding, at, put, change}, Contents.{carried, emptied, holding_of, holds_nothing}}
-use Rattle.ix_model.specs.{rows.Rows.{change_object, change_process, put_object, put_open, put_process, add_process, change_open}, rows.Auditing.logged}
-use Rattle.ix_model.specs.{rows.Walks.{OpenFile, behind}, rows.OnDescriptors.{LengthChecks, claimed, pex}, rows.OnProcesses.end_process, rows.Telling.told}
+use Rattle.ix_model.specs.rows.{Rows.{change_object, change_process, put_object, put_open, put_process, add_process, change_open}, Auditing.logged}
+use Rattle.ix_model.specs.rows.{Walks.{OpenFile, behind}, OnDescriptors.{LengthChecks, claimed, pex}, OnProcesses.end_process, Telling.told}
 use Rattle.ix_model.specs.{rows.Table.{row, verdict}, history.{AuditLog.is_answer, Step.{pex_answer, answer, step, is_whole}, Events.Op}}
-use Rattle.ix_model.specs.declared.{reply.Reply.Reply, refusal.Refusal.Refusal}
+use Rattle.ix_model.{specs.declared.{reply.Reply.Reply, refusal.Refusal.Refusal}, proofs.{words.Rowwise.{Change, Claiming, Words, changes_of, kept_row}, refused.Refusing.decided_frames}}
+use Rattle.ix_model.proofs.words.{Keeps.Holds, Ends.{Ends, Anything}, RowEnds.endings, Lasts.decided, Answered.{step_frame, passed}}
 use Rattle.ix_model.specs.history.Events as op
 use Rattle.ix_model.specs.declared.reply.Reply.TheVariants as reply
-use Rattle.ix_model.proofs.{words.Keeps.Holds, words.Ends.{Ends, Anything}, words.RowEnds.endings, words.Lasts.decided, words.Answered.{step_frame, passed}}
-use Rattle.ix_model.proofs.{words.Rowwise.{Change, Claiming, Words, changes_of, kept_row}, refused.Refusing.decided_frames}
 
 -- ---- tables
 -- what a test shows after a change, it showed before, where no change brings it about
@@ -114,11 +112,11 @@ pex_empties w pid fd o r g facts was is =
     let claim : Object → Object = λ y. record y { claims = put y.claims e.entry.end (Some pid) } in
     elim (eqb_tells o e.entry.object) [
       | inl here ↦
-          let at_e : holding_of (pex_answer w (Some e) r g).world.content e.entry.object ≡ holds_nothing =
+          let at_e =
           emptied_there w e r g (ap (is_whole w.frame) (sym here.1) ∙ was) (ap (is_whole g) (sym here.1) ∙ is) in
           ap (λ b. holding_of (pex_answer w b r g).world.content o) facts.is_entry ∙ ap (λ n. holding_of (pex_answer w (Some e) r g).world.content n) here.1 ∙ at_e
       | inr apart ↦
-          let same : at g.objects o ≡ at w.frame.objects o = ap (λ t. at t o) facts.objects ∙ get_or-set_other w.frame.objects e.entry.object o _ None apart.1 in
+          let same = ap (λ t. at t o) facts.objects ∙ get_or-set_other w.frame.objects e.entry.object o _ None apart.1 in
           absurd (true≢false (sym is ∙ ap whole_of same ∙ was))
     ]
 
@@ -130,16 +128,16 @@ pex_case : (w : World) (place pid fd o : ℕ) (t : LengthChecks) → is_whole w.
     → holding_of (pex_answer w (behind w.frame pid fd) (verdict t place pid (op.Pex fd) w.frame).reply
     (verdict t place pid (op.Pex fd) w.frame).frame).world.content o ≡ holds_nothing
 unfolding row
-pex_case w place pid fd o t was is = go (is_answer (verdict t place pid (op.Pex fd) w.frame).reply) refl
+pex_case w place pid fd o t was is = go _ refl
   where
     go : (b : Bool) → is_answer (verdict t place pid (op.Pex fd) w.frame).reply ≡ b
         → holding_of (pex_answer w (behind w.frame pid fd) (verdict t place pid (op.Pex fd) w.frame).reply
         (verdict t place pid (op.Pex fd) w.frame).frame).world.content o ≡ holds_nothing
-    go true answers = pex_empties w pid fd o _ _ (passed t place pid (op.Pex fd) w.frame (λ a g. PexFacts pid fd w.frame g) (pex_ends pid fd w.frame) answers) was is
+    go true answers = pex_empties w _ fd o _ _ (passed t _ _ _ _ _ (pex_ends _ fd _) answers) was is
     go false refuses =
         let why = refused_reply _ refuses in
-        let same = (decided_frames t place pid (op.Pex fd) w.frame why.0 why.1).relabelled.is in
-        absurd (true≢false (sym is ∙ ap (λ (g : Frame). is_whole g o) same ∙ was))
+        let same = (decided_frames t _ _ _ _ _ why.1).relabelled.is in
+        absurd (true≢false (sym is ∙ ap (λ g. is_whole g o) same ∙ was))
 
 pub becomes_empty : (w : World) (place pid : ℕ) (c : Op) (o : ℕ) → is_whole w.frame o ≡ false → is_whole (step w place pid c).world.frame o ≡ true
     → holding_of (step w place pid c).world.content o ≡ holds_nothing

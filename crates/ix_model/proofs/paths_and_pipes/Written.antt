@@ -1,18 +1,15 @@
 -- What a pipe holds was written in it.
-use Rattle.std.proofs.Common.{◌≡◌, ◌≢◌, ◌≤◌, ◌+◌, ◌-◌, ◌==◌, ℕ, zero, suc, Bool, true, false, not, ◌&&◌, List, [], ◌∷◌, ◌++◌, length, take, drop, Option, Some}
-use Rattle.std.proofs.Common.{None, is_some, refl, sym, ap, ◌∙◌, subst, arith, append-nil, append_assoc, true≢false, get_or, set, if◌then◌else◌, inl, inr}
+use Rattle.std.proofs.Common.{◌≡◌, ◌≢◌, ◌≤◌, ◌+◌, ◌-◌, ◌==◌, ℕ, zero, suc, Bool, true, false, not, List, [], ◌∷◌, ◌++◌, length, take, drop, Option, Some}
+use Rattle.std.proofs.Common.{None, refl, sym, ap, ◌∙◌, subst, arith, append-nil, append_assoc, true≢false, get_or, set, if◌then◌else◌, inl, inr}
 use Rattle.std.{specs.Option.option_map_or, proofs.lemmas.{Bool.{ne_eqb, eq-eqb, Decides.eqb_tells}, List.{get_or-set_other, take-append-drop}}}
-use Rattle.ix_model.specs.{world.{World.{World, Frame, Content, Object, Holding, at, is_ended, is_pipe}, Numbers.first_pipe}, history.Events.{Op, Event}}
+use Rattle.ix_model.specs.{world.{World.{World, Frame, Content, Object, Holding, at, is_pipe}, Numbers.first_pipe, Contents.{after_seek, after_exit, emptied}}, history.Events.{Op, Event}}
 use Rattle.ix_model.specs.{rows.{Walks.{OpenFile, behind}, OnDescriptors.LengthChecks, Table.verdict, Telling.told}, declared.reply.Reply.Reply}
-use Rattle.ix_model.specs.laws.{WholePaths.{reaches, sent, written_to, IsEndOf}, Sound.Sound}
+use Rattle.ix_model.{specs.laws.{WholePaths.{reaches, sent, written_to, IsEndOf}, Sound.Sound}, proofs.paths_and_pipes.PipesPast.{PipesPast, is_other, pipes_past, past_step, past_next}}
 use Rattle.ix_model.specs.world.Contents.{carried, holding_of, offset_of, holds_nothing, side, with_side, on_pipe, spliced, after_read, after_write, after_cut}
-use Rattle.ix_model.specs.world.Contents.{after_seek, after_exit, emptied}
 use Rattle.ix_model.specs.history.Step.{plainly, read_answer, write_answer, cut_answer, seek_answer, exit_answer, pex_answer, answer, step, step_of, run}
-use Rattle.ix_model.specs.history.Step.{is_whole}
+use Rattle.ix_model.proofs.{clean.{Carrying.get_or-keep, Cleaning.{wrote, was_cut}}, words.Answered.{world_stat, world_wait}}
 use Rattle.ix_model.specs.history.Events as op
 use Rattle.ix_model.specs.declared.reply.Reply.TheVariants as reply
-use Rattle.ix_model.proofs.{clean.{Carrying.get_or-keep, Cleaning.{wrote, was_cut}}, words.Answered.{world_stat, world_wait}}
-use Rattle.ix_model.proofs.paths_and_pipes.PipesPast.{PipesPast, is_other, pipes_past, past_step, past_next}
 
 -- ---- ends of lists
 end_itself : (xs : List ℕ) → IsEndOf xs xs
@@ -32,7 +29,7 @@ end_more s t new whole a b = record {
 }
 
 end_none : (s whole : List ℕ) → IsEndOf s whole → IsEndOf s (whole ++ [])
-end_none s whole a = rw (append-nil whole) a
+end_none s whole a = rw append-nil a
 
 -- ---- holdings
 -- what is read of a list after an edit: the new value at its number, or what was there
@@ -46,8 +43,8 @@ read_set d P (y ∷ xs) (suc n) x (suc m) here there = read_set d P xs n x m (λ
 -- what is carried over is there, or nothing is
 end_carried : (f g : Frame) (c : Content) (o end : ℕ) → IsEndOf (side end (holding_of (carried f g c) o)) (side end (holding_of c o))
 unfolding carried
-end_carried f g c o end = rw (get_or-keep holds_nothing (λ n. is_some (at f.objects n) && is_some (at g.objects n)) 0 c.holdings o)
-    (go (is_some (at f.objects (0 + o)) && is_some (at g.objects (0 + o))))
+end_carried f g c o end = rw get_or-keep
+    (go _)
   where
     none : (b : Bool) → IsEndOf (if b then holds_nothing.first else holds_nothing.second) (side end (holding_of c o))
     none true = end_nothing _
@@ -55,25 +52,25 @@ end_carried f g c o end = rw (get_or-keep holds_nothing (λ n. is_some (at f.obj
 
     go : (b : Bool) → IsEndOf (side end (if b then holding_of c o else holds_nothing)) (side end (holding_of c o))
     go true = end_itself _
-    go false = none (end == 0)
+    go false = none _
 
 -- a side of which the front is dropped
 end_side : (end e k : ℕ) (h : Holding) → IsEndOf (side end (with_side e (drop k (side e h)) h)) (side end h)
-end_side end e k h = go (end == 0) (e == 0)
+end_side end e k h = go _ _
   where
     go : (a b : Bool) → IsEndOf (let r : Holding = if b then record h { first = drop k (if b then h.first else h.second) } else
         record h { second = drop k (if b then h.first else h.second) } in if a then r.first else r.second) (if a then h.first else h.second)
-    go true true = end_dropped k h.first
-    go true false = end_itself h.first
-    go false true = end_itself h.second
-    go false false = end_dropped k h.second
+    go true true = end_dropped k _
+    go true false = end_itself _
+    go false true = end_itself _
+    go false false = end_dropped k _
 
 -- a side to which bytes were added
 end_wrote : (end n : ℕ) (new : List ℕ) (h : Holding) → end ≤ 1 → n ≤ 1 → IsEndOf (side end (with_side n (side n h ++ new) h)) (side end h ++ (if n == end then new else []))
-end_wrote zero zero new h low few = end_itself (h.first ++ new)
-end_wrote zero (suc zero) new h low few = end_none h.first h.first (end_itself h.first)
-end_wrote (suc zero) zero new h low few = end_none h.second h.second (end_itself h.second)
-end_wrote (suc zero) (suc zero) new h low few = end_itself (h.second ++ new)
+end_wrote zero zero new h low few = end_itself _
+end_wrote zero (suc zero) new h low few = end_none _ _ (end_itself _)
+end_wrote (suc zero) zero new h low few = end_none _ _ (end_itself _)
+end_wrote (suc zero) (suc zero) new h low few = end_itself _
 end_wrote (suc (suc m)) n new h low few = absurd (omega (arith, low))
 end_wrote end (suc (suc m)) new h low few = absurd (omega (arith, few))
 
@@ -84,16 +81,16 @@ read_here d P (y ∷ xs) zero x new none = new
 read_here d P (y ∷ xs) (suc n) x new none = read_here d P xs n x new none
 
 nothing_side : (end : ℕ) (whole : List ℕ) → IsEndOf (side end holds_nothing) whole
-nothing_side end whole = go (end == 0)
+nothing_side end whole = go _
   where
     go : (b : Bool) → IsEndOf (if b then holds_nothing.first else holds_nothing.second) whole
-    go true = end_nothing whole
-    go false = end_nothing whole
+    go true = end_nothing _
+    go false = end_nothing _
 
 -- ---- reads and writes
 end_read : (f : Frame) (c : Content) (e : OpenFile) (k o end : ℕ) → IsEndOf (side end (holding_of (after_read f e k c) o)) (side end (holding_of c o))
 unfolding after_read
-end_read f c e k o end = go (on_pipe f e)
+end_read f c e k o end = go _
   where
     there : Holding
     there = holding_of c e.entry.object
@@ -173,19 +170,19 @@ module _ (w : World) (o end : ℕ) (low : end ≤ 1) where
 
   plain_end : (g : Frame) → IsEndOf (side end (holding_of (carried w.frame g w.content) o)) (now ++ [])
   unfolding now
-  plain_end g = end_none _ _ (end_carried w.frame g w.content o end)
+  plain_end g = end_none _ _ (end_carried _ g _ o _)
 
   read_ending : (count : ℕ) (b : Option OpenFile) (r : Reply) (g : Frame) → Ending (read_answer w count b r g).world []
   unfolding Ending read_answer plainly now
-  read_ending count (Some e) (reply.Bytes k) g = end_none _ _ (end_trans _ _ _ (end_carried w.frame g w.content o end) (end_read w.frame (carried w.frame g w.content) e _ o end))
+  read_ending count (Some e) (reply.Bytes k) g = end_none _ _ (end_trans _ _ _ (end_carried _ g _ o _) (end_read _ _ e _ o _))
   read_ending count _ r g = plain_end g
 
   cut_ending : (len : ℕ) (b : Option OpenFile) (r : Reply) (g : Frame) → ((e : OpenFile) → b ≡ Some e → r ≡ reply.Done → o ≢ e.entry.object) → Ending (cut_answer w len b r g).world []
   unfolding Ending cut_answer after_cut plainly now
   cut_ending len (Some e) reply.Done g apart =
       end_none _ _ (subst (λ h. IsEndOf (side end h) now)
-      (sym (get_or-set_other (carried w.frame g w.content).holdings e.entry.object o _ holds_nothing (apart e refl refl)))
-      (end_carried w.frame g w.content o end))
+      (sym (get_or-set_other _ e.entry.object o _ holds_nothing (apart e refl refl)))
+      (end_carried _ g _ o _))
   cut_ending len _ r g apart = plain_end g
 
   seek_ending : (offset : ℕ) (b : Option OpenFile) (r : Reply) (g : Frame) → Ending (seek_answer w offset b r g).world []
@@ -195,7 +192,7 @@ module _ (w : World) (o end : ℕ) (low : end ≤ 1) where
 
   exit_ending : (pid status : ℕ) (r : Reply) (g : Frame) → Ending (exit_answer w pid status r g).world []
   unfolding Ending exit_answer after_exit plainly
-  exit_ending pid status reply.Done g = go (is_ended (at g.processes pid))
+  exit_ending pid status reply.Done g = go _
     where
       go : (b : Bool) → IsEndOf
           (side end (holding_of (if b then record (carried w.frame g w.content) { statuses = set (carried w.frame g w.content).statuses pid status } else
@@ -207,34 +204,34 @@ module _ (w : World) (o end : ℕ) (low : end ≤ 1) where
   pex_ending : (b : Option OpenFile) (r : Reply) (g : Frame) → Ending (pex_answer w b r g).world []
   unfolding Ending pex_answer emptied plainly now
   pex_ending None r g = plain_end g
-  pex_ending (Some e) r g = go (is_whole g e.entry.object && not (is_whole w.frame e.entry.object))
+  pex_ending (Some e) r g = go _
     where
       c : Content
       c = carried w.frame g w.content
 
       go : (b : Bool) → IsEndOf (side end (holding_of (if b then record c { holdings = set c.holdings e.entry.object holds_nothing } else c) o)) (now ++ [])
-      go true = read_set holds_nothing (λ h. IsEndOf (side end h) (now ++ [])) c.holdings e.entry.object holds_nothing o (λ here. nothing_side end _) (plain_end g)
+      go true = read_set _ (λ h. IsEndOf (side end h) (now ++ [])) c.holdings _ _ o (λ here. nothing_side _ _) (plain_end g)
       go false = plain_end g
 
   wrote_end : (e : OpenFile) (new : List ℕ) (g : Frame) → (on_pipe w.frame e ≡ false → o ≢ e.entry.object)
       → IsEndOf (side end (holding_of (after_write w.frame e new (carried w.frame g w.content)) o)) (side end (holding_of (carried w.frame g w.content) o)
       ++ (if reaches (Some e) o end then new else []))
   unfolding reached
-  wrote_end e new g file = end_write w.frame (carried w.frame g w.content) e new o end low file
+  wrote_end e new g file = end_write _ _ e _ o _ low file
 
   write_ending : (pid fd : ℕ) (new : List ℕ) (b : Option OpenFile) (r : Reply) (g : Frame) → behind w.frame pid fd ≡ b
       → ((e : OpenFile) (k : ℕ) → b ≡ Some e → r ≡ reply.Number k → on_pipe w.frame e ≡ false → o ≢ e.entry.object)
       → Ending (write_answer w new b r g).world (sent w.frame pid (op.WriteFd fd new) (write_answer w new b r g).reply o end)
   unfolding Ending write_answer plainly now
   write_ending pid fd new (Some e) (reply.Number k) g is file =
-      rw is (end_more _ _ _ _ (end_carried w.frame g w.content o end) (wrote_end e new g (file e k refl refl)))
+      rw is (end_more _ _ _ _ (end_carried _ g _ o _) (wrote_end e _ g (file e k refl refl)))
   write_ending pid fd new None (reply.Number k) g is file = rw is (plain_end g)
   write_ending pid fd new b r g is file = plain_end g
 
 -- a file's number is before the pipes'
 before_pipes : (f : Frame) (o m : ℕ) (x : Object) → PipesPast f f → first_pipe f.fss ≤ o → at f.objects m ≡ Some x → is_pipe x ≡ false → o ≢ m
 before_pipes f o m x past far is file same =
-    let other : is_other (at f.objects o) ≡ true = ap (λ n. is_other (at f.objects n)) same ∙ ap is_other is ∙ ap not file in
+    let other = ap (λ n. is_other (at f.objects n)) same ∙ ap is_other is ∙ ap not file in
     true≢false (sym other ∙ past.pipes o far)
 
 not_true : (b : Bool) → not b ≡ true → b ≡ false

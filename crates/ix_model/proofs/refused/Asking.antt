@@ -1,19 +1,15 @@
 -- In a sound world each word asks for what stands: the refusals for want of it come from the two tests that are meant.
-use Rattle.std.proofs.Common.{◌≡◌, ◌-◌, ℕ, Bool, true, false, not, ◌&&◌, List, Option, Some, None, is_some, option_map, refl, sym, ap, ◌∙◌, subst, inl, inr}
-use Rattle.std.proofs.Common.{if◌then◌else◌}
+use Rattle.std.proofs.Common.{◌≡◌, ◌-◌, ℕ, Bool, true, false, not, ◌&&◌, List, Option, Some, None, is_some, option_map, refl, sym, ap, ◌∙◌, subst, inl, inr, if◌then◌else◌}
 use Rattle.std.specs.{Option.option_map_or, List.list_any}
-use Rattle.ix_label.specs.Category.{Categories, leq}
-use Rattle.ix_model.specs.world.{Naming.PathOf, World.{Frame, Object, Process, at, put, change, living, lives, is_on}, Privs.to_lower}
-use Rattle.ix_model.specs.{rows.Rows.{need, process, object, record_of, observe, affect}, rows.Auditing.{exercise, entitled, log_has_room}}
-use Rattle.ix_model.specs.{rows.Walks.{Sought, OpenFile, behind, behind_of, entry_at, walk, walk_from, join_all, walked_to, opened}, rows.OnDescriptors.claimed}
-use Rattle.ix_model.specs.{rows.OnLabels.{allowed, movable}, laws.CallLaws.has_descriptor}
-use Rattle.ix_model.specs.declared.{privs.PrivSet.PrivSet, reply.Reply.Reply, refusal.Refusal.Refusal}
+use Rattle.ix_label.specs.Category.{Categories}
+use Rattle.ix_model.specs.{world.{Naming.PathOf, World.{Frame, Object, Process, at, put, living, lives, is_on}}, rows.OnLabels.{allowed, movable}, laws.CallLaws.has_descriptor}
+use Rattle.ix_model.{specs.rows.{Rows.{process, object, observe, affect}, Auditing.{exercise, entitled, log_has_room}}, proofs.refused.Refusing.{Relabelled, relabelled_more}}
+use Rattle.ix_model.specs.rows.{Walks.{Sought, OpenFile, behind, behind_of, entry_at, walk, walk_from, join_all, walked_to, opened}, OnDescriptors.claimed}
+use Rattle.ix_model.{specs.declared.{privs.PrivSet.PrivSet, reply.Reply.Reply, refusal.Refusal.Refusal}, proofs.words.Ends.{Ends, plain, ends_bind, ends_then, ends_pass, ends_frame}}
+use Rattle.ix_model.proofs.{tables.{Tables.at_changed, Finds.at_put}, words.{Living.{is_living, not_ended, lives_as}, There.{walk_there, start_there}}}
+use Rattle.ix_model.proofs.{words.{Walked.{Within, Leads, walks}, Standing.{behind_is, stands}}, frames.Frames.FrameSound}
 use Rattle.ix_model.specs.rows.Walks as sought
 use Rattle.ix_model.specs.declared.refusal.Refusal.TheVariants as refusal
-use Rattle.ix_model.proofs.{tables.{Tables.at_changed, Finds.at_put}, words.Living.{is_living, not_ended, lives_as}, words.There.{walk_there, start_there}}
-use Rattle.ix_model.proofs.{words.Walked.{Within, Leads, walks}, words.Standing.{behind_is, stands}, frames.Frames.FrameSound}
-use Rattle.ix_model.proofs.refused.Refusing.{Relabelled, relabelled_more}
-use Rattle.ix_model.proofs.words.Ends.{Ends, ends_bind, ends_then, ends_pass, ends_frame, ends_only_if, ends_need, ends_change_caller, ends_change_object}
 
 -- the two refusals for want of what a call names
 abbrev pub is_for_want : Refusal → Bool
@@ -35,7 +31,7 @@ pub record Stands (f : Frame) (o : ℕ) : Type 0 where
 module _ (f : Frame) (s : FrameSound f) (pid : ℕ) (alive : lives f pid ≡ true) where
   -- ---- the caller
   lives_on : (g : Frame) → Relabelled pid f g → is_some (living (at g.processes pid)) ≡ true
-  lives_on g r = ap (λ (h : Frame). is_some (living (at h.processes pid))) r.is ∙ ap (λ o. is_some (living o)) (at_changed f.processes pid _) ∙ go (at f.processes pid) alive
+  lives_on g r = ap (λ h. is_some (living (at h.processes pid))) r.is ∙ ap (λ o. is_some (living o)) (at_changed f.processes pid _) ∙ go _ alive
     where
       ended : (b : Bool) (q : Process) → not b ≡ true → is_some (if b then None else Some q) ≡ true
       ended true q h = cc
@@ -43,7 +39,7 @@ module _ (f : Frame) (s : FrameSound f) (pid : ℕ) (alive : lives f pid ≡ tru
 
       go : (o : Option Process) → option_map_or (λ p. not p.ended) o false ≡ true → is_some (living (option_map (λ (p : Process). record p { label = r.label }) o)) ≡ true
       go None h = cc
-      go (Some q) h = ended q.ended _ h
+      go (Some q) h = ended _ _ h
 
   pub ask_caller : (g : Frame) (P : Refusal → Frame → Type 0) (Q : Process → Frame → Type 0) → Relabelled pid f g
       → ((p : Process) → living (at g.processes pid) ≡ Some p → Q p g) → Ends (process pid g) P Q
@@ -60,28 +56,12 @@ module _ (f : Frame) (s : FrameSound f) (pid : ℕ) (alive : lives f pid ≡ tru
   pub ask_observe : (l : Categories) (g : Frame) (P : Refusal → Frame → Type 0) (Q : Unit {0} → Frame → Type 0) → Relabelled pid f g
       → ((r : Refusal) (h : Frame) → is_for_want r ≡ false → P r h) → ((h : Frame) → Relabelled pid f h → Q tt h) → Ends (observe pid l g) P Q
   unfolding observe
-  ask_observe l g P Q r refused next =
-      ends_bind _ _ g P Q (ask_caller g P _ r (λ p lives. ends_only_if _ _ g P Q
-      (λ raises. ends_then _ _ g P Q (ends_need _ _ g P _
-      (λ free. ends_then _ _ g P Q (ends_need _ _ g P _
-      (λ low. ends_change_caller pid _ g P Q (next _ (relabelled_more pid l f g r)))
-      (refused _ _ refl)))
-      (refused _ _ refl)))
-      (λ same. next g r)))
+  ask_observe l g P Q r refused next = search (plain, ask_caller, refused, next, relabelled_more) depth 40 fits 8000
 
   pub ask_affect : (o : ℕ) (l : Categories) (g : Frame) (P : Refusal → Frame → Type 0) (Q : Unit {0} → Frame → Type 0) → Relabelled pid f g → Stands f o
       → ((r : Refusal) (h : Frame) → is_for_want r ≡ false → P r h) → ((h : Frame) → Q tt h) → Ends (affect pid o l g) P Q
   unfolding affect
-  ask_affect o l g P Q r there refused next =
-      ends_bind _ _ g P Q (ask_caller g P _ r (λ p lives.
-      ends_bind _ _ g P Q (ask_object o g P _ r there (λ x is.
-      ends_bind _ _ g P Q (ends_frame g P _ (ends_only_if _ _ g P Q
-      (λ raises. ends_then _ _ g P Q (ends_need _ _ g P _
-      (λ free. ends_then _ _ g P Q (ends_need _ _ g P _
-      (λ low. ends_change_object o _ g P Q (next _))
-      (refused _ _ refl)))
-      (refused _ _ refl)))
-      (λ same. next g)))))))
+  ask_affect o l g P Q r there refused next = search (plain, ask_caller, ask_object, refused, next) depth 40 fits 8000
 
   -- ---- paths
   -- the caller's record before the looks
@@ -91,13 +71,13 @@ module _ (f : Frame) (s : FrameSound f) (pid : ℕ) (alive : lives f pid ≡ tru
     home : p.cwd ≡ process.cwd
 
   was : (g : Frame) (p : Process) → Relabelled pid f g → living (at g.processes pid) ≡ Some p → Was p
-  was g p r lives = go (at f.processes pid) refl (sym (ap (λ (h : Frame). at h.processes pid) r.is ∙ at_changed f.processes pid (λ (q : Process). record q { label = r.label })) ∙ is_living _ p lives)
+  was g p r lives = go _ refl (sym (ap (λ h. at h.processes pid) r.is ∙ at_changed f.processes pid (λ q. record q { label = r.label })) ∙ is_living _ p lives)
     where
       go : (o : Option Process) → at f.processes pid ≡ o → option_map (λ (q : Process). record q { label = r.label }) o ≡ Some p → Was p
       go None is h = cc
       go (Some q) is h =
           let same : record q { label = r.label } ≡ p = cc in
-          record { process = q; lived = lives_as _ q is (ap (λ (x : Process). x.ended) same ∙ not_ended _ p lives); home = sym (ap (λ (x : Process). x.cwd) same) }
+          record { process = q; lived = lives_as _ q is (ap (λ x. x.ended) same ∙ not_ended _ p lives); home = sym (ap (λ x. x.cwd) same) }
 
   stands_within : (d : ℕ) (name : List ℕ) (c : Option ℕ) → Within f d name c → Stands f d
   stands_within d name c w = record { is = ap is_some w.is }
@@ -143,15 +123,11 @@ module _ (f : Frame) (s : FrameSound f) (pid : ℕ) (alive : lives f pid ≡ tru
   module _ (g : Frame) (P : Refusal → Frame → Type 0) (Q : Unit {0} → Frame → Type 0) (r : Relabelled pid f g) (refused : (why : Refusal) → is_for_want why ≡ false → P why g) (next : Q tt g) where
     pub ask_entitled : (x : PrivSet) → Ends (entitled pid x g) P Q
     unfolding entitled
-    ask_entitled x =
-        ends_bind _ _ g P Q (ask_caller g P _ r (λ p lives.
-        ends_then _ _ g P Q (ends_need _ _ g P _
-        (λ one. ends_need _ _ g P Q (λ two. next) (refused _ refl))
-        (refused _ refl))))
+    ask_entitled x = search (plain, ask_caller, refused, next) depth 40
 
     pub ask_room : Ends (log_has_room g) P Q
     unfolding log_has_room
-    ask_room = ends_bind _ _ g P Q (ends_frame g P _ (ends_need _ _ g P Q (λ room. next) (refused _ refl)))
+    ask_room = search (plain, refused, next) depth 40
 
   pub ask_exercise : (x : PrivSet) (g : Frame) (P : Refusal → Frame → Type 0) (Q : Unit {0} → Frame → Type 0) → Relabelled pid f g
       → ((why : Refusal) → is_for_want why ≡ false → P why g) → Q tt g → Ends (exercise pid x g) P Q
@@ -161,34 +137,22 @@ module _ (f : Frame) (s : FrameSound f) (pid : ℕ) (alive : lives f pid ≡ tru
   pub ask_allowed : (before now : Categories) (g : Frame) (P : Refusal → Frame → Type 0) (Q : Unit {0} → Frame → Type 0) → Relabelled pid f g
       → ((why : Refusal) → is_for_want why ≡ false → P why g) → Q tt g → Ends (allowed pid before now g) P Q
   unfolding allowed
-  ask_allowed before now g P Q r refused next =
-      ends_bind _ _ g P Q (ask_caller g P _ r (λ p lives.
-      ends_then _ _ g P Q (ends_only_if _ _ g P _
-      (λ keeps. ends_need _ _ g P _ (λ above. lowered) (refused _ refl))
-      (λ lowers. lowered))))
-    where
-      lowered : Ends (Rattle.ix_model.specs.rows.Rows.only_if (not (leq before now)) (exercise pid to_lower) g) P Q
-      lowered = ends_only_if _ _ g P Q (λ lowers. ask_exercise to_lower g P Q r refused next) (λ keeps. next)
+  ask_allowed before now g P Q r refused next = search (plain, ask_caller, ask_exercise, refused, next) depth 40 fits 8000
 
   pub ask_movable : (x : Object) (now : Categories) (g : Frame) (P : Refusal → Frame → Type 0) (Q : Unit {0} → Frame → Type 0)
       → ((why : Refusal) → is_for_want why ≡ false → P why g) → Q tt g → Ends (movable x now g) P Q
   unfolding movable
-  ask_movable x now g P Q refused next =
-      ends_bind _ _ g P Q (ends_frame g P _ (ends_only_if _ _ g P Q
-      (λ moves. ends_then _ _ g P Q (ends_need _ _ g P _
-      (λ free. ends_need _ _ g P Q (λ low. next) (refused _ refl))
-      (refused _ refl)))
-      (λ same. next)))
+  ask_movable x now g P Q refused next = search (plain, refused, next) depth 40
 
   -- ---- descriptors
   -- a descriptor without an open entry behind it is none of the caller's
   none_behind : (fd : ℕ) → behind f pid fd ≡ None → has_descriptor f pid fd ≡ false
   unfolding behind
-  none_behind fd h = go (living (at f.processes pid)) refl h
+  none_behind fd h = go _ refl h
     where
       at_entry : (q : Process) (d : Option ℕ) → living (at f.processes pid) ≡ Some q → at q.fds fd ≡ d → entry_at f d ≡ None → is_some d ≡ false
       at_entry q None lives is h = refl
-      at_entry q (Some e) lives is h = stood (at f.opens e) (s.opens.descriptor pid q fd e lives is) h
+      at_entry q (Some e) lives is h = stood _ (s.opens.descriptor pid q fd e lives is) h
         where
           stood : (x : Option Rattle.ix_model.specs.world.World.Open) → is_some x ≡ true → option_map (λ y. let b : OpenFile = record { id = e; entry = y } in b) x ≡ None → is_some (Some e) ≡ false
           stood None there h = cc
@@ -196,15 +160,15 @@ module _ (f : Frame) (s : FrameSound f) (pid : ℕ) (alive : lives f pid ≡ tru
 
       go : (p : Option Process) → living (at f.processes pid) ≡ p → behind_of p f fd ≡ None → option_map_or (λ q. is_some (at q.fds fd)) p false ≡ false
       go None is h = refl
-      go (Some q) is h = at_entry q (at q.fds fd) is refl h
+      go (Some q) is h = at_entry q _ is refl h
 
   stands_behind : (fd : ℕ) (e : OpenFile) → behind f pid fd ≡ Some e → Stands f e.entry.object
-  stands_behind fd e is = record { is = ap is_some (stands f e.id e.entry s.opens (behind_is f pid fd e is)).is_object }
+  stands_behind fd e is = record { is = ap is_some (stands f e.id e.entry s.opens (behind_is f _ fd e is)).is_object }
 
   pub ask_opened : (fd : ℕ) (P : Refusal → Frame → Type 0) (Q : OpenFile → Frame → Type 0) → (has_descriptor f pid fd ≡ false → P refusal.BadFd f)
       → ((e : OpenFile) → behind f pid fd ≡ Some e → Stands f e.entry.object → Q e f) → Ends (opened pid fd f) P Q
   unfolding opened Ends Rattle.ix_model.specs.rows.Rows.some Rattle.ix_model.specs.rows.Rows.refuse Rattle.ix_model.specs.rows.Rows.pass
-  ask_opened fd P Q refused next = ends_bind _ _ f P Q (ends_frame f P _ (go (behind f pid fd) refl))
+  ask_opened fd P Q refused next = ends_bind _ _ f P Q (ends_frame f P _ (go _ refl))
     where
       go : (b : Option OpenFile) → behind f pid fd ≡ b → Ends (Rattle.ix_model.specs.rows.Rows.some b refusal.BadFd f) P Q
       go None is = refused (none_behind fd is)
@@ -213,7 +177,7 @@ module _ (f : Frame) (s : FrameSound f) (pid : ℕ) (alive : lives f pid ≡ tru
   -- ---- processes
   not_living : (o : Option Process) → living o ≡ None → option_map_or (λ p. not p.ended) o false ≡ false
   not_living None h = refl
-  not_living (Some q) h = go q.ended h
+  not_living (Some q) h = go _ h
     where
       go : (b : Bool) → (if b then None else Some q) ≡ None → not b ≡ false
       go true h = refl
@@ -222,7 +186,7 @@ module _ (f : Frame) (s : FrameSound f) (pid : ℕ) (alive : lives f pid ≡ tru
   pub ask_target : (target : ℕ) (P : Refusal → Frame → Type 0) (Q : Process → Frame → Type 0) → (lives f target ≡ false → P refusal.NoProcess f)
       → ((q : Process) → living (at f.processes target) ≡ Some q → Q q f) → Ends (process target f) P Q
   unfolding process Ends Rattle.ix_model.specs.rows.Rows.some Rattle.ix_model.specs.rows.Rows.refuse Rattle.ix_model.specs.rows.Rows.pass
-  ask_target target P Q refused next = go (living (at f.processes target)) refl
+  ask_target target P Q refused next = go _ refl
     where
       go : (o : Option Process) → living (at f.processes target) ≡ o → Ends (Rattle.ix_model.specs.rows.Rows.some o refusal.NoProcess f) P Q
       go None is = refused (not_living _ is)
@@ -230,7 +194,7 @@ module _ (f : Frame) (s : FrameSound f) (pid : ℕ) (alive : lives f pid ≡ tru
 
   -- a claimant lives
   claimant_lives : (o end p : ℕ) (x : Object) → at f.objects o ≡ Some x → at x.claims end ≡ Some p → lives f p ≡ true
-  claimant_lives o end p x is claim = go (at f.processes p) (s.claims.claimant o end p x is claim)
+  claimant_lives o end p x is claim = go _ (s.claims.claimant o end p x is claim)
     where
       go : (q : Option Process) → option_map_or (λ q. not q.ended && list_any (λ d. option_map_or (λ e. is_on o end (at f.opens e)) d false) q.fds) q false
           ≡ true → option_map_or (λ q. not q.ended) q false ≡ true
@@ -239,7 +203,7 @@ module _ (f : Frame) (s : FrameSound f) (pid : ℕ) (alive : lives f pid ≡ tru
 
   is_live : (o : Option Process) → option_map_or (λ p. not p.ended) o false ≡ true → is_some (living o) ≡ true
   is_live None h = cc
-  is_live (Some q) h = go q.ended h
+  is_live (Some q) h = go _ h
     where
       go : (b : Bool) → not b ≡ true → is_some (if b then None else Some q) ≡ true
       go true h = cc
@@ -248,7 +212,7 @@ module _ (f : Frame) (s : FrameSound f) (pid : ℕ) (alive : lives f pid ≡ tru
   pub ask_claimed : (o end : ℕ) (x : Object) (P : Refusal → Frame → Type 0) (Q : Reply → Frame → Type 0) → at f.objects o ≡ Some x → ((a : Reply) → Q a f)
       → Ends (claimed (at (put x.claims end (Some pid)) (1 - end)) f) P Q
   unfolding claimed process
-  ask_claimed o end x P Q is next = go (at (put x.claims end (Some pid)) (1 - end)) refl
+  ask_claimed o end x P Q is next = go _ refl
     where
       lives_as_claimant : (q : ℕ) → at (put x.claims end (Some pid)) (1 - end) ≡ Some q → lives f q ≡ true
       lives_as_claimant q c = elim (at_put x.claims end (1 - end) (Some pid) q c) [

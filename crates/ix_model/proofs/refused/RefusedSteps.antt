@@ -1,10 +1,9 @@
 -- What a refused step leaves: the world but for the caller's label, joined with what the call had looked at.
 use Rattle.std.proofs.Common.{◌≡◌, ℕ, ap, sym, ◌∙◌, subst}
-use Rattle.ix_model.specs.{world.World.{Frame, World}, rows.{OnDescriptors.LengthChecks, Table.{Decision, verdict}, Telling.told}, laws.Laws.Refused}
+use Rattle.ix_model.{specs.{world.World.{Frame, World}, rows.{OnDescriptors.LengthChecks, Table.{Decision, verdict}, Telling.told}, laws.Laws.Refused}, proofs.clean.Carrying.carried_same}
 use Rattle.ix_model.specs.{history.{Step.step, Events.Op}, declared.refusal.Refusal.Refusal}
-use Rattle.ix_model.specs.declared.reply.Reply.TheVariants as reply
 use Rattle.ix_model.proofs.{refused.{Refusing.{plain_answer, decided_frames}, SeeingRows.decided_seen}, words.Lasts.{Lasts, lasts_relabelled}}
-use Rattle.ix_model.proofs.clean.Carrying.{carried_same}
+use Rattle.ix_model.specs.declared.reply.Reply.TheVariants as reply
 
 pub refused_step : (w : World) (place pid : ℕ) (c : Op) (r : Refusal) → (step w place pid c).reply ≡ reply.No r → Refused w pid c r (step w place pid c).world
 unfolding step

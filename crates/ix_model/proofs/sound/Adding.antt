@@ -1,62 +1,56 @@
 -- The rows that add descriptors and open entries leave a sound frame.
-use Rattle.std.proofs.Common.{◌≡◌, ◌≢◌, ◌<◌, ◌==◌, ◌&&◌, ◌||◌, ℕ, true, false, true≢false, not, List, length, length-set, Option, Some, None, is_some, refl, ap}
-use Rattle.std.proofs.Common.{sym, ◌∙◌, subst, arith, inl, inr}
+use Rattle.std.proofs.Common.{◌≡◌, ◌≢◌, ◌<◌, ◌==◌, ◌&&◌, ◌||◌, ℕ, true, false, true≢false, not, length, length-set, Some, None, is_some, refl, ap, sym, ◌∙◌, subst, arith, inl, inr}
 use Rattle.std.{specs.Option.option_map_or, proofs.lemmas.{Bool.{or_left, and_from, eq-eqb, Decides.eqb_tells}, List.{get_or-set_same, get_or-set_other}}}
 use Rattle.ix_label.specs.{Lattice.bottom-leq, Category.bottom}
-use Rattle.ix_model.specs.{world.Naming.PathOf, world.World.{Frame, Object, Process, Open, at, put, change, living, lowest_free, is_file, is_dir, is_pipe}}
-use Rattle.ix_model.specs.{world.Numbers.free_pipe, world.Owners.times_named, rows.{OnPaths.{new_object, open_at}, OnDescriptors.{dup_fd, pipe_end, make_pipe}}}
-use Rattle.ix_model.specs.{laws.Sound.{NamesSound, LivesSound, OpensSound}, declared.call.Mode.Mode}
-use Rattle.ix_model.specs.declared.call.Mode.TheVariants as mode
-use Rattle.ix_model.specs.declared.reply.Kind.TheVariants as kind
-use Rattle.ix_model.proofs.{tables.Tables.change_twice, tables.FreeNumbers.{lowest_free_is, free_pipe_is}, tables.Labels.labels_process}
+use Rattle.ix_model.specs.world.{Naming.PathOf, World.{Frame, Object, Process, Open, at, put, change, living, lowest_free, is_file, is_dir, is_pipe}}
+use Rattle.ix_model.specs.{world.Numbers.free_pipe, rows.{OnPaths.{new_object, open_at}, OnDescriptors.{dup_fd, pipe_end, make_pipe}}}
+use Rattle.ix_model.{specs.{laws.Sound.{NamesSound, LivesSound, OpensSound}, declared.call.Mode.Mode}, proofs.sound.{Steadily.follows_found, Logging.{Refused, Passed, ends_next}}}
+use Rattle.ix_model.proofs.{tables.{Tables.change_twice, FreeNumbers.{lowest_free_is, free_pipe_is}, Labels.labels_process}, words.Ends.{ends_put_open, ends_change_caller}}
 use Rattle.ix_model.proofs.{tables.SameKinds.{kinds_itself, kinds_new}, words.{Standing.behind_is, Endings.ends_put_object}}
 use Rattle.ix_model.proofs.frames.{Frames.{FrameSound, Follows, follows_itself}, Awaiting.{IsNew, Awaiting, awaiting, awaiting_new, names_all}}
-use Rattle.ix_model.proofs.sound.{Steadily.follows_found, Logging.{Refused, Passed, ends_next}}
 use Rattle.ix_model.proofs.words.Ends.{Ends, ends_bind, ends_then, ends_pass, ends_frame, ends_need, ends_some, ends_caller, ends_object, ends_opened}
-use Rattle.ix_model.proofs.words.Ends.{ends_put_open, ends_change_caller}
 use Rattle.ix_model.proofs.frames.Given.{opens_but, or_more, either_more, entered, held_more, held_here, lives_entered, opens_entered, claims_entered, given}
 use Rattle.ix_model.proofs.frames.Given.{limits_entered, processes_put_fd, limits_put_fd, given_lives, opens_given, claims_given}
+use Rattle.ix_model.specs.declared.call.Mode.TheVariants as mode
+use Rattle.ix_model.specs.declared.reply.Kind.TheVariants as kind
 
 -- ---- one descriptor more
 module _ (f : Frame) (pid : ℕ) (p : Process) (fd e : ℕ) (lives : living (at f.processes pid) ≡ Some p) (fd_in : fd < length p.fds) (fd_none : at p.fds fd ≡ None) where
   -- on an entry that stands
   shared : is_some (at f.opens e) ≡ true → FrameSound f → FrameSound (given f pid fd e)
   shared stands s = record {
-    labels = labels_process f s.labels pid (λ q. record q { fds = put q.fds fd (Some e) }) (λ q here. s.labels.processes pid q here);
-    names = record { root = s.names.root; in_directories = s.names.in_directories; living = s.names.living; differ = s.names.differ; once = s.names.once };
-    lives = record { file = s.lives.file; pipe = s.lives.pipe };
-    opens = opens_given f pid p fd e lives fd_in fd_none (opens_but e f s.opens) stands;
-    processes = processes_put_fd f pid fd (Some e) s.processes;
-    claims = claims_given f pid p fd e lives fd_in fd_none s.claims;
-    limits = limits_put_fd f pid fd (Some e) s.limits;
+    labels = labels_process f s.labels _ _ (λ q here. s.labels.processes pid q here);
+    names = search;
+    lives = search;
+    opens = opens_given f _ p fd e lives fd_in fd_none (opens_but e f s.opens) stands;
+    processes = processes_put_fd f _ fd _ s.processes;
+    claims = claims_given f _ p fd e lives fd_in fd_none s.claims;
+    limits = limits_put_fd f _ fd _ s.limits;
   }
 
   -- on a new entry; what is said of lives holds where the entry stands
   module _ (x : Open) (e_in : e < length f.opens) (e_none : at f.opens e ≡ None) (no_dir : option_map_or (λ y. not (is_dir y)) (at f.objects x.object) false
       ≡ true) (at_end : (x.end == 0 || x.end == 1 && option_map_or is_pipe (at f.objects x.object) false) ≡ true) where
     stands : is_some (at (put f.opens e (Some x)) e) ≡ true
-    stands = ap is_some (get_or-set_same f.opens e (Some x) None e_in)
+    stands = ap is_some (get_or-set_same f.opens e _ None e_in)
 
     opens_added : OpensSound f → OpensSound (given (entered f e x) pid fd e)
-    opens_added r = opens_given (entered f e x) pid p fd e lives fd_in fd_none (opens_entered f e x e_in e_none no_dir at_end r) stands
+    opens_added r = opens_given _ _ p fd e lives fd_in fd_none (opens_entered f e x e_in e_none no_dir at_end r) stands
 
     -- from a frame that may await the entry's object
     added : (o : ℕ) → NamesSound f → LivesSound (entered f e x) → Awaiting o f → FrameSound (given (entered f e x) pid fd e)
     added o n l s = record {
-      labels = labels_process (entered f e x) (record { objects = s.labels.objects; processes = s.labels.processes }) pid (λ q. record q {
-        fds =
-            put q.fds fd (Some e);
-      }) (λ q here. s.labels.processes pid q here);
-      names = record { root = n.root; in_directories = n.in_directories; living = n.living; differ = n.differ; once = n.once };
-      lives = record { file = l.file; pipe = l.pipe };
+      labels = labels_process _ (search) _ _ (λ q here. s.labels.processes pid q here);
+      names = search;
+      lives = search;
       opens = opens_added s.opens;
-      processes = processes_put_fd (entered f e x) pid fd (Some e) (record { none = s.processes.none; home = s.processes.home; parent = s.processes.parent; descriptors = s.processes.descriptors });
-      claims = claims_given (entered f e x) pid p fd e lives fd_in fd_none (claims_entered f e x e_in e_none s.claims);
-      limits = limits_put_fd (entered f e x) pid fd (Some e) (limits_entered f e x e_in e_none s.limits);
+      processes = processes_put_fd _ _ fd _ (search);
+      claims = claims_given _ _ p fd e lives fd_in fd_none (claims_entered f e x e_in e_none s.claims);
+      limits = limits_put_fd _ _ fd _ (limits_entered f e x e_in e_none s.limits);
     }
 
     added_sound : FrameSound f → FrameSound (given (entered f e x) pid fd e)
-    added_sound s = added x.object s.names (lives_entered f e x e_in e_none s.lives) (awaiting x.object f s)
+    added_sound s = added x.object s.names (lives_entered f e x e_in e_none s.lives) (awaiting _ f s)
 
 -- ---- the rows
 module _ (f : Frame) (s : FrameSound f) where
@@ -85,13 +79,13 @@ module _ (f : Frame) (s : FrameSound f) where
   unfolding dup_fd
   dup_fd_ends pid fd =
       let k = follows_itself f s in
-      ends_bind _ _ f (Refused f) (Passed f) (ends_opened pid fd f (Refused f) _ (λ e is.
-      ends_bind _ _ f (Refused f) (Passed f) (ends_caller pid f (Refused f) _ (λ p lives.
-      ends_bind _ _ f (Refused f) (Passed f) (ends_some _ _ f (Refused f) _ (λ n free.
-      ends_then _ _ f (Refused f) (Passed f) (ends_change_caller pid _ f (Refused f) _ (
-      let a = lowest_free_is p.fds n free in
-      ends_pass _ _ (Refused f) (Passed f) (record {
-        sound = shared f pid p n e.id lives a.0 a.1 (ap is_some (behind_is f pid fd e is)) s;
+      ends_bind _ _ f _ _ (ends_opened _ fd f _ _ (λ e is.
+      ends_bind _ _ f _ _ (ends_caller _ f _ _ (λ p lives.
+      ends_bind _ _ f _ _ (ends_some _ _ f _ _ (λ n free.
+      ends_then _ _ f _ _ (ends_change_caller _ _ f _ _ (
+      let a = lowest_free_is _ n free in
+      ends_pass _ _ _ _ (record {
+        sound = shared f pid p n e.id lives a.0 a.1 (ap is_some (behind_is f _ fd e is)) s;
         kinds = k.kinds;
       })))) k)) k)) k)
 
@@ -111,36 +105,36 @@ module _ (f : Frame) (s : FrameSound f) where
     is_new : IsNew f o pipe
     is_new =
         let n = free_pipe_is f o free_o in
-        record { free = n.free; inside = n.inside; nameless = refl; unclaimed = refl; low = bottom-leq _; pipe = refl; past = λ yes. n.first; number = λ k on. let h : None ≡ Some k = on in cc }
+        record { free = n.free; inside = n.inside; nameless = refl; unclaimed = refl; low = bottom-leq _; pipe = refl; past = λ yes. n.first; number = λ k on. let h = on in cc }
 
     w : Awaiting o born
-    w = awaiting_new f o pipe is_new s
+    w = awaiting_new f o _ is_new s
 
     there : at (put f.objects o (Some (new_object kind.Pipe None))) o ≡ Some pipe
-    there = get_or-set_same f.objects o (Some pipe) None is_new.inside
+    there = get_or-set_same f.objects o _ None is_new.inside
 
     d_free : (d < length f.opens) × (at f.opens d ≡ None)
-    d_free = lowest_free_is f.opens d free_d
+    d_free = lowest_free_is _ d free_d
 
     a_free : (a < length p.fds) × (at p.fds a ≡ None)
-    a_free = lowest_free_is p.fds a free_a
+    a_free = lowest_free_is _ a free_a
 
     names_born : NamesSound born
-    names_born = names_all o born w.names (λ x is dir. let h : is_dir pipe ≡ true = sym (ap (λ z. option_map_or is_dir z false) there)
+    names_born = names_all o _ w.names (λ x is dir. let h = sym (ap (λ z. option_map_or is_dir z false) there)
         ∙ ap (λ z. option_map_or is_dir z false) is ∙ dir in absurd (true≢false (sym h)))
 
     lives_born : LivesSound (entered born d (end_of 0))
     lives_born = record {
       file = λ m x is kind. elim (eqb_tells m o) [
         | inl same ↦
-            let here : at (put f.objects o (Some pipe)) o ≡ Some x = ap (at (put f.objects o (Some pipe))) (sym same.1) ∙ is in
-            let h : is_file pipe ≡ true = sym (ap (λ z. option_map_or is_file z false) there) ∙ ap (λ z. option_map_or is_file z false) here ∙ kind in
+            let here = ap (at (put f.objects o (Some pipe))) (sym same.1) ∙ is in
+            let h = sym (ap (λ z. option_map_or is_file z false) there) ∙ ap (λ z. option_map_or is_file z false) here ∙ kind in
             absurd (true≢false (sym h))
-        | inr other ↦ or_more (not (times_named (put f.objects o (Some pipe)) m == 0)) _ _ (held_more born d (end_of 0) d_free.0 d_free.1 m 0) (w.lives.file m x other.1 is kind)
+        | inr other ↦ or_more _ _ _ (held_more born d _ d_free.0 d_free.1 m 0) (w.lives.file m x other.1 is kind)
       ];
       pipe = λ m x is kind. elim (eqb_tells m o) [
-        | inl same ↦ or_left _ _ (held_here born d (end_of 0) d_free.0 d_free.1 m 0 (and_from (o == m) (0 == 0) (eq-eqb o m (sym same.1)) refl))
-        | inr other ↦ either_more _ _ _ _ (held_more born d (end_of 0) d_free.0 d_free.1 m 0) (held_more born d (end_of 0) d_free.0 d_free.1 m 1) (w.lives.pipe m x other.1 is kind)
+        | inl same ↦ or_left _ _ (held_here born d _ d_free.0 d_free.1 m 0 (and_from _ _ (eq-eqb o m (sym same.1)) refl))
+        | inr other ↦ either_more _ _ _ _ (held_more born d _ d_free.0 d_free.1 m 0) (held_more born d _ d_free.0 d_free.1 m 1) (w.lives.pipe m x other.1 is kind)
       ];
     }
 
@@ -148,14 +142,14 @@ module _ (f : Frame) (s : FrameSound f) where
     no_dir = ap (λ z. option_map_or (λ y. not (is_dir y)) z false) there
 
     first : FrameSound (given (entered born d (end_of 0)) pid a d)
-    first = added born pid p a d lives a_free.0 a_free.1 (end_of 0) d_free.0 d_free.1 no_dir refl o names_born lives_born w
+    first = added _ pid p a d lives a_free.0 a_free.1 (end_of 0) d_free.0 d_free.1 no_dir refl o names_born lives_born w
 
     b_free : (b < length (put p.fds a (Some d))) × (at (put p.fds a (Some d)) b ≡ None)
     b_free =
-        let n = lowest_free_is (put p.fds a (Some 0)) b free_b in
-        let apart : b ≢ a = λ same. true≢false (ap is_some (sym (get_or-set_same p.fds a (Some 0) None a_free.0)) ∙ ap (λ m. is_some (at (put p.fds a (Some 0)) m)) (sym same) ∙ ap is_some n.1) in
+        let n = lowest_free_is _ b free_b in
+        let apart : b ≢ a = λ same. true≢false (ap is_some (sym (get_or-set_same p.fds a _ None a_free.0)) ∙ ap (λ m. is_some (at (put p.fds a (Some 0)) m)) (sym same) ∙ ap is_some n.1) in
         let low = n.0 in
-        (omega (arith, low, length-set p.fds a (Some 0), length-set p.fds a (Some d)), get_or-set_other p.fds a b (Some d) None apart ∙ sym (get_or-set_other p.fds a b (Some 0) None apart) ∙ n.1)
+        (omega (arith, low, length-set p.fds a (Some 0), length-set p.fds a (Some d)), get_or-set_other p.fds a b _ None apart ∙ sym (get_or-set_other p.fds a b _ None apart) ∙ n.1)
 
     second : FrameSound (given (entered (given (entered born d (end_of 0)) pid a d) e (end_of 1)) pid b e)
     second =
@@ -172,30 +166,30 @@ module _ (f : Frame) (s : FrameSound f) where
           change f.processes pid (λ q. record q { fds = put (put q.fds a (Some d)) b (Some e) });
     })
     piped =
-        let same = change_twice f.processes pid (λ q. record q { fds = put q.fds a (Some d) }) (λ q. record q { fds = put q.fds b (Some e) }) in
+        let same = change_twice _ _ _ _ in
         record {
-          sound = subst (λ (t : List (Option Process)). FrameSound (record f {
+          sound = subst (λ t. FrameSound (record f {
             objects = put f.objects o (Some (new_object kind.Pipe None));
             opens =
                 put (put f.opens d (pipe_end o 0)) e (pipe_end o 1);
             processes = t;
           })) same second;
-          kinds = kinds_new f.objects f.objects (kinds_itself f.objects) o (Some pipe) is_new.free;
+          kinds = kinds_new _ _ (kinds_itself _) o _ is_new.free;
         }
 
   pub make_pipe_ends : (pid : ℕ) → Ends (make_pipe pid f) (Refused f) (Passed f)
   unfolding make_pipe
   make_pipe_ends pid =
       let k = follows_itself f s in
-      ends_bind _ _ f (Refused f) (Passed f) (ends_frame f (Refused f) _ (
-      ends_bind _ _ f (Refused f) (Passed f) (ends_some _ _ f (Refused f) _ (λ o free_o.
-      ends_bind _ _ f (Refused f) (Passed f) (ends_caller pid f (Refused f) _ (λ p lives.
-      ends_bind _ _ f (Refused f) (Passed f) (ends_some _ _ f (Refused f) _ (λ a free_a.
-      ends_bind _ _ f (Refused f) (Passed f) (ends_some _ _ f (Refused f) _ (λ b free_b.
-      ends_bind _ _ f (Refused f) (Passed f) (ends_some _ _ f (Refused f) _ (λ d free_d.
-      ends_bind _ _ f (Refused f) (Passed f) (ends_some _ _ f (Refused f) _ (λ e free_e.
-      ends_then _ _ f (Refused f) (Passed f) (ends_put_object o _ f (Refused f) _ (
-      ends_then _ _ _ (Refused f) (Passed f) (ends_put_open d _ _ (Refused f) _ (
-      ends_then _ _ _ (Refused f) (Passed f) (ends_put_open e _ _ (Refused f) _ (
-      ends_then _ _ _ (Refused f) (Passed f) (ends_change_caller pid _ _ (Refused f) _ (
-      ends_pass _ _ (Refused f) (Passed f) (piped pid o a b d e p lives free_o free_a free_b free_d free_e)))))))))) k)) k)) k)) k)) k)) k)))
+      ends_bind _ _ f _ _ (ends_frame f _ _ (
+      ends_bind _ _ f _ _ (ends_some _ _ f _ _ (λ o free_o.
+      ends_bind _ _ f _ _ (ends_caller _ f _ _ (λ p lives.
+      ends_bind _ _ f _ _ (ends_some _ _ f _ _ (λ a free_a.
+      ends_bind _ _ f _ _ (ends_some _ _ f _ _ (λ b free_b.
+      ends_bind _ _ f _ _ (ends_some _ _ f _ _ (λ d free_d.
+      ends_bind _ _ f _ _ (ends_some _ _ f _ _ (λ e free_e.
+      ends_then _ _ f _ _ (ends_put_object o _ f _ _ (
+      ends_then _ _ _ _ _ (ends_put_open d _ _ _ _ (
+      ends_then _ _ _ _ _ (ends_put_open e _ _ _ _ (
+      ends_then _ _ _ _ _ (ends_change_caller _ _ _ _ _ (
+      ends_pass _ _ _ _ (piped pid o a b d e p lives free_o free_a free_b free_d free_e)))))))))) k)) k)) k)) k)) k)) k)))

@@ -1,10 +1,9 @@
 -- The lengths of what is carried over.
-use Rattle.std.proofs.Common.{◌≡◌, ◌≤◌, ◌+◌, ◌==◌, ◌&&◌, ℕ, suc, Bool, true, false, true≢false, List, [], ◌∷◌, length, Option, Some, None, is_some, refl, sym}
-use Rattle.std.proofs.Common.{if◌then◌else◌, ap, ◌∙◌, subst, arith, get_or}
-use Rattle.std.{specs.Option.option_map_or, proofs.lemmas.Bool.and_parts}
+use Rattle.std.proofs.Common.{◌≡◌, ◌≤◌, ◌==◌, ◌&&◌, ℕ, suc, Bool, true, false, true≢false, List, [], ◌∷◌, length, Option, Some, None, is_some, refl, sym}
+use Rattle.std.{proofs.{Common.{if◌then◌else◌, ap, ◌∙◌, subst, arith, get_or}, lemmas.Bool.and_parts}, specs.Option.option_map_or}
 use Rattle.ix_model.specs.world.{World.{World, Frame, Object, Holding, at, is_ended, fs_at}, Contents.{keep, carried, holds_nothing}}
 use Rattle.ix_model.specs.{rows.Telling.{blocks_for, blocks_where, blocks_on, lies_on}, laws.{Clean.IsClean, Sound.LengthsSound}}
-use Rattle.ix_model.proofs.{tables.{Tables.{length_same, seen_same}, SameKinds.Kinds}, frames.Floats.{Floats, object_but, process_but, open_but}}
+use Rattle.ix_model.proofs.{tables.{Tables.{length_same, seen_same}, SameKinds.Kinds}, frames.Floats.Floats}
 use Rattle.ix_model.proofs.{words.{Fixed.Fixed, Lasts.Lasts}, clean.Carrying.{length-keep, get_or-keep, carried_same}}
 
 -- ---- what is kept of a list
@@ -14,8 +13,8 @@ kept_of P false x d h k = k
 
 pub kept_at : {A : Type 0} (P : A → Type 0) (d : A) (p : ℕ → Bool) (xs : List A) (n : ℕ) → (p n ≡ true → P (get_or xs n d)) → P d → P (get_or (keep d p 0 xs) n d)
 kept_at P d p xs n h k =
-    let e : (if p (0 + n) then get_or xs n d else d) ≡ (if p n then get_or xs n d else d) = ap (λ m. if p m then get_or xs n d else d) (omega arith) in
-    subst P (sym (get_or-keep d p 0 xs n ∙ e)) (kept_of P (p n) _ d h k)
+    let e = ap (λ m. if p m then get_or xs n d else d) (omega arith) in
+    subst P (sym (get_or-keep d p 0 xs n ∙ e)) (kept_of P _ _ d h k)
 
 -- ---- blocks
 kept_blocks : (q r p : Bool) (h : Holding) → (q ≡ true → r ≡ true → p ≡ true) → (if q then blocks_for (length (if r then h else holds_nothing).first) else
@@ -70,10 +69,10 @@ lengths_carried w g r kinds l =
 -- ---- where nothing goes
 lasts_floats : (f g : Frame) → Floats f g → Lasts f g
 lasts_floats f g r = record {
-  objects = record { stays = λ n is. seen_same object_but is_some (λ x. refl) f.objects g.objects r.objects n ∙ is };
-  opens = record { stays = λ n is. seen_same open_but is_some (λ x. refl) f.opens g.opens r.opens n ∙ is };
-  processes = record { stays = λ n is. seen_same process_but is_ended (λ x. refl) f.processes g.processes r.processes n ∙ is; count = length_same process_but f.processes g.processes r.processes };
+  objects = record { stays = λ n is. seen_same _ is_some (λ x. refl) _ _ r.objects n ∙ is };
+  opens = record { stays = λ n is. seen_same _ is_some (λ x. refl) _ _ r.opens n ∙ is };
+  processes = record { stays = λ n is. seen_same _ is_ended (λ x. refl) _ _ r.processes n ∙ is; count = length_same _ _ _ r.processes };
 }
 
 pub carried_floats : (w : World) (g : Frame) → Floats w.frame g → IsClean w → carried w.frame g w.content ≡ w.content
-carried_floats w g r clean = carried_same w g (lasts_floats w.frame g r) clean
+carried_floats w g r clean = carried_same w g (lasts_floats _ g r) clean

@@ -1,7 +1,6 @@
 -- The calls on bytes change nothing in the frame but labels.
 use Rattle.std.proofs.Common.{ℕ}
-use Rattle.ix_model.specs.world.World.{Frame, Object, Process}
-use Rattle.ix_model.specs.rows.{Walks.{OpenFile, opened}, OnDescriptors.{LengthChecks, float_entry, read_fd, write_fd, cut_fd}}
+use Rattle.ix_model.specs.{world.World.{Frame, Object, Process}, rows.{Walks.{OpenFile, opened}, OnDescriptors.{LengthChecks, float_entry, read_fd, write_fd, cut_fd}}}
 use Rattle.ix_model.proofs.{words.Keeps.{Keeps, keeping}, frames.Floats.{Floats, floats_change_open, floats_observe, floats_affect}}
 
 module _ (f : Frame) where

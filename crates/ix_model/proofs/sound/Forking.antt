@@ -3,21 +3,20 @@ use Rattle.std.proofs.Common.{◌≡◌, ◌<◌, ◌+◌, ℕ, Bool, true, fals
 use Rattle.std.proofs.Common.{Some, None, is_some, refl, ap, ◌∙◌, arith, inl, inr, length-set}
 use Rattle.std.{specs.Option.option_map_or, proofs.lemmas.{Bool.ltb-true, List.{get_or_append_left, length-replicate, Sums.sum_by_push}}}
 use Rattle.ix_model.specs.{world.{World.{Frame, Process, at, living, lives, is_dir}, Owners.owns}, rows.OnProcesses.{kept_fds, fork}, declared.call.Keep.Keep}
-use Rattle.ix_model.specs.declared.call.Keep.TheVariants as keep
 use Rattle.ix_model.proofs.{tables.{Finds.{at_put, at_push, in_table, any_into, passes_some}, Labels.labels_add_process}, words.Endings.ends_add_process}
 use Rattle.ix_model.proofs.{words.Living.{is_living, not_ended, lives_as}, opening.Openings.all_one, sound.Logging.{Refused, Passed}}
-use Rattle.ix_model.proofs.words.Ends.{Ends, ends_bind, ends_then, ends_pass, ends_frame, ends_need, ends_caller}
-use Rattle.ix_model.proofs.frames.{Floated.has_on, Frames.{FrameSound, follows_itself}}
+use Rattle.ix_model.proofs.{words.Ends.{Ends, ends_bind, ends_then, ends_pass, ends_frame, ends_need, ends_caller}, frames.{Floated.has_on, Frames.{FrameSound, follows_itself}}}
+use Rattle.ix_model.specs.declared.call.Keep.TheVariants as keep
 
 -- ---- the child's descriptors
 no_kept : (fd e : ℕ) → at (replicate 32 None) fd ≡ Some e → ⊥
-no_kept fd e h = true≢false (sym (ap is_some h) ∙ ap is_some (all_one {A = Option ℕ} None 32 fd))
+no_kept fd e h = true≢false (sym (ap is_some h) ∙ ap is_some (all_one _ 32 fd))
 
 -- each is one of the parent's
 pub kept_is : (k : Keep) (fds : List (Option ℕ)) (fd e : ℕ) → at (kept_fds k fds) fd ≡ Some e → at fds fd ≡ Some e
 kept_is keep.All fds fd e h = h
 kept_is keep.Nothing fds fd e h = absurd (no_kept fd e h)
-kept_is (keep.One one) fds fd e h = elim (at_put (replicate 32 None) one.0 fd (at fds one.0) e h) [
+kept_is (keep.One one) fds fd e h = elim (at_put (replicate 32 None) one.0 fd _ e h) [
   | inl here ↦ ap (at fds) here.0 ∙ here.1
   | inr other ↦ absurd (no_kept fd e other.1)
 ]
@@ -25,7 +24,7 @@ kept_is (keep.One one) fds fd e h = elim (at_put (replicate 32 None) one.0 fd (a
 kept_long : (k : Keep) (fds : List (Option ℕ)) → length fds ≡ 32 → length (kept_fds k fds) ≡ 32
 kept_long keep.All fds h = h
 kept_long keep.Nothing fds h = length-replicate {A = Option ℕ} 32 None
-kept_long (keep.One one) fds h = length-set (replicate {A = Option ℕ} 32 None) one.0 (at fds one.0) ∙ length-replicate {A = Option ℕ} 32 None
+kept_long (keep.One one) fds h = length-set (replicate 32 None) one.0 (at fds one.0) ∙ length-replicate {A = Option ℕ} 32 None
 
 module _ (f : Frame) (s : FrameSound f) (pid : ℕ) (p : Process) (alive : living (at f.processes pid) ≡ Some p) (k : Keep) (room : nat_lt (count_by is_some f.processes) f.limits.procs ≡ true) where
   abbrev child : Process
@@ -36,14 +35,14 @@ module _ (f : Frame) (s : FrameSound f) (pid : ℕ) (p : Process) (alive : livin
 
   -- what stood stands
   stood : (n : ℕ) (q : Process) → at f.processes n ≡ Some q → at more n ≡ at f.processes n
-  stood n q is = get_or_append_left f.processes (Some child ∷ []) None n (in_table f.processes n q is)
+  stood n q is = get_or_append_left f.processes _ None n (in_table _ n q is)
 
   passes_on : (test : Option Process → Bool) → test None ≡ false → (n : ℕ) → test (at f.processes n) ≡ true → test (at more n) ≡ true
-  passes_on test none n h = let q = passes_some test none (at f.processes n) h in ap test (stood n q.0 q.1) ∙ h
+  passes_on test none n h = let q = passes_some test none _ h in ap test (stood n _ q.1) ∙ h
 
   -- a living process is the child, or lived before
   lived : {X : Type 0} (n : ℕ) (q : Process) → living (at more n) ≡ Some q → (child ≡ q → X) → (living (at f.processes n) ≡ Some q → X) → X
-  lived n q lives new old = elim (at_push f.processes child n q (is_living _ q lives)) [
+  lived n q lives new old = elim (at_push _ _ n q (is_living _ q lives)) [
     | inl here ↦ new here.1
     | inr was ↦ old (lives_as _ q was (not_ended _ q lives))
   ]
@@ -102,9 +101,9 @@ module _ (f : Frame) (s : FrameSound f) where
   unfolding fork
   fork_ends pid k =
       let t = follows_itself f s in
-      ends_bind _ _ f (Refused f) (Passed f) (ends_caller pid f (Refused f) _ (λ p alive.
-      ends_then _ _ f (Refused f) (Passed f) (ends_need _ _ f (Refused f) _ (λ has.
-      ends_bind _ _ f (Refused f) (Passed f) (ends_frame f (Refused f) _ (
-      ends_then _ _ f (Refused f) (Passed f) (ends_need _ _ f (Refused f) _ (λ room.
-      ends_then _ _ f (Refused f) (Passed f) (ends_add_process _ f (Refused f) _ (
-      ends_pass _ _ (Refused f) (Passed f) (record { sound = forked f s pid p alive k room; kinds = t.kinds })))) t)))) t)) t)
+      ends_bind _ _ f _ _ (ends_caller _ f _ _ (λ p alive.
+      ends_then _ _ f _ _ (ends_need _ _ f _ _ (λ has.
+      ends_bind _ _ f _ _ (ends_frame f _ _ (
+      ends_then _ _ f _ _ (ends_need _ _ f _ _ (λ room.
+      ends_then _ _ f _ _ (ends_add_process _ f _ _ (
+      ends_pass _ _ _ _ (record { sound = forked f s pid p alive k room; kinds = t.kinds })))) t)))) t)) t)

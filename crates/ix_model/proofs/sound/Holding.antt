@@ -1,18 +1,15 @@
 -- What objects hold after a call: a directory no bytes, and what is no pipe no second list.
 use Rattle.std.proofs.Common.{◌≡◌, ◌-◌, ◌++◌, ℕ, Bool, true, false, true≢false, List, [], length, take, drop, Option, Some, None, is_some, refl, sym, ap, ◌∙◌}
-use Rattle.std.proofs.Common.{◌&&◌, if◌then◌else◌, slice_set, ◌+◌}
-use Rattle.std.proofs.lemmas.Bool.{and_parts, not-true}
-use Rattle.ix_model.specs.{world.World.{World, Frame, Content, Object, Holding, at, is_dir, is_pipe, is_ended}, laws.Sound.Sound, history.Events.Op}
+use Rattle.std.proofs.{Common.{◌&&◌, if◌then◌else◌, slice_set, ◌+◌}, lemmas.Bool.{and_parts, not-true}}
+use Rattle.ix_model.specs.{world.World.{World, Frame, Content, Object, Holding, at, is_dir, is_pipe}, laws.Sound.Sound, history.{Events.Op, Step.step}}
 use Rattle.ix_model.specs.{rows.{Walks.{OpenFile, behind}, Table.verdict, Telling.told}, declared.reply.{Kind.Kind, Reply.Reply}}
-use Rattle.ix_model.specs.world.Contents.{carried, holding_of, offset_of, holds_nothing, side, with_side, change_side, on_pipe, readable, after_read, after_cut}
-use Rattle.ix_model.specs.world.Contents.{after_write, after_seek, after_exit, emptied, spliced, cut_to}
+use Rattle.ix_model.specs.world.Contents.{carried, holding_of, offset_of, holds_nothing, with_side, change_side, on_pipe, readable, after_read, after_cut}
+use Rattle.ix_model.{specs.world.Contents.{after_write, after_seek, after_exit, emptied, spliced, cut_to}, proofs.words.Standing.{Standing, behind_is, stands, on_pipe_is}}
 use Rattle.ix_model.specs.history.Step.{plainly, read_answer, write_answer, cut_answer, seek_answer, stat_answer, exit_answer, wait_answer, pex_answer, answer}
-use Rattle.ix_model.specs.history.Step.{step}
+use Rattle.ix_model.proofs.{tables.SameKinds.Kinds, sound.{Lengths.set_either, Carried.{kept_at, there_is}, Following.follows_decided}, frames.Frames.frame_of}
 use Rattle.ix_model.specs.history.Events as op
 use Rattle.ix_model.specs.declared.reply.Kind.TheVariants as kind
 use Rattle.ix_model.specs.declared.reply.Reply.TheVariants as reply
-use Rattle.ix_model.proofs.{tables.SameKinds.Kinds, sound.{Lengths.set_either, Carried.{kept_at, there_is}, Following.follows_decided}, frames.Frames.frame_of}
-use Rattle.ix_model.proofs.words.Standing.{Standing, behind_is, stands, on_pipe_is}
 
 pub record Holds (f : Frame) (c : Content) : Type 0 where
   pub directory : (o : ℕ) (x : Object) → at f.objects o ≡ Some x → is_dir x ≡ true → (holding_of c o).first ≡ []
@@ -26,25 +23,25 @@ first_alone end bytes h is = ap (λ n. (with_side n bytes h).second) is
 side_changed : (f : Frame) (c : Content) (o end : ℕ) (h : List ℕ → List ℕ)
     → ((x : Object) → at f.objects o ≡ Some x → (is_dir x ≡ false) × (is_pipe x ≡ false → end ≡ 0)) → Holds f c → Holds f (change_side o end h c)
 side_changed f c o end h fits r = record {
-  directory = λ n x is dir. set_either (λ (s : Holding). s.first ≡ []) holds_nothing c.holdings o n _
+  directory = λ n x is dir. set_either (λ s. s.first ≡ []) holds_nothing c.holdings o n _
       (λ here. absurd (true≢false (sym dir ∙ (fits x (ap (at f.objects) (sym here) ∙ is)).0)))
       (r.directory n x is dir);
-  second = λ n x is other. set_either (λ (s : Holding). s.second ≡ []) holds_nothing c.holdings o n _
+  second = λ n x is other. set_either (λ s. s.second ≡ []) holds_nothing c.holdings o n _
       (λ here.
-      let there : at f.objects o ≡ Some x = ap (at f.objects) (sym here) ∙ is in
-      first_alone end (h (side end (holding_of c o))) (holding_of c o) ((fits x there).1 other) ∙ r.second o x there other)
+      let there = ap (at f.objects) (sym here) ∙ is in
+      first_alone _ (h _) (holding_of c o) ((fits x there).1 other) ∙ r.second o x there other)
       (r.second n x is other);
 }
 
 emptied_holds : (f : Frame) (c : Content) (o : ℕ) → Holds f c → Holds f (emptied o c)
 unfolding emptied
 emptied_holds f c o r = record {
-  directory = λ n x is dir. set_either (λ (s : Holding). s.first ≡ []) holds_nothing c.holdings o n holds_nothing (λ here. refl) (r.directory n x is dir);
-  second = λ n x is other. set_either (λ (s : Holding). s.second ≡ []) holds_nothing c.holdings o n holds_nothing (λ here. refl) (r.second n x is other);
+  directory = λ n x is dir. set_either (λ s. s.first ≡ []) holds_nothing c.holdings o n holds_nothing (λ here. refl) (r.directory n x is dir);
+  second = λ n x is other. set_either (λ s. s.second ≡ []) holds_nothing c.holdings o n holds_nothing (λ here. refl) (r.second n x is other);
 }
 
 other_kind : (x : Object) → is_pipe x ≡ true → is_dir x ≡ false
-other_kind x pipe = go x.kind pipe
+other_kind x pipe = go _ pipe
   where
     go : (k : Kind) → (elim k [ kind.Pipe ↦ true | _ ↦ false ]) ≡ true → (elim k [ kind.Dir ↦ true | _ ↦ false ]) ≡ false
     go kind.File h = refl
@@ -58,18 +55,18 @@ module _ (w : World) (g : Frame) (k : Kinds w.frame.objects g.objects) (r : Hold
   holds_plain =
       let stay : ℕ → Bool = λ o. is_some (at w.frame.objects o) && is_some (at g.objects o) in
       record {
-        directory = λ o y is dir. kept_at (λ (h : Holding). h.first ≡ []) holds_nothing stay w.content.holdings o (λ stays.
-            let x = there_is (at w.frame.objects o) (and_parts _ _ stays).0 in
+        directory = λ o y is dir. kept_at (λ h. h.first ≡ []) holds_nothing stay w.content.holdings o (λ stays.
+            let x = there_is _ (and_parts _ _ stays).0 in
             r.directory o x.0 x.1 (sym (k.same o x.0 y x.1 is).dir ∙ dir)) refl;
-        second = λ o y is other. kept_at (λ (h : Holding). h.second ≡ []) holds_nothing stay w.content.holdings o (λ stays.
-            let x = there_is (at w.frame.objects o) (and_parts _ _ stays).0 in
+        second = λ o y is other. kept_at (λ h. h.second ≡ []) holds_nothing stay w.content.holdings o (λ stays.
+            let x = there_is _ (and_parts _ _ stays).0 in
             r.second o x.0 x.1 (sym (k.same o x.0 y x.1 is).pipe ∙ other)) refl;
       }
 
   -- the object behind a descriptor: a pipe, or a file at end 0
   at_a_pipe : (e : OpenFile) (end : ℕ) → Standing w.frame e.entry → on_pipe w.frame e ≡ true → (x : Object) → at g.objects e.entry.object ≡ Some x → (is_dir x ≡ false) × (is_pipe x ≡ false → end ≡ 0)
   at_a_pipe e end s on x is =
-      let pipe : is_pipe x ≡ true = (k.same _ s.object x s.is_object is).pipe ∙ sym (on_pipe_is w.frame e s) ∙ on in
+      let pipe = (k.same _ s.object x s.is_object is).pipe ∙ sym (on_pipe_is _ e s) ∙ on in
       (other_kind x pipe, λ other. absurd (true≢false (sym pipe ∙ other)))
 
   at_a_file : (e : OpenFile) → Standing w.frame e.entry → (x : Object) → at g.objects e.entry.object ≡ Some x → (is_dir x ≡ false) × (is_pipe x ≡ false → e.entry.end ≡ 0)
@@ -79,7 +76,7 @@ module _ (w : World) (g : Frame) (k : Kinds w.frame.objects g.objects) (r : Hold
 
   holds_read : (count : ℕ) (b : Option OpenFile) (a : Reply) → ((e : OpenFile) → b ≡ Some e → Standing w.frame e.entry) → Holds g (read_answer w count b a g).world.content
   unfolding read_answer plainly after_read
-  holds_read count (Some e) (reply.Bytes n) there = go (on_pipe w.frame e) refl
+  holds_read count (Some e) (reply.Bytes n) there = go _ refl
     where
       m : ℕ
       m = length (take count (readable w.frame w.content e))
@@ -95,7 +92,7 @@ module _ (w : World) (g : Frame) (k : Kinds w.frame.objects g.objects) (r : Hold
 
   holds_write : (new : List ℕ) (b : Option OpenFile) (a : Reply) → ((e : OpenFile) → b ≡ Some e → Standing w.frame e.entry) → Holds g (write_answer w new b a g).world.content
   unfolding write_answer plainly after_write
-  holds_write new (Some e) (reply.Number n) there = go (on_pipe w.frame e) refl
+  holds_write new (Some e) (reply.Number n) there = go _ refl
     where
       c : Content
       c = carried w.frame g w.content
@@ -114,7 +111,7 @@ module _ (w : World) (g : Frame) (k : Kinds w.frame.objects g.objects) (r : Hold
 
   holds_cut : (len : ℕ) (b : Option OpenFile) (a : Reply) → ((e : OpenFile) → b ≡ Some e → Standing w.frame e.entry) → Holds g (cut_answer w len b a g).world.content
   unfolding cut_answer plainly after_cut
-  holds_cut len (Some e) reply.Done there = side_changed g _ e.entry.object e.entry.end (cut_to len) (at_a_file e (there e refl)) holds_plain
+  holds_cut len (Some e) reply.Done there = side_changed g _ _ _ (cut_to len) (at_a_file e (there e refl)) holds_plain
   holds_cut len _ _ there = holds_plain
 
   holds_seek : (offset : ℕ) (b : Option OpenFile) (a : Reply) → Holds g (seek_answer w offset b a g).world.content
@@ -138,7 +135,7 @@ module _ (w : World) (g : Frame) (k : Kinds w.frame.objects g.objects) (r : Hold
 
   holds_exit : (pid status : ℕ) (a : Reply) → Holds g (exit_answer w pid status a g).world.content
   unfolding exit_answer plainly after_exit
-  holds_exit pid status reply.Done = exited (is_ended (at g.processes pid)) _
+  holds_exit pid status reply.Done = exited _ _
   holds_exit pid status _ = holds_plain
 
   either_emptied : (b : Bool) (o : ℕ) → Holds g (if b then emptied o (carried w.frame g w.content) else carried w.frame g w.content)
@@ -147,19 +144,19 @@ module _ (w : World) (g : Frame) (k : Kinds w.frame.objects g.objects) (r : Hold
 
   holds_pex : (b : Option OpenFile) (a : Reply) → Holds g (pex_answer w b a g).world.content
   unfolding pex_answer plainly
-  holds_pex (Some e) a = either_emptied _ e.entry.object
+  holds_pex (Some e) a = either_emptied _ _
   holds_pex None a = holds_plain
 
 -- ---- the step
 module _ (w : World) (s : Sound w) where
   held : Holds w.frame w.content
-  held = record { directory = s.holdings.directory; second = s.holdings.second }
+  held = search
 
   kinds : (place pid : ℕ) (c : Op) → Kinds w.frame.objects (verdict (told w pid c) place pid c w.frame).frame.objects
-  kinds place pid c = (follows_decided w.frame (frame_of w s) (told w pid c) place pid c).kinds
+  kinds place pid c = (follows_decided _ (frame_of w s) _ _ _ c).kinds
 
   behind_stands : (pid fd : ℕ) (e : OpenFile) → behind w.frame pid fd ≡ Some e → Standing w.frame e.entry
-  behind_stands pid fd e is = stands w.frame e.id e.entry s.opens (behind_is w.frame pid fd e is)
+  behind_stands pid fd e is = stands _ e.id _ s.opens (behind_is w.frame pid fd e is)
 
   pub holds_step : (place pid : ℕ) (c : Op) → Holds (verdict (told w pid c) place pid c w.frame).frame (step w place pid c).world.content
   unfolding step answer plainly

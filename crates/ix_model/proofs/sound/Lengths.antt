@@ -1,15 +1,10 @@
 -- Lengths and blocks after the calls that edit what is held.
-use Rattle.std.proofs.Common.{◌≡◌, ◌<◌, ◌≤◌, ◌==◌, ◌+◌, ◌-◌, ℕ, zero, suc, max, Bool, true, false, true≢false, not, ◌&&◌, List, [], ◌∷◌, ◌++◌, length, take, ap}
-use Rattle.std.proofs.Common.{drop, replicate, Option, Some, None, if◌then◌else◌, nat_le, nat_lt, refl, sym, ◌∙◌, subst, arith, get_or, set, length-set}
-use Rattle.std.proofs.Common.{length-append}
-use Rattle.std.specs.Option.{option_map_or}
+use Rattle.std.proofs.Common.{◌≡◌, ◌<◌, ◌≤◌, ◌==◌, ◌+◌, ◌-◌, ℕ, zero, suc, max, Bool, true, false, true≢false, not, ◌&&◌, List, [], ◌∷◌, ◌++◌, length, take, ap, length-append}
+use Rattle.std.{proofs.Common.{drop, replicate, Option, Some, if◌then◌else◌, nat_le, nat_lt, refl, sym, ◌∙◌, subst, arith, get_or, set, length-set}, specs.Option.option_map_or}
 use Rattle.std.proofs.lemmas.{Bool.{cond-false, lt-leb, ne_eqb, not-true, ltb-false, or_parts}, List.{length-replicate, length-take, length-drop}}
-use Rattle.ix_model.specs.{world.World.{Frame, Content, Object, Holding, at, is_pipe}, rows.{Walks.OpenFile, OnDescriptors.LengthChecks}}
-use Rattle.ix_model.specs.laws.Sound.{WithinLimits, LengthsSound}
-use Rattle.ix_model.specs.world.Contents.{holding_of, offset_of, holds_nothing, side, with_side, on_pipe, readable, after_read, after_write, after_cut, emptied}
-use Rattle.ix_model.specs.world.Contents.{after_seek, grown, cut_to, spliced}
-use Rattle.ix_model.specs.rows.Telling.{blocks_for, blocks_where, blocks_on, blocks_beside, lies_on, fs_of_object, length_then, told_of_pipe_write}
-use Rattle.ix_model.specs.rows.Telling.{told_of_file_write, told_of_write}
+use Rattle.ix_model.specs.{world.World.{Frame, Content, Object, Holding, at, is_pipe}, rows.{Walks.OpenFile, OnDescriptors.LengthChecks}, laws.Sound.{WithinLimits, LengthsSound}}
+use Rattle.ix_model.specs.world.Contents.{holding_of, offset_of, holds_nothing, side, with_side, readable, after_read, after_write, after_cut, emptied, after_seek, grown, cut_to, spliced}
+use Rattle.ix_model.specs.rows.Telling.{blocks_for, blocks_where, blocks_on, blocks_beside, lies_on, fs_of_object, length_then, told_of_pipe_write, told_of_file_write, told_of_write}
 use Rattle.ix_model.proofs.{tables.{Tables.none_is, Blocks.{blocks_skip, blocks_edit, on_fs}}, words.Standing.{Standing, on_pipe_is}}
 
 -- ---- lists
@@ -36,7 +31,7 @@ length-cut : (len : ℕ) (old : List ℕ) → length (cut_to len old) ≡ len
 length-cut len old = omega (arith, length-take len (grown len old), length-append old (replicate (len - length old) 0), length-replicate {A = ℕ} (len - length old) 0)
 
 then_within : (m offset n old : ℕ) → offset + n ≤ m → old ≤ m → length_then offset n old ≤ m
-then_within m offset n old h k = go (n == 0)
+then_within m offset n old h k = go _
   where
     go : (b : Bool) → (if b then old else max old (offset + n)) ≤ m
     go true = k
@@ -44,7 +39,7 @@ then_within m offset n old h k = go (n == 0)
 
 -- ---- sides
 side_within : (end n : ℕ) (h : Holding) → length h.first ≤ n → length h.second ≤ n → length (side end h) ≤ n
-side_within end n h one two = go (end == 0)
+side_within end n h one two = go _
   where
     go : (b : Bool) → length (if b then h.first else h.second) ≤ n
     go true = one
@@ -52,7 +47,7 @@ side_within end n h one two = go (end == 0)
 
 with_side_within : (end n : ℕ) (bytes : List ℕ) (h : Holding) → length h.first ≤ n → length h.second ≤ n → length bytes ≤ n
     → (length (with_side end bytes h).first ≤ n) × (length (with_side end bytes h).second ≤ n)
-with_side_within end n bytes h one two new = go (end == 0)
+with_side_within end n bytes h one two new = go _
   where
     first : Holding
     first = record h { first = bytes }
@@ -71,7 +66,7 @@ module _ (f : Frame) (c : Content) (l : LengthsSound (record { frame = f; conten
       → ((k : ℕ) → blocks_where (lies_on f (Some k)) 0 (set c.holdings o h) ≤ blocks_on f (Some k))
       → LengthsSound (record { frame = f; content = record c { holdings = set c.holdings o h } })
   holding_edited o h x is file pipe blocks =
-      let one : (m : ℕ) (y : Object) → at f.objects m ≡ Some y → m ≡ o → x ≡ y = λ m y here same. let e : Some x ≡ Some y = sym is ∙ ap (at f.objects) (sym same) ∙ here in cc in
+      let one : (m : ℕ) (y : Object) → at f.objects m ≡ Some y → m ≡ o → x ≡ y = λ m y here same. let e = sym is ∙ ap (at f.objects) (sym same) ∙ here in cc in
       record {
         holdings = length-set c.holdings o h ∙ l.holdings;
         offsets = l.offsets;
@@ -95,7 +90,7 @@ module _ (f : Frame) (c : Content) (l : LengthsSound (record { frame = f; conten
   -- what holds nothing keeps all lengths
   emptied_blocks : (p : ℕ → Bool) (n : ℕ) (hs : List Holding) (o : ℕ) → blocks_where p n (set hs o holds_nothing) ≤ blocks_where p n hs
   emptied_blocks p n [] o = omega arith
-  emptied_blocks p n (h ∷ hs) zero = let head : (if p n then blocks_for (length holds_nothing.first) else 0) ≡ 0 = none (p n) in omega arith
+  emptied_blocks p n (h ∷ hs) zero = let head : (if p n then blocks_for (length holds_nothing.first) else 0) ≡ 0 = none _ in omega arith
     where
       none : (b : Bool) → (if b then blocks_for (length holds_nothing.first) else 0) ≡ 0
       none true = refl
@@ -116,15 +111,15 @@ module _ (f : Frame) (c : Content) (l : LengthsSound (record { frame = f; conten
   -- a seek
   pub lengths_seek : (e : OpenFile) (offset : ℕ) → offset ≤ 1048576 → LengthsSound (record { frame = f; content = after_seek e offset c })
   unfolding after_seek
-  lengths_seek e offset low = offset_edited e.id offset low
+  lengths_seek e offset low = offset_edited _ _ low
 
   -- a pipe's bytes use no blocks
   pipe_edited : (o : ℕ) (h : Holding) (x : Object) → WithinLimits f → at f.objects o ≡ Some x → is_pipe x ≡ true
       → (length h.first ≤ 4096) × (length h.second ≤ 4096) → LengthsSound (record { frame = f; content = record c { holdings = set c.holdings o h } })
   pipe_edited o h x within is pipe low =
       holding_edited o h x is (λ other. absurd (true≢false (sym pipe ∙ other))) (λ yes. low) (λ k.
-      let no_fs : x.fs ≡ None = none_is x.fs (within.pipes o x is ∙ pipe) in
-      let off : lies_on f (Some k) (0 + o) ≡ false = ap (lies_on f (Some k)) (omega arith)
+      let no_fs = none_is _ (within.pipes o x is ∙ pipe) in
+      let off = ap (lies_on f (Some k)) (omega arith)
       ∙ ap (λ y. option_map_or (λ z. option_map_or (λ j. j == k) z.fs false) y false) is ∙ ap (λ y. option_map_or (λ j. j == k) y false) no_fs in
       let same = blocks_skip (lies_on f (Some k)) 0 c.holdings o h off in
       omega (arith, l.blocks k))
@@ -136,13 +131,13 @@ module _ (f : Frame) (c : Content) (l : LengthsSound (record { frame = f; conten
 
     file_low : is_pipe s.object ≡ false → length (side e.entry.end (holding_of c e.entry.object)) ≤ 1048576
     file_low other =
-        let same : length (side e.entry.end (holding_of c e.entry.object)) ≡ length (holding_of c e.entry.object).first = ap (λ n. length (side n (holding_of c e.entry.object))) (s.at_end other) in
+        let same = ap (λ n. length (side n (holding_of c e.entry.object))) (s.at_end other) in
         let low = l.file e.entry.object s.object s.is_object other in
         omega arith
 
     pub lengths_read : (count : ℕ) → LengthsSound (record { frame = f; content = after_read f e (length (take count (readable f c e))) c })
     unfolding after_read readable
-    lengths_read count = go (on_pipe f e) (sym (on_pipe_is f e s))
+    lengths_read count = go _ (sym (on_pipe_is f e s))
       where
         go : (b : Bool) → is_pipe s.object ≡ b
             → LengthsSound (record {
@@ -159,8 +154,8 @@ module _ (f : Frame) (c : Content) (l : LengthsSound (record { frame = f; conten
                   };
             })
         go true pipe =
-            let h : Holding = holding_of c e.entry.object in
-            let k : ℕ = length (take count (drop 0 (side e.entry.end h))) in
+            let h = holding_of c e.entry.object in
+            let k = length _ in
             let one = (pipe_low pipe).0 in
             let two = (pipe_low pipe).1 in
             let all = side_within e.entry.end 4096 h one two in
@@ -183,9 +178,9 @@ module _ (f : Frame) (c : Content) (l : LengthsSound (record { frame = f; conten
               };
         })
     pipe_written new pipe low =
-        let h : Holding = holding_of c e.entry.object in
+        let h = holding_of c e.entry.object in
         let fits : length (side (1 - e.entry.end) h ++ new) ≤ 4096 = omega (arith, length-append (side (1 - e.entry.end) h) new) in
-        pipe_edited e.entry.object _ s.object within s.is_object pipe (with_side_within (1 - e.entry.end) 4096 _ h (pipe_low pipe).0 (pipe_low pipe).1 fits)
+        pipe_edited _ _ _ within s.is_object pipe (with_side_within _ _ _ h (pipe_low pipe).0 (pipe_low pipe).1 fits)
 
     -- a file's holding with the new bytes
     written : List ℕ → Holding
@@ -194,9 +189,9 @@ module _ (f : Frame) (c : Content) (l : LengthsSound (record { frame = f; conten
     length-written : (new : List ℕ) → is_pipe s.object ≡ false → length (written new).first ≡ length_then (offset_of c e.id) (length new) (length (side e.entry.end (holding_of c e.entry.object)))
     unfolding written
     length-written new other =
-        let h : Holding = holding_of c e.entry.object in
+        let h = holding_of c e.entry.object in
         let plain : List ℕ → ℕ → ℕ = λ old n. length (with_side n (spliced (offset_of c e.id) new old) h).first in
-        ap (plain (side e.entry.end h)) (s.at_end other) ∙ length-spliced (offset_of c e.id) new (side e.entry.end h)
+        ap (plain (side e.entry.end h)) (s.at_end other) ∙ length-spliced _ _ _
 
     -- a file's holding with other bytes, for which there is room
     blocks_filed : (h : Holding) (n : ℕ) → length h.first ≡ n → blocks_beside f c e.entry.object + blocks_for n ≤ blocks_on f (fs_of_object f e.entry.object)
@@ -212,21 +207,21 @@ module _ (f : Frame) (c : Content) (l : LengthsSound (record { frame = f; conten
             let known : blocks_where (λ m. not (m == e.entry.object) && lies_on f (Some k) m) 0 c.holdings + blocks_for n ≤ blocks_on f (Some k) =
             subst (λ (t : Option ℕ). blocks_where (λ m. not (m == e.entry.object) && lies_on f t m) 0 c.holdings + blocks_for n ≤ blocks_on f t) fs room in
             let same : blocks_for (length h.first) ≡ blocks_for n = ap blocks_for long in
-            let more = blocks_edit (lies_on f (Some k)) (λ m. not (m == e.entry.object) && lies_on f (Some k) m) 0 c.holdings e.entry.object h
+            let more = blocks_edit (lies_on f (Some k)) (λ m. not _ && lies_on f (Some k) m) 0 c.holdings e.entry.object h
             (λ m apart. ap (λ b. not b && lies_on f (Some k) m) (ne_eqb m e.entry.object (λ h. apart (omega arith)))) in
             omega arith
 
     file_filed : (h : Holding) (n : ℕ) → length h.first ≡ n → is_pipe s.object ≡ false → n ≤ 1048576
         → blocks_beside f c e.entry.object + blocks_for n ≤ blocks_on f (fs_of_object f e.entry.object)
         → LengthsSound (record { frame = f; content = record c { holdings = set c.holdings e.entry.object h } })
-    file_filed h n long other low room = holding_edited e.entry.object h s.object s.is_object (λ k. subst (λ (m : ℕ). m ≤ 1048576) (sym long) low)
+    file_filed h n long other low room = holding_edited _ h _ s.is_object (λ k. subst (λ m. m ≤ 1048576) (sym long) low)
         (λ yes. absurd (true≢false (sym yes ∙ other))) (blocks_filed h n long room)
 
     file_written : (new : List ℕ) → is_pipe s.object ≡ false → offset_of c e.id + length new ≤ 1048576
         → blocks_beside f c e.entry.object + blocks_for
         (length_then (offset_of c e.id) (length new) (length (side e.entry.end (holding_of c e.entry.object)))) ≤ blocks_on f (fs_of_object f e.entry.object)
         → LengthsSound (record { frame = f; content = record c { holdings = set c.holdings e.entry.object (written new) } })
-    file_written new other low room = file_filed (written new) _ (length-written new other) other (then_within 1048576 (offset_of c e.id) (length new) _ low (file_low other)) room
+    file_written new other low room = file_filed _ _ (length-written _ other) other (then_within _ _ _ _ low (file_low other)) room
 
     -- ---- a cut
     pub lengths_cut : (len : ℕ) → is_pipe s.object ≡ false → len ≤ 1048576
@@ -234,19 +229,19 @@ module _ (f : Frame) (c : Content) (l : LengthsSound (record { frame = f; conten
         → LengthsSound (record { frame = f; content = after_cut e len c })
     unfolding after_cut
     lengths_cut len other low room =
-        let h : Holding = holding_of c e.entry.object in
-        let old : List ℕ = side e.entry.end (holding_of c e.entry.object) in
-        let long : length (with_side e.entry.end (cut_to len (side e.entry.end (holding_of c e.entry.object))) (holding_of c e.entry.object)).first ≡ len =
+        let h = holding_of c e.entry.object in
+        let old = side e.entry.end (holding_of c e.entry.object) in
+        let long =
         ap (λ n. length (with_side n (cut_to len (side e.entry.end (holding_of c e.entry.object))) (holding_of c e.entry.object)).first) (s.at_end other)
-        ∙ length-cut len (side e.entry.end (holding_of c e.entry.object)) in
-        file_filed _ len long other low room
+        ∙ length-cut _ (side e.entry.end (holding_of c e.entry.object)) in
+        file_filed _ _ long other low room
 
 pub lengths_write : (f : Frame) (c : Content) (l : LengthsSound (record { frame = f; content = c })) (e : OpenFile) (s : Standing f e.entry)
     (within : WithinLimits f) (new : List ℕ) → not (told_of_write f c (length new) (Some e)).too_big ≡ true
     → not (told_of_write f c (length new) (Some e)).full ≡ true → not (told_of_write f c (length new) (Some e)).no_space ≡ true
     → LengthsSound (record { frame = f; content = after_write f e new c })
 unfolding after_write told_of_write written
-lengths_write f c l e s within new small room space = go (on_pipe f e) (sym (on_pipe_is f e s)) small room space
+lengths_write f c l e s within new small room space = go _ (sym (on_pipe_is f e s)) small room space
   where
     at_end : LengthChecks
     at_end = told_of_pipe_write (length (side (1 - e.entry.end) (holding_of c e.entry.object))) (length new)

@@ -1,23 +1,20 @@
 -- The rows that log, that set labels and ceilings, and that move a process leave a sound frame.
-use Rattle.std.proofs.Common.{◌≡◌, ℕ, Bool, true, false, true≢false, not, nat_lt, [], ◌∷◌, ◌++◌, Some, length, length-append, refl, sym, ap, ◌∙◌, subst, arith}
-use Rattle.std.proofs.Common.{inl, inr}
+use Rattle.std.proofs.Common.{◌≡◌, ℕ, Bool, true, false, true≢false, not, nat_lt, [], ◌∷◌, ◌++◌, Some, length, length-append, refl, sym, ap, ◌∙◌, subst, arith, inl, inr}
 use Rattle.std.{specs.Option.option_map_or, proofs.lemmas.Bool.{ltb-true, not-false}}
 use Rattle.ix_label.specs.{Category.{Categories, leq, same, bottom}, Lattice.same-decides}
-use Rattle.ix_model.specs.world.{Naming.PathOf, Privs.to_lower, World.{Frame, Object, Process, at, change, living, is_dir, ceiling_of}}
-use Rattle.ix_model.specs.{rows.Outcomes.{Row, Outcome, Refuse, Pass}, rows.Rows.{◌>>◌, pass, need, change_process, only_if, affect}, rows.OnPaths.change_dir}
-use Rattle.ix_model.specs.rows.Auditing.{entitled, log_has_room, exercise, logged, audit_line}
+use Rattle.ix_model.specs.{world.{Naming.PathOf, World.{Frame, Object, Process, at, change, living, is_dir, ceiling_of}}, rows.OnLabels.read_log}
+use Rattle.ix_model.specs.rows.{Outcomes.{Row, Outcome, Refuse, Pass}, Rows.{◌>>◌, pass, need, change_process, only_if, affect}, OnPaths.change_dir}
+use Rattle.ix_model.{specs.rows.Auditing.{entitled, log_has_room, exercise, logged, audit_line}, proofs.{tables.{Finds.at_change, Labels.labels_process}, sound.Steadily.follows_found}}
 use Rattle.ix_model.specs.declared.{audit.AuditLine.AuditLine, privs.PrivSet.PrivSet, refusal.Refusal.Refusal, reply.Reply.Reply}
 use Rattle.ix_model.specs.rows.OnLabels.{allowed, movable, set_label, set_self, thaw, thaw_self, set_priv, grant_lic, needs_to_set_ceilings, set_ceiling}
-use Rattle.ix_model.specs.rows.OnLabels.{read_log}
-use Rattle.ix_model.specs.declared.audit.Act.TheVariants as act
-use Rattle.ix_model.specs.declared.refusal.Refusal.TheVariants as refusal
-use Rattle.ix_model.specs.declared.reply.Reply.TheVariants as reply
-use Rattle.ix_model.proofs.{tables.{Finds.at_change, Labels.labels_process}, sound.Steadily.follows_found}
 use Rattle.ix_model.proofs.words.{Living.{is_living, not_ended, lives_as}, Keeps.{Holds, Keeps}, RowEnds.{ends_entitled, ends_logged}, Looks.ends_affect}
 use Rattle.ix_model.proofs.frames.{Floats.{floats_itself, floats_process}, Frames.{Follows, follows_affect, followed_object, followed_process}}
 use Rattle.ix_model.proofs.words.Ends.{Ends, ending, ends_kept, kept_ends, ends_bind, ends_then, ends_pass, ends_frame, ends_need, ends_some, ends_only_if}
 use Rattle.ix_model.proofs.words.Ends.{ends_caller, ends_object, ends_change_object, ends_change_caller}
 use Rattle.ix_model.proofs.frames.Floated.{names_floated, lives_floated, opens_floated, processes_moved, claims_floated, limits_floated}
+use Rattle.ix_model.specs.declared.audit.Act.TheVariants as act
+use Rattle.ix_model.specs.declared.refusal.Refusal.TheVariants as refusal
+use Rattle.ix_model.specs.declared.reply.Reply.TheVariants as reply
 
 -- the log takes one line more
 abbrev pub HasRoom : Frame → Type 0
@@ -35,9 +32,9 @@ room_allowed : (pid : ℕ) (was now : Categories) (f : Frame) (P : Refusal → F
     → ((not (leq was now) ≡ true → HasRoom f) → Q tt f) → ((r : Refusal) → P r f) → Ends (allowed pid was now f) P Q
 unfolding allowed
 room_allowed pid was now f P Q h k =
-    let second : Ends (only_if (not (leq was now)) (exercise pid to_lower) f) P Q =
-    ends_only_if _ _ f P Q (λ yes. room_exercise pid _ f P Q (λ room. h (λ again. room)) k) (λ no. h (λ yes. absurd (true≢false (sym yes ∙ no)))) in
-    ends_bind _ _ f P Q (ends_caller pid f P _ (λ p lives.
+    let second =
+    ends_only_if _ _ f P Q (λ yes. room_exercise _ _ f P Q (λ room. h (λ again. room)) k) (λ no. h (λ yes. absurd (true≢false (sym yes ∙ no)))) in
+    ends_bind _ _ f P Q (ends_caller _ f P _ (λ p lives.
     ends_then _ _ f P Q (ends_only_if _ _ f P _ (λ yes. ends_need _ _ f P _ (λ low. second) (k _)) (λ no. second))) (k _))
 
 fits_movable : (x : Object) (now : Categories) (f : Frame) (P : Refusal → Frame → Type 0) (Q : Unit {0} → Frame → Type 0)
@@ -46,7 +43,7 @@ unfolding movable
 fits_movable x now f P Q fits h k =
     ends_bind _ _ f P Q (ends_frame f P _ (ends_only_if _ _ f P Q
     (λ other. ends_then _ _ f P Q (ends_need _ _ f P _ (λ free. ends_need _ _ f P Q h (k _)) (k _)))
-    (λ no. h (subst (λ (l : Categories). leq l (ceiling_of f.fss x) ≡ true) ((same-decides x.label now).0 (not-false _ no)) fits))))
+    (λ no. h (subst (λ l. leq l (ceiling_of f.fss x) ≡ true) ((same-decides _ _).0 (not-false _ no)) fits))))
 
 pub holds_both : {A : Type 0} (R S : Frame → Type 0) (o : Outcome A) → Holds o R → Holds o S → Holds o (λ g. R g × S g)
 unfolding Holds
@@ -62,16 +59,16 @@ module _ (f : Frame) where
 
   follows_logged : (g : Frame) (l : AuditLine) → HasRoom g → Follows f g → Follows f (record g { log = g.log ++ l ∷ [] })
   follows_logged g l room s =
-      let low = ltb-true (length g.log) g.limits.log room in
+      let low = ltb-true _ g.limits.log room in
       let n = s.sound.names in let v = s.sound.lives in let o = s.sound.opens in let p = s.sound.processes in let w = s.sound.limits in
       record {
         sound = record {
-          labels = record { objects = s.sound.labels.objects; processes = s.sound.labels.processes };
-          names = record { root = n.root; in_directories = n.in_directories; living = n.living; differ = n.differ; once = n.once };
-          lives = record { file = v.file; pipe = v.pipe };
-          opens = record { descriptor = o.descriptor; owned = o.owned; target = o.target; end = o.end };
-          processes = record { none = p.none; home = p.home; parent = p.parent; descriptors = p.descriptors };
-          claims = record { claimant = s.sound.claims.claimant };
+          labels = search;
+          names = search;
+          lives = search;
+          opens = search;
+          processes = search;
+          claims = search;
           limits = record {
             objects = w.objects;
             pipes = w.pipes;
@@ -89,16 +86,16 @@ module _ (f : Frame) where
 
   ends_logged_if : (b : Bool) (l : AuditLine) (g : Frame) → (b ≡ true → HasRoom g) → Follows f g → (a : Reply) → Ends (◌>>◌ (only_if b (logged l)) (pass a) g) Refused Passed
   ends_logged_if b l g room s a =
-      ends_then _ _ g Refused Passed (ends_only_if b _ g Refused _
-      (λ yes. ends_logged l g Refused _ (ends_pass a _ Refused Passed (follows_logged g l (room yes) s)))
-      (λ no. ends_pass a g Refused Passed s))
+      ends_then _ _ g _ _ (ends_only_if b _ g _ _
+      (λ yes. ends_logged l g _ _ (ends_pass a _ _ _ (follows_logged g l (room yes) s)))
+      (λ no. ends_pass a g _ _ s))
 
   ends_logged_last : (l : AuditLine) (g : Frame) → HasRoom g → Follows f g → (a : Reply) → Ends (◌>>◌ (logged l) (pass a) g) Refused Passed
-  ends_logged_last l g room s a = ends_then _ _ g Refused Passed (ends_logged l g Refused _ (ends_pass a _ Refused Passed (follows_logged g l room s)))
+  ends_logged_last l g room s a = ends_then _ _ g _ _ (ends_logged l g _ _ (ends_pass a _ _ _ (follows_logged g l room s)))
 
   -- what a row keeps, and what is done next
   pub ends_next : {A : Type 0} (m : Row A) (g : Frame) (Q : A → Frame → Type 0) → Keeps (Follows f) m → Follows f g → ((a : A) (h : Frame) → Follows f h → Q a h) → Ends (m g) Refused Q
-  ends_next m g Q keeps s next = ends_kept (Follows f) (m g) Refused Q (keeps.led g s) (λ r h k. k) next
+  ends_next m g Q keeps s next = ends_kept _ (m g) _ Q (keeps.led g s) (λ r h k. k) next
 
   -- the object's label is that
   labelled : (g : Frame) (o : ℕ) (x : Object) (now : Categories) → at g.objects o ≡ Some x → leq now (ceiling_of g.fss x) ≡ true → Follows f g
@@ -202,11 +199,11 @@ module _ (f : Frame) where
   pub read_log_ends : (place pid index : ℕ) (g : Frame) → Follows f g → Ends (read_log place pid index g) Refused Passed
   unfolding read_log
   read_log_ends place pid index g s =
-      ends_then _ _ g Refused Passed (ends_entitled pid _ g Refused _ (λ why. s) (
-      ends_bind _ _ g Refused Passed (ends_frame g Refused _ (
-      ends_bind _ _ g Refused Passed (ends_some _ _ g Refused _ (λ l is.
-      ends_then _ _ g Refused Passed (room_log g Refused _ (λ room.
-      ends_bind _ _ g Refused Passed (ends_caller pid g Refused _ (λ p lives. ends_logged_last _ _ room s _) s))
+      ends_then _ _ g _ _ (ends_entitled _ _ g _ _ (λ why. s) (
+      ends_bind _ _ g _ _ (ends_frame g _ _ (
+      ends_bind _ _ g _ _ (ends_some _ _ g _ _ (λ l is.
+      ends_then _ _ g _ _ (room_log g _ _ (λ room.
+      ends_bind _ _ g _ _ (ends_caller _ g _ _ (λ p lives. ends_logged_last _ _ room s _) s))
       (λ why. s))) s)))))
 
   -- ---- privileges of files

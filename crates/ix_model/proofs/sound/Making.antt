@@ -1,22 +1,18 @@
 -- The rows that make a file, a directory or a name leave a sound frame.
 use Rattle.std.proofs.Common.{◌≡◌, ◌≢◌, ◌<◌, ◌≤◌, ◌+◌, ◌==◌, ℕ, true, false, true≢false, not, nat_lt, List, sum, length, count_by, Option, Some, None, is_none}
-use Rattle.std.proofs.Common.{refl, sym, ap, ◌∙◌, subst, arith, inl, inr}
-use Rattle.std.{specs.Option.option_map_or, proofs.lemmas.{Bool.{cases_lt, not-true}, List.{get_or-set_same, get_or-set_other}}}
+use Rattle.std.{proofs.{Common.{refl, sym, ap, ◌∙◌, subst, arith, inl, inr}, lemmas.{Bool.{cases_lt, not-true}, List.{get_or-set_same, get_or-set_other}}}, specs.Option.option_map_or}
 use Rattle.ix_label.specs.{Category.{Categories, bottom}, Lattice.bottom-leq}
-use Rattle.ix_model.specs.{world.Naming.{PathOf, last_name}, world.Directories.{with_name, has_room_for_a_name}}
-use Rattle.ix_model.specs.{world.World.{fs_at, Frame, Object, at, put, change, is_dir, is_pipe}, world.Numbers.{first_inode, free_inode, fs_number}}
+use Rattle.ix_model.specs.{world.{Naming.{PathOf, last_name}, Directories.{with_name, has_room_for_a_name}}, rows.{Rows.affect, OnPaths.{new_object, make, create_at, make_dir, link_at}}}
+use Rattle.ix_model.{specs.world.{World.{fs_at, Frame, Object, at, put, change, is_dir, is_pipe}, Numbers.{first_inode, free_inode, fs_number}}, proofs.words.Ends.ends_change_object}
 use Rattle.ix_model.specs.{world.Owners.{times_in, times_named, names_in_all}, declared.{config.FsSpec.FsSpec, reply.Kind.Kind}}
-use Rattle.ix_model.specs.rows.{Walks.Sought, Rows.affect, OnPaths.{new_object, make, create_at, make_dir, link_at}}
+use Rattle.ix_model.proofs.tables.{Tables.{none_is, back, length_same, map_same, seen_same}, Finds.sum_zero, FreeNumbers.free_inode_is}
+use Rattle.ix_model.proofs.{tables.SameKinds.{kinds_new, kinds_change}, words.{There.child_named, Looks.ends_affect, Endings.ends_put_object}}
+use Rattle.ix_model.proofs.frames.{Floats.{Floats, object_but, floats_itself, floats_affect}, Named.named_sound, Awaiting.{IsNew, awaiting, awaiting_new, times_new, names_in_new}}
+use Rattle.ix_model.proofs.{frames.Frames.{FrameSound, Follows, follows_itself, follows_affect}, sound.Logging.{Refused, Passed, holds_both}}
+use Rattle.ix_model.proofs.words.Ends.{Ends, ends_kept, kept_ends, ends_bind, ends_then, ends_pass, ends_frame, ends_need, ends_some, ends_object}
+use Rattle.ix_model.proofs.words.Walked.{Within, Leads, Along, along_itself, within_on, leads_walked_to, leads_there, leads_vacant, leads_missing}
 use Rattle.ix_model.specs.rows.Walks as sought
 use Rattle.ix_model.specs.declared.reply.Kind.TheVariants as kind
-use Rattle.ix_model.proofs.{tables.Tables.{none_is, back, length_same, map_same, seen_same}, tables.Finds.sum_zero, tables.FreeNumbers.free_inode_is}
-use Rattle.ix_model.proofs.{tables.SameKinds.{kinds_new, kinds_change}, words.{There.child_named, Looks.ends_affect, Endings.ends_put_object}}
-use Rattle.ix_model.proofs.{frames.Floats.{Floats, object_but, floats_itself, floats_affect}, frames.Named.named_sound}
-use Rattle.ix_model.proofs.{frames.Frames.{FrameSound, Follows, follows_itself, follows_affect}, sound.Logging.{Refused, Passed, holds_both}}
-use Rattle.ix_model.proofs.frames.Awaiting.{IsNew, awaiting, awaiting_new, times_new, names_in_new}
-use Rattle.ix_model.proofs.words.Ends.{Ends, ends_kept, kept_ends, ends_bind, ends_then, ends_pass, ends_frame, ends_need, ends_some, ends_object}
-use Rattle.ix_model.proofs.words.Ends.{ends_change_object}
-use Rattle.ix_model.proofs.words.Walked.{Within, Leads, Along, along_itself, within_on, leads_walked_to, leads_there, leads_vacant, leads_missing}
 
 -- ---- room for a name
 room_same : (f g : Frame) → names_in_all g.objects ≡ names_in_all f.objects → g.limits ≡ f.limits → has_room_for_a_name f ≡ true → has_room_for_a_name g ≡ true
@@ -24,17 +20,17 @@ unfolding has_room_for_a_name
 room_same f g names limits h = (λ i. nat_lt (names i) (limits i).names) ∙ h
 
 names_floated_in : (f g : Frame) → Floats f g → names_in_all g.objects ≡ names_in_all f.objects
-names_floated_in f g r = ap sum (map_same object_but (λ x. option_map_or (λ y. length y.names) x 0) (λ x. refl) f.objects g.objects r.objects)
+names_floated_in f g r = ap sum (map_same _ _ (λ x. refl) _ _ r.objects)
 
 none_floated : (f g : Frame) → Floats f g → (o : ℕ) → at f.objects o ≡ None → at g.objects o ≡ None
-none_floated f g r o none = none_is _ (seen_same object_but is_none (λ y. refl) f.objects g.objects r.objects o ∙ ap is_none none)
+none_floated f g r o none = none_is _ (seen_same _ is_none (λ y. refl) _ _ r.objects o ∙ ap is_none none)
 
 none_before : (f g : Frame) → Floats f g → (o : ℕ) → at g.objects o ≡ None → at f.objects o ≡ None
-none_before f g r o none = none_is _ (sym (seen_same object_but is_none (λ y. refl) f.objects g.objects r.objects o) ∙ ap is_none none)
+none_before f g r o none = none_is _ (sym (seen_same _ is_none (λ y. refl) _ _ r.objects o) ∙ ap is_none none)
 
 -- what doesn't stand isn't named
 unborn : (f : Frame) (o : ℕ) → FrameSound f → at f.objects o ≡ None → times_named f.objects o ≡ 0
-unborn f o s none = sum_zero (times_in o) f.objects (λ n. go n (at f.objects n) refl)
+unborn f o s none = sum_zero (times_in o) f.objects (λ n. go n _ refl)
   where
     go : (n : ℕ) (y : Option Object) → at f.objects n ≡ y → times_in o (at f.objects n) ≡ 0
     go n None is = ap (times_in o) is

@@ -1,18 +1,18 @@
 -- Every world that a valid config reaches is sound, and every world that is reached is clean.
-use Rattle.std.proofs.Common.{◌≡◌, ℕ, suc, true, List, [], ◌∷◌, length, replicate, refl, sym, subst, arith}
+use Rattle.std.proofs.Common.{◌≡◌, ℕ, suc, true, List, [], ◌∷◌, replicate, refl, sym, subst, arith}
 use Rattle.ix_model.specs.{world.{World.World, Contents.holds_nothing}, history.{Step.{step_of, run}, Events.Event}, laws.{Clean.IsClean, Sound.Sound}}
 use Rattle.ix_model.specs.{opening.{Opening.{bare_objects, bare_world, opening_world}, Valid.is_valid}, declared.config.Config.Config}
-use Rattle.ix_model.proofs.{opening.Openings.clean_opening, opening.Validity.{Valid, valid_parts}, opening.Bare.bare_table, opening.BareBuilt.bare_built}
-use Rattle.ix_model.proofs.{opening.OpenedWorlds.{WorldBuilt, lines_built}, opening.OpeningSound.sound_built, sound.Soundly.sound_step}
+use Rattle.ix_model.proofs.opening.{Openings.clean_opening, Validity.{Valid, valid_parts}, Bare.bare_table, BareBuilt.bare_built}
+use Rattle.ix_model.proofs.{opening.{OpenedWorlds.{WorldBuilt, lines_built}, OpeningSound.sound_built}, sound.Soundly.sound_step}
 
 -- ---- the opening world
 pub bare_is_built : (c : Config) → Valid c → WorldBuilt c [] (bare_world c)
 unfolding bare_objects
 bare_is_built c v = record {
   objects = bare_table c.fss c.limits.pipes;
-  holdings = replicate (length (bare_table c.fss c.limits.pipes)) holds_nothing;
+  holdings = replicate _ holds_nothing;
   is = refl;
-  built = bare_built c.fss c.limits v.fss.each v.fss.some v.fss.differ (omega (arith, v.fss.few, v.limits.names));
+  built = bare_built _ _ v.fss.each v.fss.some v.fss.differ (omega (arith, v.fss.few, v.limits.names));
 }
 
 -- the config's lines make its opening world

@@ -1,21 +1,19 @@
 -- What stands at a number after a call: two places for claims, empty where it is no pipe, and pipes' open entries at bottom.
-use Rattle.std.proofs.Common.{◌≡◌, ◌≤◌, ℕ, zero, suc, Bool, true, false, true≢false, not, List, length, length-set, Option, Some, None, is_none, refl, sym, ap}
-use Rattle.std.proofs.Common.{◌∙◌, subst, arith, inl, inr, ◌-◌}
+use Rattle.std.proofs.Common.{◌≡◌, ◌≤◌, ℕ, zero, suc, Bool, true, false, true≢false, not, List, length, length-set, Option, Some, None, is_none, refl, sym, ap, ◌∙◌, subst, arith, inl, inr}
 use Rattle.std.{specs.Option.option_map_or, proofs.lemmas.Bool.not-true}
 use Rattle.ix_label.specs.Category.{bottom}
 use Rattle.ix_model.specs.{rows.{OnPaths.new_object, Walks.OpenFile, Auditing.logged, OnProcesses.end_process, Table.{row, verdict}}, history.Events.Op}
-use Rattle.ix_model.specs.world.{Numbers.first_pipe, World.{Frame, Object, Process, Open, at, put, change, is_dir, is_pipe, no_claims}}
+use Rattle.ix_model.{specs.world.{Numbers.first_pipe, World.{Frame, Object, Process, Open, at, put, change, is_dir, is_pipe, no_claims}}, proofs.words.Ends.ends_change_object}
 use Rattle.ix_model.specs.{laws.Sound.{WithinLimits, OpensSound, ShapesSound}, declared.{config.FsSpec.FsSpec, reply.Reply.Reply, refusal.Refusal.Refusal}}
 use Rattle.ix_model.specs.rows.Rows.{◌>>◌, change_process, change_object, change_open, put_object, put_process, put_open, add_process, process, pass}
-use Rattle.ix_model.specs.rows.OnDescriptors.{LengthChecks, float_entry, read_fd, write_fd, seek_fd, pex, claimed, read_passed, write_passed}
+use Rattle.ix_model.specs.rows.OnDescriptors.{LengthChecks, float_entry, read_fd, write_fd, seek_fd, pex, claimed, write_passed}
+use Rattle.ix_model.proofs.{tables.{Finds.{at_put, at_change, passes_some}, Inodes.first_within}, words.{Keeps.{Holds, keeps_claimed}, Lasts.decided}}
+use Rattle.ix_model.proofs.words.{Looks.{ends_observe, ends_affect}, Transfers.{read_behind, ends_read, ends_read_behind, ends_write, ends_floated}}
+use Rattle.ix_model.proofs.{words.{Standing.behind_is, Rowwise.{Change, Claiming, Moving, Words, kept_row}}, frames.Frames.FrameSound}
+use Rattle.ix_model.proofs.words.Ends.{Ends, kept_ends, ends_kept, ends_bind, ends_then, ends_pass, ends_need, ends_caller, ends_object, ends_opened}
 use Rattle.ix_model.specs.history.Events as op
 use Rattle.ix_model.specs.declared.reply.Kind.TheVariants as kind
 use Rattle.ix_model.specs.declared.reply.Reply.TheVariants as reply
-use Rattle.ix_model.proofs.{tables.{Finds.{at_put, at_change, passes_some}, Inodes.first_within}, words.Keeps.{Holds, keeps_claimed}, words.Lasts.decided}
-use Rattle.ix_model.proofs.{words.Looks.{ends_observe, ends_affect}, words.Transfers.{read_behind, ends_read, ends_read_behind, ends_write, ends_floated}}
-use Rattle.ix_model.proofs.{words.Standing.behind_is, words.Rowwise.{Change, Claiming, Moving, Words, kept_row}, frames.Frames.FrameSound}
-use Rattle.ix_model.proofs.words.Ends.{Ends, kept_ends, ends_kept, ends_bind, ends_then, ends_pass, ends_need, ends_caller, ends_object, ends_opened}
-use Rattle.ix_model.proofs.words.Ends.{ends_change_object}
 
 -- ---- claims
 -- an object has two places for claims, which are empty where it is no pipe
@@ -40,20 +38,20 @@ no_claim_put (suc (suc end)) = refl
 places_unclaimed : (x : Object) (end : ℕ) → Places x → Places (record x { claims = put x.claims end None })
 places_unclaimed x end p = record {
   two = length-set x.claims end None ∙ p.two;
-  none = λ other. ap (λ c. put c end None) (p.none other) ∙ no_claim_put end;
+  none = λ other. ap (λ c. put c end None) (p.none other) ∙ no_claim_put _;
 }
 
 all_changed : (f : Frame) (o : ℕ) (h : Object → Object) → ((x : Object) → at f.objects o ≡ Some x → Places x → Places (h x)) → AllPlaces f → AllPlaces (record f { objects = change f.objects o h })
 all_changed f o h keeps r = record {
-  each = λ n x is. elim (at_change f.objects o h n x is) [
-    | inl c ↦ subst (λ (y : Object). Places y) (sym c.same) (keeps c.was c.is_was (r.each o c.was c.is_was))
+  each = λ n x is. elim (at_change _ o h n x is) [
+    | inl c ↦ subst (λ y. Places y) (sym c.same) (keeps c.was c.is_was (r.each o c.was c.is_was))
     | inr other ↦ r.each n x other.1
   ];
 }
 
 all_put : (f : Frame) (o : ℕ) (y : Option Object) → ((x : Object) → y ≡ Some x → Places x) → AllPlaces f → AllPlaces (record f { objects = put f.objects o y })
 all_put f o y new r = record {
-  each = λ n x is. elim (at_put f.objects o n y x is) [
+  each = λ n x is. elim (at_put _ o n y x is) [
     | inl here ↦ new x here.1
     | inr other ↦ r.each n x other.1
   ];
@@ -72,24 +70,24 @@ claims_none _ = true
 places_words : (pid : ℕ) → Words claims_none pid AllPlaces
 unfolding claims_none change_object change_process change_open put_object put_open put_process add_process end_process logged Holds
 places_words pid = record {
-  object = λ o h same. record { led = λ g. all_changed g o h (λ x is. places_as x (h x) (ap (λ y. y.kind) (same x)) (ap (λ y. y.claims) (same x))) };
+  object = λ o h same. record { led = λ g. all_changed g o h (λ x is. places_as x _ (ap (λ y. y.kind) (same x)) (ap (λ y. y.claims) (same x))) };
   process = λ p h same. record { led = λ g. same_objects g _ refl };
   float = λ h same. record { led = λ g. same_objects g _ refl };
   entry = λ e x low. record { led = λ g. same_objects g _ refl };
   through = λ can e l. record { led = λ g. same_objects g _ refl };
-  unclaim = λ o end. record { led = λ g. all_changed g o _ (λ x is. places_unclaimed x end) };
-  relabel = λ can o h same. record { led = λ g. all_changed g o h (λ x is. places_as x (h x) (ap (λ y. y.kind) (same x)) (ap (λ y. y.claims) (same x))) };
+  unclaim = λ o end. record { led = λ g. all_changed g o _ (λ x is. places_unclaimed x _) };
+  relabel = λ can o h same. record { led = λ g. all_changed g o h (λ x is. places_as x _ (ap (λ y. y.kind) (same x)) (ap (λ y. y.claims) (same x))) };
   claim = λ can. cc;
   log = λ can l. record { led = λ g. same_objects g _ refl };
   inode = λ can m o k kind is free. record {
     led = λ g. all_put g o _ (λ x new. let same : new_object kind (Some k) ≡ x = cc in
-        subst (λ (y : Object). Places y) same (record { two = refl; none = λ other. refl }));
+        subst (λ y. Places y) same (search));
   };
   pipe = λ can m o is free. record {
     led = λ g. all_put g o _ (λ x new. let same : new_object kind.Pipe None ≡ x = cc in
-        subst (λ (y : Object). Places y) same (record { two = refl; none = λ other. refl }));
+        subst (λ y. Places y) same (search));
   };
-  gone_object = λ can o. record { led = λ g. all_put g o None no_object };
+  gone_object = λ can o. record { led = λ g. all_put g o _ no_object };
   gone_open = λ can e. record { led = λ g. same_objects g _ refl };
   fork = λ can p. record { led = λ g. same_objects g _ refl };
   end = λ can. record { led = λ g. same_objects g _ refl };
@@ -112,8 +110,8 @@ module _ (f : Frame) (r : AllPlaces f) where
 
   claim_answered : (other : Option ℕ) (next : Reply → Frame → Type 0) → ((a : Reply) → next a f) → Ends (claimed other f) P next
   unfolding P
-  claim_answered other next h = ends_kept (λ g. f ≡ g) (claimed other f) P next ((keeps_claimed (λ g. f ≡ g) other).led f refl)
-      (λ why g e. subst (λ (k : Frame). AllPlaces k) e r) (λ a g e. subst (λ (k : Frame). next a k) e (h a))
+  claim_answered other next h = ends_kept _ (claimed other f) P _ ((keeps_claimed _ _).led f refl)
+      (λ why g e. subst (λ k. AllPlaces k) e r) (λ a g e. subst (λ k. next a k) e (h a))
 
   places_pex : (pid fd : ℕ) → Ends (pex pid fd f) P Q
   unfolding pex P Q
@@ -147,7 +145,7 @@ module _ (f : Frame) where
   low_put : (g : Frame) (e : ℕ) (y : Option Open) → ((x : Open) → y ≡ Some x → x.label ≡ bottom) → LowEntries f g → LowEntries f (record g { opens = put g.opens e y })
   low_put g e y new r = record {
     fss = r.fss;
-    low = λ n x is past. elim (at_put g.opens e n y x is) [
+    low = λ n x is past. elim (at_put _ e n y x is) [
       | inl here ↦ new x here.1
       | inr other ↦ r.low n x other.1 past
     ];
@@ -159,7 +157,7 @@ module _ (f : Frame) where
     object = λ o h same. record { led = λ g r. record { fss = r.fss; low = r.low } };
     process = λ p h same. record { led = λ g r. record { fss = r.fss; low = r.low } };
     float = λ h same. record { led = λ g r. record { fss = r.fss; low = r.low } };
-    entry = λ e x low. record { led = λ g. low_put g e (Some x) (λ y new. let same : x ≡ y = cc in ap (λ z. z.label) (sym same) ∙ low) };
+    entry = λ e x low. record { led = λ g. low_put g e _ (λ y new. let same : x ≡ y = cc in ap (λ z. z.label) (sym same) ∙ low) };
     through = λ can. cc;
     unclaim = λ o end. record { led = λ g r. record { fss = r.fss; low = r.low } };
     relabel = λ can o h same. record { led = λ g r. record { fss = r.fss; low = r.low } };
@@ -168,7 +166,7 @@ module _ (f : Frame) where
     inode = λ can m o k kind is free. record { led = λ g r. record { fss = r.fss; low = r.low } };
     pipe = λ can m o is free. record { led = λ g r. record { fss = r.fss; low = r.low } };
     gone_object = λ can o. record { led = λ g r. record { fss = r.fss; low = r.low } };
-    gone_open = λ can e. record { led = λ g. low_put g e None (λ y new. cc) };
+    gone_open = λ can e. record { led = λ g. low_put g e _ (λ y new. cc) };
     fork = λ can p. record { led = λ g r. record { fss = r.fss; low = r.low } };
     end = λ can. record { led = λ g r. record { fss = r.fss; low = r.low } };
     collect = λ can p. record { led = λ g r. record { fss = r.fss; low = r.low } };
@@ -190,12 +188,12 @@ module _ (f : Frame) (limits : WithinLimits f) (r : LowEntries f f) where
       → at f.opens e.id ≡ Some e.entry → at f.objects e.entry.object ≡ Some x → is_pipe x ≡ false → LowEntries f (record g { opens = change g.opens e.id h })
   low_moved g e x h same opens fss stands here other = record {
     fss = fss;
-    low = λ n y is past. elim (at_change g.opens e.id h n y is) [
+    low = λ n y is past. elim (at_change _ _ h n y is) [
       | inl c ↦
-          let one : Some e.entry ≡ Some c.was = sym stands ∙ ap (λ t. at t e.id) (sym opens) ∙ c.is_was in
+          let one = sym stands ∙ ap (λ t. at t e.id) (sym opens) ∙ c.is_was in
           let entry : e.entry ≡ c.was = cc in
-          let number : y.object ≡ e.entry.object = ap (λ z. z.object) c.same ∙ same c.was ∙ ap (λ z. z.object) (sym entry) in
-          absurd (before_pipes e.entry.object x here other (omega (arith, number, past)))
+          let number = ap (λ z. z.object) c.same ∙ same _ ∙ ap (λ z. z.object) (sym entry) in
+          absurd (before_pipes _ x here other (omega (arith, number, past)))
       | inr apart ↦ r.low n y (ap (λ t. at t n) (sym opens) ∙ apart.1) past
     ];
   }
@@ -213,11 +211,11 @@ module _ (f : Frame) (limits : WithinLimits f) (r : LowEntries f f) where
 
   low_read : (t : LengthChecks) (pid fd count : ℕ) → Ends (read_fd t pid fd count f) PL QL
   unfolding PL QL
-  low_read t pid fd count = ends_read f PL QL (λ why. r) t pid fd count (λ e is x here.
-      let stands = behind_is f pid fd e is in
+  low_read t pid fd count = ends_read f PL QL (λ why. r) t _ fd _ (λ e is x here.
+      let stands = behind_is f _ fd e is in
       let rest : (g : Frame) → g.opens ≡ f.opens → g.fss ≡ f.fss → Ends (read_behind t pid e x g) PL QL =
-      λ g opens fss. ends_read_behind g PL QL (λ why. same_low g opens fss) t pid e x (λ p lives. floated p x e read_passed g opens fss stands here) in
-      ends_then _ _ f PL QL (ends_observe pid _ f PL _ (λ why. r) (rest f refl refl) (λ p lives low. rest _ refl refl)))
+      λ g opens fss. ends_read_behind g PL QL (λ why. same_low g opens fss) t _ e x (λ p lives. floated p x e _ g opens fss stands here) in
+      ends_then _ _ f PL QL (ends_observe _ _ f PL _ (λ why. r) (rest f refl refl) (λ p lives low. rest _ refl refl)))
 
   low_write : (t : LengthChecks) (pid fd : ℕ) → Ends (write_fd t pid fd f) PL QL
   unfolding PL QL
@@ -244,15 +242,15 @@ module _ (f : Frame) (limits : WithinLimits f) (r : LowEntries f f) where
 -- ---- from a sound frame to what is decided
 -- what stands at a pipe's number is a pipe
 low_before : (f : Frame) → WithinLimits f → OpensSound f → ShapesSound f → LowEntries f f
-low_before f limits opens s = record { fss = refl; low = λ e x is past. go e x is past (at f.objects x.object) refl }
+low_before f limits opens s = record { fss = refl; low = λ e x is past. go e x is past _ refl }
   where
     go : (e : ℕ) (x : Open) → at f.opens e ≡ Some x → first_pipe f.fss ≤ x.object → (y : Option Object) → at f.objects x.object ≡ y → x.label ≡ bottom
     go e x is past None none = absurd (true≢false (sym (opens.target e x is) ∙ ap (λ o. option_map_or (λ z. not (is_dir z)) o false) none))
-    go e x is past (Some y) there = kind (is_pipe y) refl
+    go e x is past (Some y) there = kind _ refl
       where
         kind : (b : Bool) → is_pipe y ≡ b → x.label ≡ bottom
         kind true pipe = s.entries e x is (ap (λ o. option_map_or is_pipe o false) there ∙ pipe)
-        kind false other = absurd (go_fs y.fs refl)
+        kind false other = absurd (go_fs _ refl)
           where
             go_fs : (k : Option ℕ) → y.fs ≡ k → ⊥
             go_fs None none = true≢false (sym (ap is_none none) ∙ limits.pipes x.object y there ∙ other)

@@ -1,10 +1,25 @@
 -- The rows that make and unmake nothing leave a sound frame.
-use Rattle.std.proofs.Common.{ℕ}
-use Rattle.ix_model.specs.{world.{Naming.PathOf, World.{Frame, Object, Process}}, rows.Walks.{OpenFile, walked_to, object_at, opened}, rows.OnProcesses.exec}
-use Rattle.ix_model.specs.{rows.OnPaths.{stat_at, list_at}, rows.OnDescriptors.{LengthChecks, float_entry, read_fd, write_fd, cut_fd, seek_fd}}
-use Rattle.ix_model.specs.{rows.OnLabels.{label_of, self_label, freeze, freeze_self, drop_lic}, declared.privs.PrivSet.PrivSet}
-use Rattle.ix_model.proofs.words.Keeps.{Keeps, keeping}
+use Rattle.std.proofs.Common.{◌≡◌, ℕ, Bool, true, false, sym, true≢false}
+use Rattle.ix_model.specs.{world.{Naming.PathOf, World.{Frame, Object, Process}}, rows.{Walks.{OpenFile, walked_to, object_at, opened}, OnDescriptors.{LengthChecks, float_entry}}}
+use Rattle.ix_model.{specs.{rows.{Table.row, Outcomes.Row}, declared.reply.Reply.Reply, history.Events.Op}, proofs.words.{OpenRows.open_row, Keeps.{Keeps, keeping}}}
 use Rattle.ix_model.proofs.frames.Frames.{Follows, follows_change_open, follows_change_object, follows_change_process, follows_observe, follows_affect}
+use Rattle.ix_model.specs.history.Events as op
+
+-- the calls whose rows test no more than the words do
+abbrev pub is_steady : Op → Bool
+is_steady (op.StatAt path) = true
+is_steady (op.ListAt path index) = true
+is_steady (op.LabelOf path) = true
+is_steady op.SelfLabel = true
+is_steady (op.ReadFd fd count) = true
+is_steady (op.WriteFd fd bytes) = true
+is_steady (op.CutFd fd len) = true
+is_steady (op.SeekFd fd offset) = true
+is_steady (op.Freeze path) = true
+is_steady op.FreezeSelf = true
+is_steady (op.DropLic set) = true
+is_steady (op.Exec path) = true
+is_steady _ = false
 
 module _ (f : Frame) where
   ruleset following = (keeping, follows_change_open, follows_change_object, follows_change_process, follows_observe, follows_affect)
@@ -24,57 +39,17 @@ module _ (f : Frame) where
 
   ruleset following_rows = (following, follows_found, follows_opened)
 
-  -- ---- looking
-  pub follows_stat_at : (pid : ℕ) (path : PathOf) → Keeps (Follows f) (stat_at pid path)
-  unfolding stat_at
-  follows_stat_at pid path = search following_rows depth 40
-
-  pub follows_list_at : (pid : ℕ) (path : PathOf) (index : ℕ) → Keeps (Follows f) (list_at pid path index)
-  unfolding list_at
-  follows_list_at pid path index = search following_rows depth 40
-
-  pub follows_label_of : (pid : ℕ) (path : PathOf) → Keeps (Follows f) (label_of pid path)
-  unfolding label_of
-  follows_label_of pid path = search following_rows depth 40
-
-  pub follows_self_label : (pid : ℕ) → Keeps (Follows f) (self_label pid)
-  unfolding self_label
-  follows_self_label pid = search following_rows depth 40
-
-  -- ---- bytes
+  -- ---- the rows
   follows_float_entry : (p : Process) (x : Object) (e : OpenFile) → Keeps (Follows f) (float_entry p x e)
   unfolding float_entry
   follows_float_entry p x e = search following depth 30
 
-  pub follows_read_fd : (t : LengthChecks) (pid fd count : ℕ) → Keeps (Follows f) (read_fd t pid fd count)
-  unfolding read_fd
-  follows_read_fd t pid fd count = search (following_rows, follows_float_entry) depth 40
+  no_other : (m : Row Reply) → false ≡ true → Keeps (Follows f) m
+  no_other m h = absurd (true≢false (sym h))
 
-  pub follows_write_fd : (t : LengthChecks) (pid fd : ℕ) → Keeps (Follows f) (write_fd t pid fd)
-  unfolding write_fd
-  follows_write_fd t pid fd = search (following_rows, follows_float_entry) depth 40
+  ruleset table = (following_rows, follows_float_entry, no_other)
 
-  pub follows_cut_fd : (t : LengthChecks) (pid fd len : ℕ) → Keeps (Follows f) (cut_fd t pid fd len)
-  unfolding cut_fd
-  follows_cut_fd t pid fd len = search following_rows depth 40
-
-  pub follows_seek_fd : (pid fd offset : ℕ) → Keeps (Follows f) (seek_fd pid fd offset)
-  unfolding seek_fd
-  follows_seek_fd pid fd offset = search (following_rows, follows_float_entry) depth 40
-
-  -- ---- frozen marks and privileges
-  pub follows_freeze : (pid : ℕ) (path : PathOf) → Keeps (Follows f) (freeze pid path)
-  unfolding freeze
-  follows_freeze pid path = search following_rows depth 40
-
-  pub follows_freeze_self : (pid : ℕ) → Keeps (Follows f) (freeze_self pid)
-  unfolding freeze_self
-  follows_freeze_self pid = search following_rows depth 40
-
-  pub follows_drop_lic : (pid : ℕ) (set : PrivSet) → Keeps (Follows f) (drop_lic pid set)
-  unfolding drop_lic
-  follows_drop_lic pid set = search following_rows depth 40
-
-  pub follows_exec : (pid : ℕ) (path : PathOf) → Keeps (Follows f) (exec pid path)
-  unfolding exec
-  follows_exec pid path = search following_rows depth 40
+  pub follows_row : (t : LengthChecks) (place pid : ℕ) (c : Op) → is_steady c ≡ true → Keeps (Follows f) (row t place pid c)
+  unfolding open_row
+  follows_row t place pid op.SelfLabel h = search table depth 40
+  follows_row t place pid c h = search table depth 40

@@ -1,18 +1,15 @@
 -- The step of every call leaves a sound frame, and lengths within their bounds.
 use Rattle.std.proofs.Common.{◌≡◌, ℕ, Bool, true, false, not, nat_le, List, length, take, Option, Some, None, refl, sym, ap, ◌∙◌, subst, if◌then◌else◌}
 use Rattle.std.proofs.lemmas.Bool.{leb-true, ltb-false, not-true}
-use Rattle.ix_model.proofs.{words.Looks.ends_float_entry, words.Ends.{Ends, Anything, ending}, words.Lasts.decided, words.Answered.passed}
-use Rattle.ix_model.proofs.{words.Fixed.{Fixed, fixed_decided}, words.Standing.{Standing, behind_is, stands}, clean.Cleaning.{wrote, CutFacts, was_cut}}
+use Rattle.ix_model.proofs.{words.{Looks.ends_float_entry, Ends.{Ends, Anything, ending}, Lasts.decided, Answered.passed}, sound.Carried.{lengths_carried, carried_floats}}
+use Rattle.ix_model.{proofs.{words.{Fixed.{Fixed, fixed_decided}, Standing.{Standing, behind_is, stands}}, clean.Cleaning.{wrote, CutFacts, was_cut}}, specs.history.Step.step}
 use Rattle.ix_model.proofs.frames.{Floats.{Floats, floats_itself}, Floated.lengths_floated, Frames.{Follows, Measured, frame_of, measured_of}}
-use Rattle.ix_model.proofs.{sound.FloatingRows.{floats_read_fd, floats_write_fd, floats_cut_fd}, sound.Following.follows_decided}
-use Rattle.ix_model.proofs.sound.Carried.{lengths_carried, carried_floats}
+use Rattle.ix_model.{proofs.sound.{FloatingRows.{floats_read_fd, floats_write_fd, floats_cut_fd}, Following.follows_decided}, specs.laws.{Clean.IsClean, Sound.{LengthsSound, Sound}}}
 use Rattle.ix_model.proofs.sound.Lengths.{lengths_read, lengths_write, lengths_cut, lengths_seek, lengths_emptied}
-use Rattle.ix_model.specs.{world.World.{Frame, Content, World, at, is_ended, is_pipe}, rows.Walks.{OpenFile, behind}, rows.Table.{verdict, row}}
+use Rattle.ix_model.specs.{world.World.{Frame, Content, World, at, is_pipe}, rows.{Walks.{OpenFile, behind}, Table.{verdict, row}}}
 use Rattle.ix_model.specs.{world.Contents.{carried, readable, after_read, after_write, after_cut, after_exit, emptied}, history.{AuditLog.is_answer, Events.Op}}
-use Rattle.ix_model.specs.{rows.OnDescriptors.{LengthChecks, seek_fd}, rows.Telling.{told, told_of_write, told_of_cut}, declared.reply.Reply.Reply}
-use Rattle.ix_model.specs.laws.{Clean.IsClean, Sound.{LengthsSound, Sound}}
+use Rattle.ix_model.specs.{rows.{OnDescriptors.{LengthChecks, seek_fd}, Telling.{told, told_of_write, told_of_cut}}, declared.reply.Reply.Reply}
 use Rattle.ix_model.specs.history.Step.{plainly, read_answer, write_answer, cut_answer, seek_answer, stat_answer, exit_answer, wait_answer, pex_answer, answer}
-use Rattle.ix_model.specs.history.Step.{step}
 use Rattle.ix_model.specs.history.Events as op
 use Rattle.ix_model.specs.declared.reply.Kind.TheVariants as kind
 use Rattle.ix_model.specs.declared.reply.Reply.TheVariants as reply
@@ -27,7 +24,7 @@ module _ (w : World) (g : Frame) (fixed : Fixed w.frame g) (k : Follows w.frame 
 
   sound_seek : (offset : ℕ) (b : Option OpenFile) (r : Reply) → (r ≡ reply.Done → nat_le offset 1048576 ≡ true) → Measured (seek_answer w offset b r g).world
   unfolding seek_answer plainly
-  sound_seek offset (Some e) reply.Done low = measured_of g _ k.sound (lengths_seek g _ lengths e offset (leb-true offset 1048576 (low refl)))
+  sound_seek offset (Some e) reply.Done low = measured_of g _ k.sound (lengths_seek g _ lengths e _ (leb-true offset 1048576 (low refl)))
   sound_seek offset _ _ low = sound_plain
 
   sound_stat : (r : Reply) → Measured (stat_answer w r g).world
@@ -41,12 +38,12 @@ module _ (w : World) (g : Frame) (fixed : Fixed w.frame g) (k : Follows w.frame 
   sound_wait _ = sound_plain
 
   exited : (b : Bool) (statuses : List ℕ) → LengthsSound (record { frame = g; content = if b then record (carried w.frame g w.content) { statuses = statuses } else carried w.frame g w.content })
-  exited true statuses = let l = lengths in record { holdings = l.holdings; offsets = l.offsets; offset = l.offset; file = l.file; pipe = l.pipe; blocks = l.blocks }
+  exited true statuses = let l = lengths in search
   exited false statuses = lengths
 
   sound_exit : (pid status : ℕ) (r : Reply) → Measured (exit_answer w pid status r g).world
   unfolding exit_answer plainly after_exit
-  sound_exit pid status reply.Done = measured_of g _ k.sound (exited (is_ended (at g.processes pid)) _)
+  sound_exit pid status reply.Done = measured_of g _ k.sound (exited _ _)
   sound_exit pid status _ = sound_plain
 
   either_emptied : (b : Bool) (o : ℕ) → LengthsSound (record { frame = g; content = if b then emptied o (carried w.frame g w.content) else carried w.frame g w.content })
@@ -55,15 +52,15 @@ module _ (w : World) (g : Frame) (fixed : Fixed w.frame g) (k : Follows w.frame 
 
   sound_pex : (b : Option OpenFile) (r : Reply) → Measured (pex_answer w b r g).world
   unfolding pex_answer plainly
-  sound_pex (Some e) r = measured_of g _ k.sound (either_emptied _ e.entry.object)
+  sound_pex (Some e) r = measured_of g _ k.sound (either_emptied _ _)
   sound_pex None r = sound_plain
 
   -- ---- where labels alone have changed in the frame
   module _ (floats : Floats w.frame g) (clean : IsClean w) where
     -- a content that the old frame can hold the new one can
     edited : (h : Content → Content) → LengthsSound (record { frame = w.frame; content = h w.content }) → Measured (record { frame = g; content = h (carried w.frame g w.content) })
-    edited h l = measured_of g _ k.sound (subst (λ (c : Content). LengthsSound (record { frame = g; content = h c })) (sym (carried_floats w g floats clean))
-        (lengths_floated w.frame g floats (h w.content) l))
+    edited h l = measured_of g _ k.sound (subst (λ c. LengthsSound (record { frame = g; content = h c })) (sym (carried_floats w g floats clean))
+        (lengths_floated _ g floats _ l))
 
     sound_read : (count : ℕ) (b : Option OpenFile) (r : Reply) → ((e : OpenFile) → b ≡ Some e → Standing w.frame e.entry) → Measured (read_answer w count b r g).world
     unfolding read_answer plainly
@@ -78,7 +75,7 @@ module _ (w : World) (g : Frame) (fixed : Fixed w.frame g) (k : Follows w.frame 
         → Measured (write_answer w new b r g).world
     unfolding write_answer plainly
     sound_write new (Some e) (reply.Number n) there fits = let t = fits n refl in
-        edited (after_write w.frame e new) (lengths_write w.frame w.content s.lengths e (there e refl) s.limits new t.0 t.1 t.2)
+        edited (after_write w.frame e new) (lengths_write _ _ s.lengths e (there e refl) s.limits _ t.0 t.1 t.2)
     sound_write new _ _ there fits = sound_plain
 
     sound_cut : (len : ℕ) (b : Option OpenFile) (r : Reply) → ((e : OpenFile) → b ≡ Some e → Standing w.frame e.entry)
@@ -87,7 +84,7 @@ module _ (w : World) (g : Frame) (fixed : Fixed w.frame g) (k : Follows w.frame 
     unfolding cut_answer plainly told_of_cut
     sound_cut len (Some e) reply.Done there fits =
         let t = fits refl e (there e refl) refl in
-        edited (after_cut e len) (lengths_cut w.frame w.content s.lengths e (there e refl) s.limits len t.0 (leb-true len 1048576 t.1) (ltb-false _ _ (not-true _ t.2)))
+        edited (after_cut e len) (lengths_cut _ _ s.lengths e (there e _) s.limits _ t.0 (leb-true len 1048576 t.1) (ltb-false _ _ (not-true _ t.2)))
     sound_cut len _ _ there fits = sound_plain
 
 -- ---- what the tests said
@@ -97,14 +94,14 @@ seek_ends pid fd offset f = search (ending, ends_float_entry) depth 40 fits 8000
 
 sought : (t : LengthChecks) (place pid fd offset : ℕ) (f : Frame) → (verdict t place pid (op.SeekFd fd offset) f).reply ≡ reply.Done → nat_le offset 1048576 ≡ true
 unfolding row
-sought t place pid fd offset f done = passed t place pid (op.SeekFd fd offset) f (λ r g. nat_le offset 1048576 ≡ true) (seek_ends pid fd offset f) (ap is_answer done)
+sought t place pid fd offset f done = passed t _ _ _ f _ (seek_ends _ fd _ f) (ap is_answer done)
 
 cut_tests : (t : LengthChecks) (pid fd len : ℕ) (f : Frame) (facts : CutFacts t pid fd len f) (e : OpenFile) (x : Standing f e.entry) → behind f pid fd ≡ Some e
     → (is_pipe x.object ≡ false) × (nat_le len 1048576 ≡ true) × (not t.no_space ≡ true)
 cut_tests t pid fd len f facts e x is =
-    let one : Some facts.entry ≡ Some e = sym facts.is_entry ∙ is in
+    let one = sym facts.is_entry ∙ is in
     let same : facts.entry ≡ e = cc in
-    let two : Some facts.object ≡ Some x.object = sym facts.is_object ∙ ap (λ b. at f.objects b.entry.object) same ∙ x.is_object in
+    let two = sym facts.is_object ∙ ap (λ b. at f.objects b.entry.object) same ∙ x.is_object in
     let object : facts.object ≡ x.object = cc in
     (ap is_pipe (sym object) ∙ not-true _ facts.no_pipe, facts.short, facts.space)
 

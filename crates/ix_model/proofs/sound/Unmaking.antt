@@ -1,23 +1,20 @@
 -- The rows that take a name away leave a sound frame.
 use Rattle.std.proofs.Common.{◌≡◌, ◌≢◌, ◌+◌, ◌==◌, ℕ, true, false, true≢false, not, List, [], find, option_map, length, Option, Some, None, if◌then◌else◌, refl}
-use Rattle.std.proofs.Common.{sym, ap, ◌∙◌, subst, arith, inl, inr}
-use Rattle.std.specs.{Option.option_map_or, List.list_any}
+use Rattle.std.{proofs.Common.{sym, ap, ◌∙◌, subst, arith, inl, inr}, specs.{Option.option_map_or, List.list_any}}
 use Rattle.std.proofs.lemmas.{Bool.{not-true, eqb-true, eq-eqb, and_from, Decides.eqb_tells}, List.{nil_from_length, get_or-set_other}}
 use Rattle.ix_label.specs.Category.{bottom}
-use Rattle.ix_model.specs.{world.Naming.{PathOf, last_name, same_bytes}, world.Directories.without_name}
-use Rattle.ix_model.specs.world.World.{Frame, Object, Process, at, put, change, living, is_dir}
-use Rattle.ix_model.specs.rows.{Walks.{Sought, child}, Rows.observe, OnPaths.{is_home, unlink_at, remove_dir}}
-use Rattle.ix_model.specs.rows.Walks as sought
+use Rattle.ix_model.specs.world.{Naming.{PathOf, last_name, same_bytes}, Directories.without_name, World.{Frame, Object, Process, at, put, change, living, is_dir}}
+use Rattle.ix_model.{specs.rows.{Walks.child, Rows.observe, OnPaths.{is_home, unlink_at, remove_dir}}, proofs.sound.{Logging.{Refused, Passed, holds_both}, Making.affect_on}}
 use Rattle.ix_model.proofs.tables.{Tables.{back, seen_changed, seen_same}, Finds.no_any, SameKinds.{Kinds, kinds_change, kinds_gone}}
 use Rattle.ix_model.proofs.words.{Living.{is_living, not_ended}, Endings.ends_put_object, Walked.{Within, Leads, Along, within_on, leads_found_in}}
-use Rattle.ix_model.proofs.{frames.Floats.{Floats, object_but, floats_itself, floats_observe}, frames.Awaiting.awaiting, frames.Named.{unnamed, times_fewer}}
-use Rattle.ix_model.proofs.{frames.Frames.{FrameSound, Follows, follows_itself, follows_observe}, frames.Gone.{IsUnneeded, gone_sound, object_released}}
-use Rattle.ix_model.proofs.sound.{Logging.{Refused, Passed, holds_both}, Making.affect_on}
+use Rattle.ix_model.proofs.frames.{Floats.{Floats, object_but, floats_itself, floats_observe}, Awaiting.awaiting, Named.{unnamed, times_fewer}}
+use Rattle.ix_model.proofs.frames.{Frames.{FrameSound, Follows, follows_itself, follows_observe}, Gone.{IsUnneeded, gone_sound, object_released}}
 use Rattle.ix_model.proofs.words.Ends.{Ends, ends_kept, ends_bind, ends_then, ends_pass, ends_frame, ends_need, ends_some, ends_object, ends_change_object}
+use Rattle.ix_model.specs.rows.Walks as sought
 
 -- what was found stands in the directory that was looked into last
 inside_of : (f : Frame) (name : List ℕ) (o d : ℕ) (dir : Option ℕ) → dir ≡ Some d → Leads f name (sought.Found o dir) → Within f d name (Some o)
-inside_of f name o d dir is leads = subst (λ (t : Option ℕ). Leads f name (sought.Found o t)) is leads
+inside_of f name o d dir is leads = subst (λ t. Leads f name (sought.Found o t)) is leads
 
 -- ---- a file's name
 module _ (f : Frame) (s : FrameSound f) where
@@ -43,19 +40,19 @@ module _ (f : Frame) (s : FrameSound f) where
 
 -- ---- a directory's name
 no_child : (x : Object) (name : List ℕ) (o : ℕ) → x.names ≡ [] → child x name ≡ Some o → ⊥
-no_child x name o none leads = let e : None ≡ Some o = sym (ap (λ ns. option_map (λ e. e.1) (find (λ e. same_bytes e.0 name) ns)) none) ∙ leads in cc
+no_child x name o none leads = let e = sym (ap (λ ns. option_map (λ e. e.1) (find (λ e. same_bytes e.0 name) ns)) none) ∙ leads in cc
 
 -- a directory that is named once less isn't named any more, and is no root
 once_less : (o n m : ℕ) → n + 1 ≡ m → m ≡ (if o == 0 then 0 else 1) → (n ≡ 0) × (o ≢ 0)
 once_less o n m less once = elim (eqb_tells o 0) [
-  | inl root ↦ let e : m ≡ 0 = once ∙ ap (λ b. if b then 0 else 1) root.0 in absurd (omega arith)
-  | inr other ↦ let e : m ≡ 1 = once ∙ ap (λ b. if b then 0 else 1) other.0 in (omega arith, other.1)
+  | inl root ↦ let e = once ∙ ap (λ b. if b then 0 else 1) root.0 in absurd (omega arith)
+  | inr other ↦ let e = once ∙ ap (λ b. if b then 0 else 1) other.0 in (omega arith, other.1)
 ]
 
 -- nobody's home
 nobody : (f : Frame) (o : ℕ) → not (list_any (is_home o) f.processes) ≡ true → (p : ℕ) (q : Process) → living (at f.processes p) ≡ Some q → q.cwd ≢ o
 nobody f o none p q lives same = no_any (is_home o) refl f.processes (not-true _ none) p (ap (is_home o) (is_living _ q lives)
-    ∙ and_from (not q.ended) (q.cwd == o) (ap not (not_ended _ q lives)) (eq-eqb q.cwd o same))
+    ∙ and_from _ _ (ap not (not_ended _ q lives)) (eq-eqb q.cwd o same))
 
 removed : (f m l h : Frame) → Along f m → Floats m l → Floats l h → Follows f h → h.processes ≡ l.processes → (d o : ℕ) (name : List ℕ) (x : Object)
     → at m.objects o ≡ Some x → is_dir x ≡ true → (length x.names == 0) ≡ true → not (list_any (is_home o) l.processes) ≡ true → Within f d name (Some o)

@@ -1,6 +1,5 @@
 -- Names that are told to be one are one.
-use Rattle.std.proofs.{Common.{◌≡◌, ℕ, true, List, [], ◌∷◌, refl, sym}, lemmas.{Bool.{and_parts, and_from}, Cmp.nat_list_eq_equiv}}
-use Rattle.std.specs.Cmp.Lexicographic.{same_text}
+use Rattle.std.{proofs.{Common.{◌≡◌, ℕ, true, List, [], ◌∷◌, refl, sym}, lemmas.{Bool.{and_parts, and_from}, Cmp.nat_list_eq_equiv}}, specs.Cmp.Lexicographic.same_text}
 use Rattle.ix_model.specs.world.Naming.{same_bytes, same_names}
 
 pub bytes_are : (a b : List ℕ) → same_bytes a b ≡ true → a ≡ b
@@ -14,7 +13,7 @@ names_are [] [] h = refl
 names_are [] (y ∷ b) h = cc
 names_are (x ∷ a) [] h = cc
 names_are (x ∷ a) (y ∷ b) h =
-    let p = and_parts (same_bytes x y) (same_names a b) h in
+    let p = and_parts _ _ h in
     λ i. bytes_are x y p.0 i ∷ names_are a b p.1 i
 
 pub names_itself : (a : List (List ℕ)) → same_names a a ≡ true

@@ -1,8 +1,7 @@
 -- What a put leaves at each number, where a test over a table passes, and sums over tables.
 use Rattle.std.proofs.Common.{◌≡◌, ◌≢◌, ◌<◌, ◌≤◌, ◌+◌, ℕ, zero, suc, Bool, true, false, true≢false, List, [], ◌∷◌, ◌++◌, map, length, sum, Option, Some, None}
-use Rattle.std.proofs.Common.{option_map, refl, sym, ap, ◌∙◌, arith, ◌⊎◌, inl, inr}
-use Rattle.std.{specs.List.list_any, proofs.lemmas.Bool.{or_cases, or_left, or_right, cases_lt}, proofs.lemmas.Bool.Decides.eqb_tells}
-use Rattle.std.{proofs.lemmas.List.{get_or-set_other, get_or_past}, proofs.lemmas.List.Sums.{sum-map, sum_by-set, sum_by-cons, get_or-le-sum_by}}
+use Rattle.std.{proofs.{Common.{option_map, refl, sym, ap, ◌∙◌, arith, ◌⊎◌, inl, inr}, lemmas.Bool.{or_cases, or_left, or_right, cases_lt, Decides.eqb_tells}}, specs.List.list_any}
+use Rattle.std.proofs.lemmas.List.{get_or-set_other, get_or_past, Sums.{sum-map, sum_by-set, sum_by-cons, get_or-le-sum_by}}
 use Rattle.ix_model.specs.world.World.{at, put, change}
 
 -- ---- one put
@@ -30,9 +29,9 @@ at_push (z ∷ t) x (suc m) y h = elim (at_push t x m y h) [
 
 -- what stands inside the table
 pub in_table : {A : Type 0} (t : List (Option A)) (n : ℕ) (x : A) → at t n ≡ Some x → n < length t
-in_table t n x h = elim (cases_lt n (length t)) [
+in_table t n x h = elim (cases_lt n _) [
   | inl low ↦ low
-  | inr high ↦ let past : at t n ≡ None = get_or_past t n None high in let e : None ≡ Some x = sym past ∙ h in cc
+  | inr high ↦ let past = get_or_past t n None high in let e = sym past ∙ h in cc
 ]
 
 -- what stands after a change was changed, or stood before
@@ -47,8 +46,8 @@ change_here t n h m y None here is k = cc
 change_here t n h m y (Some x) here is k = record { here = here; was = x; is_was = is; same = cc }
 
 pub at_change : {A : Type 0} (t : List (Option A)) (n : ℕ) (h : A → A) (m : ℕ) (y : A) → at (change t n h) m ≡ Some y → Changed t n h m y ⊎ ((m ≢ n) × (at t m ≡ Some y))
-at_change t n h m y k = elim (at_put t n m (option_map h (at t n)) y k) [
-  | inl here ↦ inl (change_here t n h m y (at t n) here.0 refl here.1)
+at_change t n h m y k = elim (at_put t n m _ y k) [
+  | inl here ↦ inl (change_here t n h m y _ here.0 refl here.1)
   | inr other ↦ inr other
 ]
 
@@ -62,14 +61,14 @@ put_none (z ∷ t) (suc n) = put_none t n
 module _ {A : Type 0} (p : Option A → Bool) (none : p None ≡ false) where
   pub any_at : (t : List (Option A)) → list_any p t ≡ true → (n : ℕ) × (p (at t n) ≡ true)
   any_at [] h = absurd (true≢false (sym h))
-  any_at (x ∷ t) h = elim (or_cases (p x) (list_any p t) h) [
+  any_at (x ∷ t) h = elim (or_cases _ _ h) [
     | inl here ↦ (0, here)
     | inr later ↦ let r = any_at t later in (suc r.0, r.1)
   ]
 
   pub any_by : (t : List (Option A)) (n : ℕ) → p (at t n) ≡ true → list_any p t ≡ true
   any_by [] n h = absurd (true≢false (sym h ∙ none))
-  any_by (x ∷ t) zero h = or_left (p x) (list_any p t) h
+  any_by (x ∷ t) zero h = or_left _ _ h
   any_by (x ∷ t) (suc n) h = or_right (p x) (list_any p t) (any_by t n h)
 
   pub no_any : (t : List (Option A)) → list_any p t ≡ false → (n : ℕ) → p (at t n) ≡ true → ⊥
@@ -78,7 +77,7 @@ module _ {A : Type 0} (p : Option A → Bool) (none : p None ≡ false) where
 -- a test that passes in one table, and so in another
 pub any_into : {A : Type 0} (p q : Option A → Bool) → p None ≡ false → q None ≡ false → (t u : List (Option A))
     → ((n : ℕ) → p (at t n) ≡ true → q (at u n) ≡ true) → list_any p t ≡ true → list_any q u ≡ true
-any_into p q none_p none_q t u into h = let r = any_at p none_p t h in any_by q none_q u r.0 (into r.0 r.1)
+any_into p q none_p none_q t u into h = let r = any_at p none_p t h in any_by q none_q u r.0 (into _ r.1)
 
 -- what passes stands
 pub passes_some : {A : Type 0} (p : Option A → Bool) → p None ≡ false → (o : Option A) → p o ≡ true → (x : A) × (o ≡ Some x)
@@ -94,15 +93,15 @@ module _ {A : Type 0} (F : Option A → ℕ) where
       omega (arith, one, two, sum_by-set F t n y None low)
 
   pub sum_at : F None ≡ 0 → (t : List (Option A)) (n : ℕ) → F (at t n) ≤ sum (map F t)
-  sum_at none t n = elim (cases_lt n (length t)) [
+  sum_at none t n = elim (cases_lt n _) [
     | inl low ↦ let one = sum-map F t in omega (arith, one, get_or-le-sum_by F t n None low)
-    | inr high ↦ let e : F (at t n) ≡ 0 = ap F (get_or_past t n None high) ∙ none in omega (arith, e)
+    | inr high ↦ let e = ap F (get_or_past t n None high) ∙ none in omega (arith, e)
   ]
 
 -- a sum of nothings
 pub sum_zero : {A : Type 0} (F : Option A → ℕ) (t : List (Option A)) → ((n : ℕ) → F (at t n) ≡ 0) → sum (map F t) ≡ 0
 sum_zero F [] none = refl
 sum_zero F (x ∷ t) none =
-    let first : F x ≡ 0 = none 0 in
-    let rest : sum (map F t) ≡ 0 = sum_zero F t (λ n. none (suc n)) in
+    let first = none 0 in
+    let rest = sum_zero F t (λ n. none (suc n)) in
     omega (arith, sum_by-cons (λ (n : ℕ). n) (F x) (map F t), first, rest)

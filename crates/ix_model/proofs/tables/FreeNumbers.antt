@@ -1,8 +1,7 @@
 -- Free inodes and pipes: nothing stands there, and they are of the table.
 use Rattle.std.proofs.Common.{◌≡◌, ◌<◌, ◌≤◌, ◌+◌, ℕ, List, take, drop, length, Option, Some, None, is_none, option_map, refl, sym, ap, ◌∙◌, arith}
 use Rattle.std.proofs.lemmas.List.{length-take, length-drop, get_or-take, get_or-drop, Quantifiers.position-Some}
-use Rattle.ix_model.specs.world.{World.{fs_at, Frame, Object, at, lowest_free}, Numbers.{first_inode, free_inode, first_pipe, free_pipe}}
-use Rattle.ix_model.proofs.tables.Tables.{none_is}
+use Rattle.ix_model.{specs.world.{World.{fs_at, Frame, Object, at, lowest_free}, Numbers.{first_inode, free_inode, first_pipe, free_pipe}}, proofs.tables.Tables.none_is}
 
 -- the lowest free number of a table is one of its numbers
 pub lowest_free_is : {A : Type 0} (t : List (Option A)) (n : ℕ) → lowest_free t ≡ Some n → (n < length t) × (at t n ≡ None)
@@ -24,7 +23,7 @@ free_inode_is f k o h = go (lowest_free part) refl h
     go : (p : Option ℕ) → lowest_free (take (fs_at f.fss k).inodes (drop (first_inode f.fss k) f.objects)) ≡ p → option_map (λ n. first_inode f.fss k + n) p ≡ Some o → IsFreeInode f k o
     go None is h = cc
     go (Some n) is h =
-        let q = lowest_free_is (take (fs_at f.fss k).inodes (drop (first_inode f.fss k) f.objects)) n is in
+        let q = lowest_free_is _ n is in
         let e : first_inode f.fss k + n ≡ o = cc in
         let few = length-take (fs_at f.fss k).inodes (drop (first_inode f.fss k) f.objects) in
         let rest = length-drop (first_inode f.fss k) f.objects in
@@ -45,12 +44,12 @@ pub record IsFreePipe (f : Frame) (o : ℕ) : Type 0 where
 
 pub free_pipe_is : (f : Frame) (o : ℕ) → free_pipe f ≡ Some o → IsFreePipe f o
 unfolding free_pipe
-free_pipe_is f o h = go (lowest_free (drop (first_pipe f.fss) f.objects)) refl h
+free_pipe_is f o h = go _ refl h
   where
     go : (p : Option ℕ) → lowest_free (drop (first_pipe f.fss) f.objects) ≡ p → option_map (λ n. first_pipe f.fss + n) p ≡ Some o → IsFreePipe f o
     go None is h = cc
     go (Some n) is h =
-        let q = lowest_free_is (drop (first_pipe f.fss) f.objects) n is in
+        let q = lowest_free_is _ n is in
         let e : first_pipe f.fss + n ≡ o = cc in
         let rest = length-drop (first_pipe f.fss) f.objects in
         let low = q.0 in

@@ -1,14 +1,12 @@
 -- The numbers of a file system's inodes, how many of them are taken, and the lowest that is free.
-use Rattle.std.proofs.Common.{◌≡◌, ◌≢◌, ◌<◌, ◌≤◌, ◌+◌, ℕ, zero, suc, Bool, true, false, List, [], ◌∷◌, length, map, take, drop, Option, Some, None, is_some, ap}
-use Rattle.std.proofs.Common.{is_none, cond, refl, ◌∙◌, subst, arith, inl, inr}
-use Rattle.std.specs.List.{position_from}
-use Rattle.std.proofs.Math.Seq.{drop-cons}
+use Rattle.std.{proofs.Common.{◌≡◌, ◌≢◌, ◌<◌, ◌≤◌, ◌+◌, ℕ, zero, suc, Bool, true, false, List, [], ◌∷◌, length, map, take, drop, Option, Some, None, is_some, ap}, specs.List.position_from}
+use Rattle.std.proofs.{Common.{is_none, cond, refl, ◌∙◌, subst, arith, inl, inr}, Math.Seq.drop-cons}
 use Rattle.std.proofs.lemmas.{Bool.{cases_lt, cases_order, Decides.eqb_tells}, List.Sums.sum_by-cons, Iterator.Adapters.position_from-zero}
 use Rattle.ix_model.specs.{world.{World.{fs_at, at, lowest_free}, Numbers.first_inode}, declared.config.FsSpec.FsSpec}
 
 -- ---- where they lie
 pub first-cons : (s : FsSpec) (fss : List FsSpec) (k : ℕ) → first_inode (s ∷ fss) (suc k) ≡ s.inodes + first_inode fss k
-first-cons s fss k = sum_by-cons (λ (n : ℕ). n) s.inodes (map (λ (t : FsSpec). t.inodes) (take k fss))
+first-cons s fss k = sum_by-cons (λ n. n) s.inodes (map (λ t. t.inodes) (take k _))
 
 pub first_next : (fss : List FsSpec) (k : ℕ) → first_inode fss (suc k) ≡ first_inode fss k + (fs_at fss k).inodes
 first_next [] zero = refl
@@ -23,7 +21,7 @@ first_after fss j (suc k) h = elim (cases_lt j k) [
   | inl low ↦ omega (arith, first_after fss j k low, first_next fss k)
   | inr high ↦
       let same : k ≡ j = omega arith in
-      subst (λ (i : ℕ). first_inode fss i + (fs_at fss i).inodes ≤ first_inode fss (suc k)) same (omega (arith, first_next fss k))
+      subst (λ i. first_inode fss i + (fs_at fss i).inodes ≤ first_inode fss (suc k)) same (omega (arith, first_next fss k))
 ]
 
 -- a number is of one file system at most
@@ -55,7 +53,7 @@ at_most_one false = omega arith
 pub filled_same : {A : Type 0} (t u : List (Option A)) (b n : ℕ) → ((m : ℕ) → b ≤ m → m < b + n → is_some (at u m) ≡ is_some (at t m)) → filled u b n ≡ filled t b n
 unfolding filled
 filled_same t u b zero same = refl
-filled_same t u b (suc n) same = λ i. cond {A = ℕ} (same b (omega arith) (omega arith) i) 1 0 + filled_same t u (suc b) n (λ m from to. same m (omega arith) (omega arith)) i
+filled_same t u b (suc n) same = λ i. cond (same b (omega arith) (omega arith) i) 1 0 + filled_same t u (suc b) n (λ m from to. same m (omega arith) (omega arith)) i
 
 -- where they differ at one number
 pub filled_more : {A : Type 0} (t u : List (Option A)) (o b n : ℕ) → ((m : ℕ) → m ≢ o → is_some (at u m) ≡ is_some (at t m)) → filled u b n ≤ suc (filled t b n)
@@ -74,7 +72,7 @@ filled_none : {A : Type 0} (t : List (Option A)) (b n : ℕ) → ((m : ℕ) → 
 unfolding filled
 filled_none t b zero none = refl
 filled_none t b (suc n) none =
-    let first : cond {A = ℕ} (is_some (at t b)) 1 0 ≡ 0 = ap (λ x. cond {A = ℕ} x 1 0) (none b (omega arith) (omega arith)) in
+    let first = ap (λ x. cond {A = ℕ} x 1 0) (none b (omega arith) (omega arith)) in
     omega (arith, filled_none t (suc b) n (λ m from to. none m (omega arith) (omega arith)))
 
 -- where only the first may be taken
@@ -93,7 +91,7 @@ pub record Free {A : Type 0} (t : List (Option A)) (b n i : ℕ) : Type 0 where
 free_from : {A : Type 0} (t : List (Option A)) (b n i : ℕ) → b + n ≤ length t → filled t b n < n → Free t b n i
 unfolding filled
 free_from {A = A} t b zero i long few = absurd (omega arith)
-free_from {A = A} t b (suc n) i long few = go (at t b) refl (λ fewer. free_from t (suc b) n (i + 1) (omega arith) fewer)
+free_from {A = A} t b (suc n) i long few = go (at t b) refl (λ fewer. free_from t (suc b) n _ (omega arith) fewer)
   where
     cut : take (suc n) (drop b t) ≡ at t b ∷ take n (drop (suc b) t)
     cut = ap (take (suc n)) (drop-cons t b None (omega arith))
@@ -125,4 +123,4 @@ pub record LowestFree {A : Type 0} (t : List (Option A)) (b n : ℕ) : Type 0 wh
 pub free_is : {A : Type 0} (t : List (Option A)) (b n : ℕ) → b + n ≤ length t → filled t b n < n → LowestFree t b n
 free_is t b n long few =
     let r = free_from t b n 0 long few in
-    record { step = r.step; low = r.low; found = position_from-zero is_none (take n (drop b t)) ∙ r.found ∙ ap Some (omega arith); none = r.none }
+    record { step = r.step; low = r.low; found = position_from-zero is_none _ ∙ r.found ∙ ap Some (omega arith); none = r.none }

@@ -1,7 +1,6 @@
 -- Of an object that stands in two tables: its file system, and whether it is a pipe or a directory.
 use Rattle.std.proofs.Common.{◌≡◌, ℕ, List, Option, Some, None, refl, sym, ap, ◌∙◌, subst, inl, inr}
-use Rattle.ix_model.specs.world.World.{Object, at, put, change, is_dir, is_pipe}
-use Rattle.ix_model.proofs.{tables.{Tables.{SameBut, back}, Finds.{at_put, at_change}}, frames.Floats.object_but}
+use Rattle.ix_model.{specs.world.World.{Object, at, put, change, is_dir, is_pipe}, proofs.{tables.{Tables.{SameBut, back}, Finds.{at_put, at_change}}, frames.Floats.object_but}}
 
 -- an object is a pipe, a directory or neither as another is, and on the same file system
 pub record SameKind (x y : Object) : Type 0 where
@@ -18,30 +17,30 @@ pub record Kinds (t u : List (Option Object)) : Type 0 where
 
 pub kinds_itself : (t : List (Option Object)) → Kinds t t
 kinds_itself t = record {
-  same = λ o x y is here. let e : Some x ≡ Some y = sym is ∙ here in let one : x ≡ y = cc in
-      subst (λ (z : Object). SameKind x z) one (record { pipe = refl; dir = refl; fs = refl });
+  same = λ o x y is here. let e = sym is ∙ here in let one : x ≡ y = cc in
+      subst (λ z. SameKind x z) one (search);
 }
 
 module _ (t u : List (Option Object)) (r : Kinds t u) where
   pub kinds_floats : (v : List (Option Object)) → SameBut object_but u v → Kinds t v
   kinds_floats v s = record {
     same = λ o x y is here.
-        let b = back object_but (λ z. refl) u v s o y here in
-        same_kind_again x b.was y (r.same o x b.was is b.is_was) (record { pipe = ap is_pipe b.same; dir = ap is_dir b.same; fs = ap (λ z. z.fs) b.same });
+        let b = back _ (λ z. refl) u v s o y here in
+        same_kind_again x _ y (r.same o x b.was is b.is_was) (record { pipe = ap is_pipe b.same; dir = ap is_dir b.same; fs = ap (λ z. z.fs) b.same });
   }
 
   pub kinds_change : (o : ℕ) (h : Object → Object) → ((x : Object) → SameKind x (h x)) → Kinds t (change u o h)
   kinds_change o h same = record {
     same = λ n x y is here. elim (at_change u o h n y here) [
-      | inl c ↦ subst (λ (z : Object). SameKind x z) (sym c.same) (same_kind_again x c.was (h c.was) (r.same n x c.was is (ap (at u) c.here ∙ c.is_was)) (same c.was))
+      | inl c ↦ subst (λ z. SameKind x z) (sym c.same) (same_kind_again x _ _ (r.same n x c.was is (ap (at u) c.here ∙ c.is_was)) (same _))
       | inr other ↦ r.same n x y is other.1
     ];
   }
 
   pub kinds_gone : (o : ℕ) → Kinds t (put u o None)
   kinds_gone o = record {
-    same = λ n x y is here. elim (at_put u o n None y here) [
-      | inl new ↦ let e : None ≡ Some y = new.1 in cc
+    same = λ n x y is here. elim (at_put u o n _ y here) [
+      | inl new ↦ let e = new.1 in cc
       | inr other ↦ r.same n x y is other.1
     ];
   }
@@ -50,7 +49,7 @@ module _ (t u : List (Option Object)) (r : Kinds t u) where
   pub kinds_new : (o : ℕ) (x : Option Object) → at t o ≡ None → Kinds t (put u o x)
   kinds_new o x free = record {
     same = λ n y z is here. elim (at_put u o n x z here) [
-      | inl new ↦ let e : None ≡ Some y = sym free ∙ ap (at t) (sym new.0) ∙ is in cc
+      | inl new ↦ let e = sym free ∙ ap (at t) (sym new.0) ∙ is in cc
       | inr other ↦ r.same n y z is other.1
     ];
   }

@@ -19,4 +19,4 @@ named bytes rest h = rw take-append_seam h
 pub is_name-plain : (bytes : List ℕ) → 0 < length bytes → length bytes ≤ 28 → same_bytes bytes (46 ∷ []) ≡ false → same_bytes bytes (46 ∷ 46 ∷ []) ≡ false
     → is_name bytes ≡ list_all may_stand_in_name bytes
 unfolding is_name
-is_name-plain bytes some fits one two = rw (one, two, lt-ltb 0 (length bytes) some, le-leb (length bytes) 28 fits) refl
+is_name-plain bytes some fits one two = rw (one, two, lt-ltb, le-leb) refl

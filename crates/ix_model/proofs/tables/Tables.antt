@@ -1,6 +1,5 @@
 -- Tables: what is at a number after a change, and tables that are one but for some parts of what stands in them.
-use Rattle.std.proofs.Common.{◌≡◌, ℕ, zero, suc, Bool, true, false, List, [], ◌∷◌, map, length, Option, Some, None, is_none, option_map, refl, sym, ap, ◌∙◌}
-use Rattle.std.proofs.Common.{◌||◌}
+use Rattle.std.proofs.Common.{◌≡◌, ℕ, zero, suc, Bool, true, false, List, [], ◌∷◌, map, length, Option, Some, None, is_none, option_map, refl, sym, ap, ◌∙◌, ◌||◌}
 use Rattle.std.{specs.List.list_any, proofs.{Math.ListN.get_or-map, lemmas.List.length-map}}
 use Rattle.ix_model.specs.world.World.{at, put, change}
 
@@ -56,16 +55,16 @@ change_twice (x ∷ t) (suc n) h k = ap (λ u. x ∷ u) (change_twice t n h k)
 -- ---- tests over a table
 pub any_put : {A : Type 0} (p : Option A → Bool) (t : List (Option A)) (n : ℕ) (x : Option A) → (p (at t n) ≡ true → p x ≡ true) → list_any p t ≡ true → list_any p (put t n x) ≡ true
 any_put p [] n x more h = h
-any_put p (y ∷ t) zero x more h = go (p y) more h
+any_put p (y ∷ t) zero x more h = go _ more h
   where
     go : (b : Bool) → (b ≡ true → p x ≡ true) → (b || list_any p t) ≡ true → (p x || list_any p t) ≡ true
-    go true m h = let e : p x ≡ true = m refl in rw e refl
-    go false m h = either (p x)
+    go true m h = let e = m refl in rw e refl
+    go false m h = either _
       where
         either : (b : Bool) → (b || list_any p t) ≡ true
         either true = refl
         either false = h
-any_put p (y ∷ t) (suc n) x more h = go (p y) (λ k. any_put p t n x more k) h
+any_put p (y ∷ t) (suc n) x more h = go _ (λ k. any_put p t n x more k) h
   where
     go : (b : Bool) → (list_any p t ≡ true → list_any p (put t n x) ≡ true) → (b || list_any p t) ≡ true → (b || list_any p (put t n x)) ≡ true
     go true next h = refl
@@ -73,11 +72,11 @@ any_put p (y ∷ t) (suc n) x more h = go (p y) (λ k. any_put p t n x more k) h
 
 pub any_more : {A : Type 0} (p q : A → Bool) (xs : List A) → ((x : A) → p x ≡ true → q x ≡ true) → list_any p xs ≡ true → list_any q xs ≡ true
 any_more p q [] more h = h
-any_more p q (x ∷ xs) more h = go (p x) (more x) (any_more p q xs more) h
+any_more p q (x ∷ xs) more h = go _ (more x) (any_more p q xs more) h
   where
     go : (b : Bool) → (b ≡ true → q x ≡ true) → (list_any p xs ≡ true → list_any q xs ≡ true) → (b || list_any p xs) ≡ true → (q x || list_any q xs) ≡ true
-    go true m next h = let e : q x ≡ true = m refl in rw e refl
-    go false m next h = either (q x)
+    go true m next h = let e = m refl in rw e refl
+    go false m next h = either _
       where
         either : (b : Bool) → (b || list_any q xs) ≡ true
         either true = refl
@@ -88,13 +87,13 @@ pub record SameBut {A : Type 0} (b : A → A) (t u : List (Option A)) : Type 0 w
   pub same : map (option_map b) u ≡ map (option_map b) t
 
 pub same_itself : {A : Type 0} (b : A → A) (t : List (Option A)) → SameBut b t t
-same_itself b t = record { same = refl }
+same_itself b t = search
 
 pub same_changed : {A : Type 0} (b : A → A) (t u : List (Option A)) (n : ℕ) (h : A → A) → ((x : A) → b (h x) ≡ b x) → SameBut b t u → SameBut b t (change u n h)
-same_changed b t u n h keeps r = record { same = map_changed (option_map b) h (λ x. ap Some (keeps x)) u n ∙ r.same }
+same_changed b t u n h keeps r = record { same = map_changed _ h (λ x. ap Some (keeps x)) u n ∙ r.same }
 
 pub length_same : {A : Type 0} (b : A → A) (t u : List (Option A)) → SameBut b t u → length u ≡ length t
-length_same b t u r = sym (length-map u (option_map b)) ∙ ap length r.same ∙ length-map t (option_map b)
+length_same b t u r = sym (length-map u _) ∙ ap length r.same ∙ length-map t _
 
 -- a test, or a count, that doesn't look at what b takes away
 module _ {A B : Type 0} (b : A → A) (F : Option A → B) (blind : (x : A) → F (Some (b x)) ≡ F (Some x)) where
@@ -108,9 +107,9 @@ module _ {A B : Type 0} (b : A → A) (F : Option A → B) (blind : (x : A) → 
 
   pub seen_same : (t u : List (Option A)) → SameBut b t u → (n : ℕ) → F (at u n) ≡ F (at t n)
   seen_same t u r n =
-      sym (ap F (get_or-map (option_map b) u n None) ∙ blind_at (at u n))
+      sym (ap F (get_or-map (option_map b) u n None) ∙ blind_at _)
       ∙ ap (λ v. F (at v n)) r.same
-      ∙ ap F (get_or-map (option_map b) t n None) ∙ blind_at (at t n)
+      ∙ ap F (get_or-map (option_map b) t n None) ∙ blind_at _
 
   pub map_same : (t u : List (Option A)) → SameBut b t u → map F u ≡ map F t
   map_same t u r = sym (blind_map u) ∙ ap (map F) r.same ∙ blind_map t
@@ -126,7 +125,7 @@ back_at b t u n x None is e = cc
 back_at b t u n x (Some y) is e = record { was = y; is_was = is; same = cc }
 
 pub back : {A : Type 0} (b : A → A) → ((x : A) → b (b x) ≡ b x) → (t u : List (Option A)) → SameBut b t u → (n : ℕ) (x : A) → at u n ≡ Some x → Back b t n x
-back b twice t u r n x is = back_at b t u n x (at t n) refl (sym (ap (option_map b) is) ∙ seen_same b (option_map b) (λ y. ap Some (twice y)) t u r n)
+back b twice t u r n x is = back_at b t u n x _ refl (sym (ap (option_map b) is) ∙ seen_same b (option_map b) (λ y. ap Some (twice y)) t u r n)
 
 any_map : {A : Type 0} (p : Option A → Bool) (t : List (Option A)) → list_any (λ b. b) (map p t) ≡ list_any p t
 any_map p [] = refl

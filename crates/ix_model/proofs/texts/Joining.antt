@@ -1,11 +1,8 @@
 -- Texts of names, joined and compared.
 use Rattle.std.proofs.Common.{◌≡◌, ℕ, suc, ◌+◌, ◌*◌, ◌-◌, ◌≤◌, ◌<◌, ◌==◌, Bool, true, false, not, ◌&&◌, nat_eq, nat_lt, nat_le, List, [], ◌∷◌, ◌++◌, length, ap}
-use Rattle.std.proofs.Common.{take, map, inl, inr, refl, sym, ◌∙◌, arith, length-append, Bor, Option, Some, None}
-use Rattle.std.specs.{Option.option_map_or, List.{list_all, slice_get, sum, sum_by}}
-use Rattle.std.proofs.{lemmas.Bool.{cases_Bool, le-leb, leb-true}, lemmas.Bool.Decides.nat_tests, lemmas.List.{take-append-le, take_all}}
-use Rattle.std.proofs.{lemmas.List.Folds.list_all-append, lemmas.List.Sums.{sum-map, sum_by-append}}
-use Rattle.ix_model.specs.world.Naming.{is_name, may_stand_in_name, same_bytes, same_names}
-use Rattle.ix_model.specs.world.Texts.{with_front, between_slashes, names_in, is_path_text, with_name}
+use Rattle.std.{proofs.Common.{take, map, inl, inr, refl, sym, ◌∙◌, arith, length-append, Bor, Option, Some, None}, specs.{Option.option_map_or, List.{list_all, slice_get, sum, sum_by}}}
+use Rattle.std.proofs.lemmas.{Bool.{cases_Bool, le-leb, leb-true, Decides.nat_tests}, List.{take-append-le, take_all, Folds.list_all-append, Sums.{sum-map, sum_by-append}}}
+use Rattle.ix_model.specs.world.{Naming.{is_name, may_stand_in_name, same_bytes, same_names}, Texts.{with_front, between_slashes, names_in, is_path_text, with_name}}
 
 -- ---- tests
 pub both : (a b : Bool) → (a && b) ≡ true → (a ≡ true) × (b ≡ true)
@@ -40,7 +37,7 @@ slash_append (x ∷ a) b = elim (cases_Bool (x == 47)) [
   | inl e ↦ rw e (ap (λ ps. [] ∷ ps) (slash_append a b))
   | inr e ↦
       let k = some_piece a in
-      rw e (ap (with_front x) (slash_append a b) ∙ front_append x (between_slashes a) (between_slashes b) k.0 k.1 k.2)
+      rw e (ap (with_front x) (slash_append a b) ∙ front_append x _ _ _ _ k.2)
 ]
 
 -- ---- a name has no slash
@@ -67,12 +64,12 @@ named name h =
     let few = nat_le (length name) 28 in
     let dot = not (same_bytes name (46 ∷ [])) in
     let dots = not (same_bytes name (46 ∷ 46 ∷ [])) in
-    let one = both (some && few && dot && dots) (list_all may_stand_in_name name) h in
-    let two = both (some && few && dot) dots one.0 in
-    let three = both (some && few) dot two.0 in
+    let one = both _ _ h in
+    let two = both _ dots one.0 in
+    let three = both _ dot two.0 in
     let four = both some few three.0 in
-    let many : nat_lt 0 (length name) ≡ true = four.0 in
-    let most : nat_le (length name) 28 ≡ true = four.1 in
+    let many = four.0 in
+    let most = four.1 in
     record { some = grind (arith, nat_tests); few = grind (arith, nat_tests); plain = one.1 }
 
 pub no_name : is_name [] ≡ true → ⊥
@@ -128,16 +125,16 @@ same_split (x ∷ a) (y ∷ b) = let k = some_piece a in let m = some_piece b in
 
 pub same_text : (a b : List ℕ) → same_names (names_in a) (names_in b) ≡ same_bytes a b
 same_text [] [] = refl
-same_text [] (y ∷ b) = let m = some_piece (y ∷ b) in none_some (between_slashes (y ∷ b)) m.0 m.1 m.2
-same_text (x ∷ a) [] = let m = some_piece (x ∷ a) in some_none (between_slashes (x ∷ a)) m.0 m.1 m.2
-same_text (x ∷ a) (y ∷ b) = same_split (x ∷ a) (y ∷ b)
+same_text [] (y ∷ b) = let m = some_piece _ in none_some _ _ _ m.2
+same_text (x ∷ a) [] = let m = some_piece _ in some_none _ _ _ m.2
+same_text (x ∷ a) (y ∷ b) = same_split _ _
 
 -- ---- what names cost
 abbrev cost : List (List ℕ) → ℕ
 cost names = sum_by (λ name. length name + 1) names
 
 cost_cons : (p : List ℕ) (ps : List (List ℕ)) → cost (p ∷ ps) ≡ suc (length p) + cost ps
-cost_cons p ps = let k = sum_by-append (λ (name : List ℕ). length name + 1) (p ∷ []) ps in omega arith
+cost_cons p ps = let k = sum_by-append (λ name. length name + 1) (p ∷ []) ps in omega arith
 
 cost_front : (b : ℕ) (ps : List (List ℕ)) (p : List ℕ) (ps' : List (List ℕ)) → ps ≡ p ∷ ps' → cost (with_front b ps) ≡ suc (cost ps)
 cost_front b ps p ps' h = let k = cost_cons p ps' in let l = cost_cons (b ∷ p) ps' in rw h (omega arith)
@@ -153,8 +150,8 @@ cost_split (b ∷ text) = elim (cases_Bool (b == 47)) [
 costs_few : (ps : List (List ℕ)) → list_all is_name ps ≡ true → cost ps ≤ 29 * length ps
 costs_few [] h = omega arith
 costs_few (p ∷ ps) h =
-    let parts = both (is_name p) (list_all is_name ps) h in
-    let one : length p ≤ 28 = (named p parts.0).few in
+    let parts = both _ _ h in
+    let one = (named p parts.0).few in
     let more = costs_few ps parts.1 in
     let whole = cost_cons p ps in
     omega arith
@@ -169,23 +166,23 @@ pub of_path : (text : List ℕ) → is_path_text text ≡ true → OfPath text
 unfolding is_path_text
 of_path text h =
     let parts = both _ _ h in
-    record { all = parts.0; few = leb-true (length (names_in text)) 16 parts.1 }
+    record { all = parts.0; few = leb-true _ 16 parts.1 }
 
 pub is_path : (text : List ℕ) → list_all is_name (names_in text) ≡ true → length (names_in text) ≤ 16 → is_path_text text ≡ true
 unfolding is_path_text
-is_path text all few = join_tests _ _ all (le-leb (length (names_in text)) 16 few)
+is_path text all few = join_tests _ _ all (le-leb _ 16 few)
 
 text_costs : (text : List ℕ) → 0 < length text → cost (names_in text) ≡ length text + 1
 text_costs [] h = absurd (omega arith)
 text_costs (b ∷ text) h = let k = cost_split (b ∷ text) in omega arith
 
 pub text_cost : (text : List ℕ) → 0 < length text → sum (map (λ name. length name + 1) (names_in text)) ≡ length text + 1
-text_cost text h = sum-map (λ (name : List ℕ). length name + 1) (names_in text) ∙ text_costs text h
+text_cost text h = sum-map (λ name. length name + 1) (names_in text) ∙ text_costs _ h
 
 pub text_fits : (text : List ℕ) → is_path_text text ≡ true → length text ≤ 463
 text_fits [] h = omega arith
 text_fits (b ∷ text) h =
-    let p = of_path (b ∷ text) h in
+    let p = of_path _ h in
     let few = p.few in
     let one = text_costs (b ∷ text) (omega arith) in
     let two = costs_few (names_in (b ∷ text)) p.all in
@@ -194,12 +191,12 @@ text_fits (b ∷ text) h =
 -- one name more
 pub names_with : (text name : List ℕ) → is_name name ≡ true → names_in (with_name text name) ≡ names_in text ++ name ∷ []
 names_with [] [] h = absurd (no_name h)
-names_with [] (c ∷ name) h = plain_piece (c ∷ name) (named (c ∷ name) h).plain
-names_with (b ∷ text) name h = slash_append (b ∷ text) name ∙ ap (λ ps. between_slashes (b ∷ text) ++ ps) (plain_piece name (named name h).plain)
+names_with [] (c ∷ name) h = plain_piece _ (named _ h).plain
+names_with (b ∷ text) name h = slash_append _ _ ∙ ap (λ ps. between_slashes (b ∷ text) ++ ps) (plain_piece _ (named _ h).plain)
 
 pub path_with : (text name : List ℕ) → is_path_text text ≡ true → is_name name ≡ true → length (names_in text) < 16 → is_path_text (with_name text name) ≡ true
 path_with text name h k few =
-    let names = names_with text name k in
+    let names = names_with _ _ k in
     let all : list_all is_name (names_in text ++ name ∷ []) ≡ true = list_all-append is_name (names_in text) (name ∷ []) ∙ join_tests _ _ (of_path text h).all (join_tests _ _ k refl) in
     let long = length-append (names_in text) (name ∷ []) in
     is_path (with_name text name) (ap (list_all is_name) names ∙ all) (let l = ap length names in omega arith)
@@ -212,9 +209,9 @@ pub record Cut (text name more : List ℕ) : Type 0 where
 
 cut_named : (text name : List ℕ) (ps : List (List ℕ)) → is_path_text text ≡ true → names_in text ≡ name ∷ ps → (is_name name ≡ true) × (list_all is_name ps ≡ true) × (length ps ≤ 15)
 cut_named text name ps h k =
-    let p = of_path text h in
-    let all : list_all is_name (name ∷ ps) ≡ true = ap (list_all is_name) (sym k) ∙ p.all in
-    let parts = both (is_name name) (list_all is_name ps) all in
+    let p = of_path _ h in
+    let all = ap (list_all is_name) (sym k) ∙ p.all in
+    let parts = both _ _ all in
     let few = p.few in
     let long = ap length k in
     (parts.0, parts.1, omega arith)
@@ -222,16 +219,16 @@ cut_named text name ps h k =
 pub cut_some : (text name more : List ℕ) → 0 < length text → is_path_text text ≡ true → between_slashes text ≡ name ∷ between_slashes more → Cut text name more
 unfolding between_slashes
 cut_some [] name more some h k = absurd (omega arith)
-cut_some (b ∷ text) name [] some h k = let parts = cut_named (b ∷ text) name ([] ∷ []) h k in absurd (no_name (both (is_name []) true parts.1).0)
+cut_some (b ∷ text) name [] some h k = let parts = cut_named _ _ _ h k in absurd (no_name (both _ _ parts.1).0)
 cut_some (b ∷ text) name (c ∷ more) some h k =
-    let parts = cut_named (b ∷ text) name (between_slashes (c ∷ more)) h k in
-    record { is_named = parts.0; rest = is_path (c ∷ more) parts.1 (let few = parts.2 in omega arith); names = k }
+    let parts = cut_named _ _ _ h k in
+    let rest = is_path (c ∷ more) parts.1 (let few = parts.2 in omega arith) in search
 
 pub cut_none : (text name : List ℕ) → 0 < length text → is_path_text text ≡ true → between_slashes text ≡ name ∷ [] → Cut text name []
 cut_none [] name some h k = absurd (omega arith)
 cut_none (b ∷ text) name some h k =
-    let parts = cut_named (b ∷ text) name [] h k in
-    record { is_named = parts.0; rest = is_path [] refl (omega arith); names = k }
+    let parts = cut_named _ _ [] h k in
+    let rest = is_path [] refl (omega arith) in search
 
 -- the names but the last
 take_front : (xs : List (List ℕ)) (x : List ℕ) → take (length (xs ++ x ∷ []) - 1) (xs ++ x ∷ []) ≡ xs
@@ -247,16 +244,16 @@ pub front_some : (text front last : List ℕ) → 0 < length text → is_path_te
 unfolding between_slashes
 front_some [] front last some h k = absurd (omega arith)
 front_some (b ∷ text) [] last some h k =
-    let parts = cut_named (b ∷ text) [] (last ∷ []) h k in absurd (no_name parts.0)
+    let parts = cut_named _ [] _ h k in absurd (no_name parts.0)
 front_some (b ∷ text) (c ∷ front) last some h k =
-    let p = of_path (b ∷ text) h in
-    let names : List (List ℕ) = between_slashes (c ∷ front) in
-    let all : (list_all is_name names && list_all is_name (last ∷ [])) ≡ true = sym (list_all-append is_name names (last ∷ [])) ∙ ap (list_all is_name) (sym k) ∙ p.all in
+    let p = of_path _ h in
+    let names = between_slashes (c ∷ front) in
+    let all = sym (list_all-append is_name names _) ∙ ap (list_all is_name) (sym k) ∙ p.all in
     let few = p.few in
-    let long = ap length k ∙ length-append names (last ∷ []) in
+    let long = ap length k ∙ length-append names _ in
     record {
-      is = is_path (c ∷ front) (both _ _ all).0 (omega arith);
-      names = sym (ap (λ ps. take (length ps - 1) ps) k ∙ take_front names last);
+      is = is_path _ (both _ _ all).0 (omega arith);
+      names = sym (ap (λ ps. take (length ps - 1) ps) k ∙ take_front _ last);
     }
 
 pub front_all : (text : List ℕ) → between_slashes text ≡ text ∷ [] → Front text []
@@ -269,11 +266,11 @@ rest_of more = option_map_or (λ m. between_slashes m.now) more []
 
 pub cut_at : (text name : List ℕ) (more : Option (Bor (List ℕ))) (m : Bor (List ℕ)) → 0 < length text → is_path_text text ≡ true
     → between_slashes text ≡ name ∷ option_map_or (λ m. between_slashes m.now) more [] → more ≡ Some m → Cut text name m.now
-cut_at text name more m some h k e = cut_some text name m.now some h (k ∙ ap (λ o. name ∷ rest_of o) e)
+cut_at text name more m some h k e = cut_some _ _ _ some h (k ∙ ap (λ o. name ∷ rest_of o) e)
 
 pub cut_last : (text name : List ℕ) (more : Option (Bor (List ℕ))) → 0 < length text → is_path_text text ≡ true
     → between_slashes text ≡ name ∷ option_map_or (λ m. between_slashes m.now) more [] → more ≡ None → Cut text name []
-cut_last text name more some h k e = cut_none text name some h (k ∙ ap (λ o. name ∷ rest_of o) e)
+cut_last text name more some h k e = cut_none _ _ some h (k ∙ ap (λ o. name ∷ rest_of o) e)
 
 -- a text that grows by a name
 pub record Grown (text name word : List ℕ) (count : ℕ) : Type 0 where
@@ -284,15 +281,15 @@ pub record Grown (text name word : List ℕ) (count : ℕ) : Type 0 where
 
 pub grows : (text name word : List ℕ) (count : ℕ) → is_path_text text ≡ true → is_name name ≡ true → word ≡ name → length (names_in text) ≡ count → count < 16 → Grown text name word count
 grows text name word count h k same counted few =
-    let named : is_name word ≡ true = ap is_name same ∙ k in
-    let whole : is_path_text (with_name text word) ≡ true = path_with text word h named (omega arith) in
+    let named = ap is_name same ∙ k in
+    let whole = path_with _ _ h named (omega arith) in
     let names : names_in (with_name text word) ≡ names_in text ++ word ∷ [] = names_with text word named in
     let long = ap length names ∙ length-append (names_in text) (word ∷ []) in
     record { is = whole; names = names ∙ ap (λ n. names_in text ++ n ∷ []) same; fits = text_fits (with_name text word) whole; counted = omega arith }
 
 -- a text whose only name is this one is that name
 pub same_just : (name text : List ℕ) → is_name name ≡ true → same_names (name ∷ []) (names_in text) ≡ same_bytes name text
-same_just name text h = ap (λ ps. same_names ps (names_in text)) (sym (names_with [] name h)) ∙ same_text name text
+same_just name text h = ap (λ ps. same_names ps (names_in text)) (sym (names_with [] _ h)) ∙ same_text _ _
 
 -- the last name
 behind : (xs : List (List ℕ)) (x : List ℕ) → slice_get (xs ++ x ∷ []) (length xs) ≡ Some x
@@ -312,19 +309,19 @@ pub last_piece : (text last : List ℕ) (names : List (List ℕ)) → 0 < length
     → between_slashes text ≡ names ++ last ∷ [] → Last text last
 last_piece [] last names some h k = absurd (omega arith)
 last_piece (b ∷ text) last names some h k =
-    let p = of_path (b ∷ text) h in
-    let all : (list_all is_name names && list_all is_name (last ∷ [])) ≡ true =
-    sym (list_all-append is_name names (last ∷ [])) ∙ ap (list_all is_name) (sym k) ∙ p.all in
+    let p = of_path _ h in
+    let all =
+    sym (list_all-append is_name names _) ∙ ap (list_all is_name) (sym k) ∙ p.all in
     record {
-      at = sym (ap (λ (ps : List (List ℕ)). slice_get ps (length ps - 1)) k ∙ last_of names last);
-      is_named = (both (is_name last) true (both _ _ all).1).0;
+      at = sym (ap (λ ps. slice_get ps (length ps - 1)) k ∙ last_of names _);
+      is_named = (both _ _ (both _ _ all).1).0;
     }
 
 -- no names are left exactly where no text is
 pub none_left : (text : List ℕ) → (length text == 0) ≡ (length (names_in text) == 0)
 none_left [] = refl
 none_left (b ∷ text) =
-    let k = some_piece (b ∷ text) in
+    let k = some_piece _ in
     let here : (length (b ∷ text) == 0) ≡ false = grind (arith, nat_tests) in
     let there : (length (k.0 ∷ k.1) == 0) ≡ false = grind (arith, nat_tests) in
-    here ∙ sym (ap (λ (ps : List (List ℕ)). length ps == 0) k.2 ∙ there)
+    here ∙ sym (ap (λ ps. length ps == 0) k.2 ∙ there)

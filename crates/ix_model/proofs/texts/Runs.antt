@@ -45,7 +45,7 @@ same_runs (suc s) (suc t) x y = ap (λ c. nat_eq x y && c) (same_runs s t x y) �
 -- how a comparison of such bytes goes: first what is said, then how many times, then the byte
 module _ (a b u v : List ℕ) (s t x y : ℕ) (one : a ++ replicate s x ≡ u) (two : b ++ replicate t y ≡ v) (even : length a ≡ length b) where
   compared : (same_bytes a b && ((s == t) && ((s == 0) || (x == y)))) ≡ same_bytes u v
-  compared = ap (λ c. same_bytes a b && c) (sym (same_runs s t x y)) ∙ sym (same_parts a b (replicate s x) (replicate t y) even) ∙ (λ i. same_bytes (one i) (two i))
+  compared = ap (λ c. same_bytes a b && c) (sym (same_runs s t x y)) ∙ sym (same_parts a b _ _ even) ∙ (λ i. same_bytes (one i) (two i))
 
   module _ (test : Bool) (is : test ≡ (same_bytes a b && (s == t))) where
     pub differ : test ≡ false → test ≡ same_bytes u v
@@ -57,7 +57,7 @@ module _ (a b u v : List ℕ) (s t x y : ℕ) (one : a ++ replicate s x ≡ u) (
         go false n r h = false_here
 
     pub by_byte : test ≡ true → (s ≡ 0 → ⊥) → (x == y) ≡ same_bytes u v
-    by_byte true_here some = go (same_bytes a b) (s == t) (s == 0) (x == y) (sym is ∙ true_here) none ∙ compared
+    by_byte true_here some = go _ _ _ _ (sym is ∙ true_here) none ∙ compared
       where
         none : (s == 0) ≡ false
         none = elim (eqb_tells s 0) [ inl e ↦ absurd (some e.1) | inr e ↦ e.0 ]

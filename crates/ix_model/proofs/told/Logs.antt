@@ -1,26 +1,22 @@
 -- The log grows by the lines of licensed entries.
-use Rattle.std.proofs.Common.{◌≡◌, ℕ, suc, Bool, true, false, not, ◌&&◌, List, [], ◌∷◌, ◌++◌, Option, Some, refl, sym, ap, ◌∙◌, if◌then◌else◌, append-nil}
-use Rattle.std.proofs.Common.{append_assoc, option_map}
+use Rattle.std.proofs.Common.{◌≡◌, ℕ, suc, Bool, true, false, not, ◌&&◌, List, [], ◌∷◌, ◌++◌, Option, Some, refl, sym, ap, ◌∙◌, if◌then◌else◌, append-nil, append_assoc, option_map}
 use Rattle.std.specs.{Option.option_map_or, List.list_all}
 use Rattle.ix_label.specs.{Category.{Categories, join, leq, same, bottom}, Lattice.{same-decides, join-bottom_right}}
-use Rattle.ix_model.specs.{world.{Naming.PathOf, Privs.either_of, World.{World, Frame, Object, Process, at, change, living, lives}}, rows.Refusals.keeps_label}
-use Rattle.ix_model.specs.{rows.Outcomes.{Outcome, Refuse, Pass}, rows.Walks.{Sought, walk, join_all, walked_to, object_at}, rows.Auditing.audit_line}
-use Rattle.ix_model.specs.{rows.OnDescriptors.LengthChecks, rows.OnProcesses.end_process, rows.Table.{Decision, row, settled, verdict}, rows.Telling.told}
-use Rattle.ix_model.specs.history.{Step.{plainly, answer, step, step_of, run}, Events.{Op, Event}}
+use Rattle.ix_model.specs.{world.{Naming.PathOf, Privs.either_of, World.{World, Frame, Object, Process, at, change, living, lives}}, rows.OnLabels.needs_to_set_ceilings}
+use Rattle.ix_model.specs.{rows.{Outcomes.{Outcome, Refuse, Pass}, Walks.{walk, walked_to, object_at}, Auditing.audit_line}, history.AuditLog.{line_of_act, lines_added}}
+use Rattle.ix_model.{specs.rows.{OnDescriptors.LengthChecks, OnProcesses.end_process, Table.{Decision, row, settled, verdict}, Telling.told}, proofs.words.OpenRows.open_row}
+use Rattle.ix_model.{specs.history.{Step.{plainly, answer, step, step_of, run}, Events.{Op, Event}}, proofs.words.Rowwise.{Change, Logging, Words, changes_of, kept_row}}
 use Rattle.ix_model.specs.declared.{privs.PrivSet.PrivSet, audit.{Act.Act, AuditLine.AuditLine}, reply.Reply.Reply}
 use Rattle.ix_model.specs.rows.Rows.{change_object, change_process, put_object, put_open, put_process, add_process, affect, change_open}
-use Rattle.ix_model.specs.rows.Walks as sought
-use Rattle.ix_model.specs.rows.OnLabels.{needs_to_set_ceilings, set_label, set_self, thaw, thaw_self, set_priv, grant_lic, set_ceiling, read_log}
 use Rattle.ix_model.specs.history.AuditLog.{object_of_path, label_at, of_process, exercises, is_answer, is_licensed, line_on_object, line_on_process, audit_log}
-use Rattle.ix_model.specs.history.AuditLog.{line_of_act, lines_added}
+use Rattle.ix_model.proofs.{tables.Tables.at_changed, words.{Keeps.Holds, RowEnds.endings, Living.is_living, Answered.step_frame}}
+use Rattle.ix_model.proofs.refused.Refusing.{Relabelled, Relabels, relabelled_itself, relabelled_observe, refusing_row}
+use Rattle.ix_model.proofs.words.Ends.{Ends, Anything, ending, ends_bind, ends_then, ends_pass, ends_frame, ends_caller, ends_there, ends_kept, ends_more}
+use Rattle.ix_model.specs.rows.Walks as sought
 use Rattle.ix_model.specs.history.Events as op
 use Rattle.ix_model.specs.declared.audit.Act.TheVariants as act
 use Rattle.ix_model.specs.declared.refusal.Refusal.TheVariants as refusal
 use Rattle.ix_model.specs.declared.reply.Reply.TheVariants as reply
-use Rattle.ix_model.proofs.{tables.Tables.at_changed, words.Keeps.Holds, words.RowEnds.endings, words.Living.is_living, words.Answered.step_frame}
-use Rattle.ix_model.proofs.words.Rowwise.{Change, Logging, Words, changes_of, kept_row}
-use Rattle.ix_model.proofs.refused.Refusing.{Relabelled, Relabels, relabelled_itself, relabelled_observe, refusing_row}
-use Rattle.ix_model.proofs.words.Ends.{Ends, Anything, ending, ends_bind, ends_then, ends_pass, ends_frame, ends_caller, ends_there, ends_kept, ends_more}
 
 -- ---- what an entry adds
 -- the lines that a call adds, where it is answered
@@ -53,19 +49,19 @@ is_target f pid o path p dir lives ends = rw (lives, ends) refl
 ends_sight : (pid : ℕ) (path : PathOf) (f : Frame) (Q : ℕ → Frame → Type 0) → ((o : ℕ) (g : Frame) → Sight pid path f o g → Q o g) → Ends (object_at pid path f) Anything Q
 unfolding object_at walked_to
 ends_sight pid path f Q h =
-    ends_bind _ _ f Anything Q (ends_bind _ _ f Anything _ (ends_caller pid f Anything _ (λ p lives.
-    ends_bind _ _ f Anything _ (ends_frame f Anything _ (ends_then _ _ f Anything _ (
-    ends_kept (Relabelled pid f) _ Anything _ ((relabelled_observe pid f (join_all (walk f.objects p path).looked)).led f (relabelled_itself pid f)) (λ r g rel. tt) (λ u g rel.
-    ends_pass (walk f.objects p path).outcome g Anything _ (ends_there (walk f.objects p path).outcome g Anything Q (λ o dir is.
-    h o g (record { relabelled = rel; target = is_target f pid o path p dir lives is })) tt tt))))))
+    ends_bind _ _ f _ Q (ends_bind _ _ f _ _ (ends_caller _ f _ _ (λ p lives.
+    ends_bind _ _ f _ _ (ends_frame f _ _ (ends_then _ _ f _ _ (
+    ends_kept _ _ _ _ ((relabelled_observe _ f _).led f (relabelled_itself _ f)) (λ r g rel. tt) (λ u g rel.
+    ends_pass _ g _ _ (ends_there _ g _ Q (λ o dir is.
+    h o g (record { relabelled = rel; target = is_target f _ o _ p _ lives is })) tt tt))))))
     tt))
 
 -- ---- the eight calls
 at_target : (f g : Frame) (pid o : ℕ) (path : PathOf) (x : Object) → Sight pid path f o g → at g.objects o ≡ Some x → label_at f (object_of_path f pid path) ≡ x.label
 unfolding label_at
 at_target f g pid o path x sight is =
-    let same : g.objects ≡ f.objects = ap (λ (h : Frame). h.objects) sight.relabelled.is in
-    let here : at f.objects o ≡ Some x = ap (λ t. at t o) (sym same) ∙ is in
+    let same = ap (λ h. h.objects) sight.relabelled.is in
+    let here = ap (λ t. at t o) (sym same) ∙ is in
     rw (sight.target, here) refl
 
 -- the line of an act on the object of a path
@@ -73,8 +69,8 @@ object_line : (f m g : Frame) (place pid o : ℕ) (path : PathOf) (a : Act) (x y
     → at g.objects o ≡ Some y → line_on_object f g place pid path a ≡ audit_line place pid a o x.label y.label
 unfolding label_at
 object_line f m g place pid o path a x y sight is after =
-    let same : m.objects ≡ f.objects = ap (λ (h : Frame). h.objects) sight.relabelled.is in
-    let here : at f.objects o ≡ Some x = ap (λ t. at t o) (sym same) ∙ is in
+    let same = ap (λ h. h.objects) sight.relabelled.is in
+    let here = ap (λ t. at t o) (sym same) ∙ is in
     rw (sight.target, here, after) refl
 
 -- and of one on a process
@@ -88,195 +84,11 @@ changed : {A : Type 0} (t u : List (Option A)) (n : ℕ) (h : A → A) (x : A) �
 changed t u n h x e is = ap (λ v. at v n) e ∙ at_changed t n h ∙ ap (option_map h) is
 
 same_log : (pid : ℕ) (path : PathOf) (f m : Frame) (o : ℕ) → Sight pid path f o m → m.log ≡ f.log
-same_log pid path f m o sight = ap (λ (h : Frame). h.log) sight.relabelled.is
+same_log pid path f m o sight = ap (λ h. h.log) sight.relabelled.is
 
 not_not : (b : Bool) → not (not b) ≡ b
 not_not true = refl
 not_not false = refl
-
-module _ (f : Frame) (place pid : ℕ) where
-  -- SetLabel
-  label_line : (m g : Frame) (o : ℕ) (path : PathOf) (now : Categories) (x : Object) → Sight pid path f o m → at m.objects o ≡ Some x
-      → not (leq x.label now) ≡ true → g.objects ≡ change m.objects o (λ y. record y { label = now })
-      → g.log ≡ m.log ++ audit_line place pid act.DownFile o x.label now ∷ [] → LogAfter f place pid (op.SetLabel path now) g
-  unfolding exercises line_of_act
-  label_line m g o path now x sight is lowers objects log =
-      line_added f g place pid (op.SetLabel path now) _
-      (ap (λ l. not (leq l now)) (at_target f m pid o path x sight is) ∙ lowers)
-      (ap Some (object_line f m g place pid o path act.DownFile x (record x { label = now }) sight is (changed m.objects g.objects o (λ y. record y { label = now }) x objects is)))
-      (log ∙ ap (λ t. t ++ audit_line place pid act.DownFile o x.label now ∷ []) (same_log pid path f m o sight))
-
-  label_quiet : (m g : Frame) (o : ℕ) (path : PathOf) (now : Categories) (x : Object) → Sight pid path f o m → at m.objects o ≡ Some x
-      → not (leq x.label now) ≡ false → g.log ≡ m.log → LogAfter f place pid (op.SetLabel path now) g
-  unfolding exercises
-  label_quiet m g o path now x sight is stays log =
-      no_line f g place pid (op.SetLabel path now) (ap (λ l. not (leq l now)) (at_target f m pid o path x sight is) ∙ stays) (log
-      ∙ same_log pid path f m o sight)
-
-  label_logs : (path : PathOf) (now : Categories) → Ends (set_label place pid path now f) Anything (λ a g. LogAfter f place pid (op.SetLabel path now) g)
-  unfolding set_label
-  label_logs path now = search (endings, ends_sight, label_line, label_quiet) depth 80 fits 16000
-
-  -- SetSelf
-  self_line : (g : Frame) (now : Categories) (p : Process) → living (at f.processes pid) ≡ Some p → not (leq p.label now) ≡ true
-      → g.processes ≡ change f.processes pid (λ q. record q { label = now }) → g.log ≡ f.log ++ audit_line place pid act.DownSelf pid p.label now ∷ []
-      → LogAfter f place pid (op.SetSelf now) g
-  unfolding exercises line_of_act of_process
-  self_line g now p lives lowers processes log =
-      let is : at f.processes pid ≡ Some p = is_living (at f.processes pid) p lives in
-      line_added f g place pid (op.SetSelf now) _ (rw is lowers)
-      (ap Some (process_line (λ q. q.label) f g place pid pid act.DownSelf p (record p { label = now }) is (changed f.processes g.processes pid (λ q. record q { label = now }) p processes is))) log
-
-  self_quiet : (g : Frame) (now : Categories) (p : Process) → living (at f.processes pid) ≡ Some p → not (leq p.label now) ≡ false → g.log ≡ f.log → LogAfter f place pid (op.SetSelf now) g
-  unfolding exercises of_process
-  self_quiet g now p lives stays log = no_line f g place pid (op.SetSelf now) (rw (is_living (at f.processes pid) p lives) stays) log
-
-  self_logs : (now : Categories) → Ends (set_self place pid now f) Anything (λ a g. LogAfter f place pid (op.SetSelf now) g)
-  unfolding set_self
-  self_logs now = search (endings, self_line, self_quiet) depth 80 fits 16000
-
-  -- Thaw
-  thaw_line : (m g : Frame) (o : ℕ) (path : PathOf) (x : Object) → Sight pid path f o m → at m.objects o ≡ Some x
-      → g.objects ≡ change m.objects o (λ y. record y { frozen = false }) → g.log ≡ m.log ++ audit_line place pid act.ThawFile o x.label x.label ∷ []
-      → LogAfter f place pid (op.Thaw path) g
-  unfolding exercises line_of_act
-  thaw_line m g o path x sight is objects log =
-      line_added f g place pid (op.Thaw path) _ refl
-      (ap Some (object_line f m g place pid o path act.ThawFile x (record x { frozen = false }) sight is (changed m.objects g.objects o (λ y. record y { frozen = false }) x objects is)))
-      (log ∙ ap (λ t. t ++ audit_line place pid act.ThawFile o x.label x.label ∷ []) (same_log pid path f m o sight))
-
-  thaw_logs : (path : PathOf) → Ends (thaw place pid path f) Anything (λ a g. LogAfter f place pid (op.Thaw path) g)
-  unfolding thaw
-  thaw_logs path = search (endings, ends_sight, thaw_line) depth 80 fits 16000
-
-  -- ThawSelf
-  thaw_self_line : (g : Frame) (p : Process) → living (at f.processes pid) ≡ Some p → g.processes ≡ change f.processes pid (λ q. record q { frozen = false })
-      → g.log ≡ f.log ++ audit_line place pid act.ThawSelf pid p.label p.label ∷ [] → LogAfter f place pid op.ThawSelf g
-  unfolding exercises line_of_act
-  thaw_self_line g p lives processes log =
-      let is : at f.processes pid ≡ Some p = is_living (at f.processes pid) p lives in
-      line_added f g place pid op.ThawSelf _ refl
-      (ap Some (process_line (λ q. q.label) f g place pid pid act.ThawSelf p (record p { frozen = false }) is
-      (changed f.processes g.processes pid (λ q. record q { frozen = false }) p processes is))) log
-
-  thaw_self_logs : Ends (thaw_self place pid f) Anything (λ a g. LogAfter f place pid op.ThawSelf g)
-  unfolding thaw_self
-  thaw_self_logs = search (endings, thaw_self_line) depth 80 fits 16000
-
-  -- GrantLic
-  grant_line : (g : Frame) (target : ℕ) (set : PrivSet) (q : Process) → living (at f.processes target) ≡ Some q
-      → g.processes ≡ change f.processes target (λ p. record p { lic = either_of p.lic set })
-      → g.log ≡ f.log ++ record (audit_line place pid act.Grant target q.label q.label) { lic = set } ∷ [] → LogAfter f place pid (op.GrantLic target set) g
-  unfolding exercises line_of_act
-  grant_line g target set q lives processes log =
-      let is : at f.processes target ≡ Some q = is_living (at f.processes target) q lives in
-      line_added f g place pid (op.GrantLic target set) _ refl
-      (ap (λ (l : AuditLine). Some (record l { lic = set })) (process_line (λ p. p.label) f g place pid target act.Grant q (record q {
-        lic =
-            either_of q.lic set;
-      }) is (changed f.processes g.processes target (λ p. record p { lic = either_of p.lic set }) q processes is))) log
-
-  grant_logs : (target : ℕ) (set : PrivSet) → Ends (grant_lic place pid target set f) Anything (λ a g. LogAfter f place pid (op.GrantLic target set) g)
-  unfolding grant_lic
-  grant_logs target set = search (endings, grant_line) depth 80 fits 16000
-
-  -- SetCeiling
-  ceiling_line : (g : Frame) (target : ℕ) (now : Categories) (q : Process) → living (at f.processes target) ≡ Some q
-      → needs_to_set_ceilings pid target q now ≡ true → g.processes ≡ change f.processes target (λ p. record p { ceiling = now })
-      → g.log ≡ f.log ++ audit_line place pid act.Ceiling target q.ceiling now ∷ [] → LogAfter f place pid (op.SetCeiling target now) g
-  unfolding exercises line_of_act of_process
-  ceiling_line g target now q lives needs processes log =
-      let is : at f.processes target ≡ Some q = is_living (at f.processes target) q lives in
-      line_added f g place pid (op.SetCeiling target now) _ (rw is needs)
-      (ap Some (process_line (λ p. p.ceiling) f g place pid target act.Ceiling q (record q { ceiling = now }) is
-      (changed f.processes g.processes target (λ p. record p { ceiling = now }) q processes is))) log
-
-  ceiling_quiet : (g : Frame) (target : ℕ) (now : Categories) (q : Process) → living (at f.processes target) ≡ Some q
-      → needs_to_set_ceilings pid target q now ≡ false → g.log ≡ f.log → LogAfter f place pid (op.SetCeiling target now) g
-  unfolding exercises of_process
-  ceiling_quiet g target now q lives free log = no_line f g place pid (op.SetCeiling target now) (rw (is_living (at f.processes target) q lives) free) log
-
-  ceiling_logs : (target : ℕ) (now : Categories) → Ends (set_ceiling place pid target now f) Anything (λ a g. LogAfter f place pid (op.SetCeiling target now) g)
-  unfolding set_ceiling
-  ceiling_logs target now = search (endings, ceiling_line, ceiling_quiet) depth 80 fits 16000
-
-  -- ReadLog
-  read_line : (g : Frame) (index : ℕ) (p : Process) → living (at f.processes pid) ≡ Some p → g.processes ≡ f.processes
-      → g.log ≡ f.log ++ audit_line place pid act.ReadLog index p.label p.label ∷ [] → LogAfter f place pid (op.ReadLog index) g
-  unfolding exercises line_of_act of_process
-  read_line g index p lives processes log =
-      let is : at f.processes pid ≡ Some p = is_living (at f.processes pid) p lives in
-      line_added f g place pid (op.ReadLog index) _ refl (rw (processes, is) refl) log
-
-  read_logs : (index : ℕ) → Ends (read_log place pid index f) Anything (λ a g. LogAfter f place pid (op.ReadLog index) g)
-  unfolding read_log
-  read_logs index = search (endings, read_line) depth 80 fits 16000
-
-  -- SetPriv
-  priv_line : (m g : Frame) (o : ℕ) (path : PathOf) (cap lic : PrivSet) (x : Object) (p : Process) → Sight pid path f o m → at m.objects o ≡ Some x
-      → at g.objects o ≡ Some (record x { label = join x.label p.label; cap = cap; lic = lic })
-      → g.log ≡ m.log ++ record (audit_line place pid act.SetPriv o x.label (join x.label p.label)) { cap = cap; lic = lic } ∷ []
-      → LogAfter f place pid (op.SetPriv path cap lic) g
-  unfolding exercises line_of_act
-  priv_line m g o path cap lic x p sight is after log =
-      line_added f g place pid (op.SetPriv path cap lic) _ refl
-      (ap (λ (l : AuditLine). Some (record l { cap = cap; lic = lic })) (object_line f m g place pid o path act.SetPriv x (record x {
-        label =
-            join x.label p.label;
-        cap = cap;
-        lic = lic;
-      }) sight is after))
-      (log ∙ ap (λ t. t ++ record (audit_line place pid act.SetPriv o x.label (join x.label p.label)) { cap = cap; lic = lic } ∷ []) (same_log pid path f m o sight))
-
-  -- what is affected has the joined label
-  record Affected (o : ℕ) (m g : Frame) : Type 0 where
-    caller : Process
-    is_caller : living (at m.processes pid) ≡ Some caller
-    object : Object
-    is_object : at m.objects o ≡ Some object
-    after : at g.objects o ≡ Some (record object { label = join object.label caller.label })
-    log : g.log ≡ m.log
-
-  affected_not : (o : ℕ) (m : Frame) (p : Process) (x : Object) → living (at m.processes pid) ≡ Some p → at m.objects o ≡ Some x
-      → not (same (join x.label (join p.label bottom)) x.label) ≡ false → Affected o m m
-  affected_not o m p x lives is free =
-      let far : Categories = join x.label (join p.label bottom) in
-      let e : join x.label p.label ≡ x.label = sym (ap (join x.label) (join-bottom_right p.label)) ∙ (same-decides far x.label).0 (sym (not_not (same far x.label)) ∙ ap not free) in
-      record { caller = p; is_caller = lives; object = x; is_object = is; after = is ∙ ap (λ l. Some (record x { label = l })) (sym e); log = refl }
-
-  affected_yes : (o : ℕ) (m g : Frame) (p : Process) (x : Object) → living (at m.processes pid) ≡ Some p → at m.objects o ≡ Some x
-      → g.objects ≡ change m.objects o (λ y. record y { label = join y.label (join p.label bottom) }) → g.log ≡ m.log → Affected o m g
-  affected_yes o m g p x lives is objects log = record {
-    caller = p;
-    is_caller = lives;
-    object = x;
-    is_object = is;
-    after = changed m.objects g.objects o (λ y. record y { label = join y.label (join p.label bottom) }) x objects is ∙ (λ i. Some (record x { label = join x.label (join-bottom_right p.label i) }));
-    log = log;
-  }
-
-  affected : (o : ℕ) (m : Frame) → Ends (affect pid o bottom m) Anything (λ u g. Affected o m g)
-  unfolding affect
-  affected o m = search (ending, affected_not, affected_yes) depth 40 fits 8000
-
-  ends_affected : (o : ℕ) (m : Frame) (Q : Unit {0} → Frame → Type 0) → ((g : Frame) → Affected o m g → Q tt g) → Ends (affect pid o bottom m) Anything Q
-  ends_affected o m Q h = ends_more (affect pid o bottom m) Anything (λ u g. Affected o m g) Q (affected o m) (λ u g. h g)
-
-  priv_done : (m n g : Frame) (o : ℕ) (path : PathOf) (cap lic : PrivSet) (x : Object) (p : Process) → Sight pid path f o m → at m.objects o ≡ Some x
-      → living (at m.processes pid) ≡ Some p → Affected o m n → g.objects ≡ change n.objects o (λ y. record y { cap = cap; lic = lic })
-      → g.log ≡ n.log ++ record (audit_line place pid act.SetPriv o x.label (join x.label p.label)) { cap = cap; lic = lic } ∷ []
-      → LogAfter f place pid (op.SetPriv path cap lic) g
-  priv_done m n g o path cap lic x p sight is lives a objects log =
-      let same_object : a.object ≡ x = let h = a.is_object in cc in
-      let same_caller : a.caller ≡ p = let h = a.is_caller in cc in
-      let stands : at n.objects o ≡ Some (record x { label = join x.label p.label }) = a.after ∙ (λ i. Some (record (same_object i) { label = join (same_object i).label (same_caller i).label })) in
-      priv_line m g o path cap lic x p sight is
-      (changed n.objects g.objects o (λ y. record y { cap = cap; lic = lic }) (record x { label = join x.label p.label }) objects stands)
-      (log ∙ ap (λ t. t ++ record (audit_line place pid act.SetPriv o x.label (join x.label p.label)) { cap = cap; lic = lic } ∷ []) a.log)
-
-  priv_logs : (path : PathOf) (cap lic : PrivSet) → Ends (set_priv place pid path cap lic f) Anything (λ a g. LogAfter f place pid (op.SetPriv path cap lic) g)
-  unfolding set_priv
-  priv_logs path cap lic = search (endings, ends_sight, ends_affected, priv_done) depth 80 fits 16000
 
 -- ---- the other calls
 abbrev pub log_stays : Change → Bool
@@ -309,23 +121,193 @@ abbrev logs_nothing : Op → Bool
 logs_nothing c = list_all log_stays (changes_of c)
 
 quiet_row : (t : LengthChecks) (place pid : ℕ) (c : Op) (f : Frame) → logs_nothing c ≡ true → Holds (row t place pid c f) (λ g. g.log ≡ f.log)
-quiet_row t place pid c f quiet = (kept_row log_stays pid (λ g. g.log ≡ f.log) (quiet_words pid f) t place c quiet).led f refl
+quiet_row t place pid c f quiet = (kept_row _ _ _ (quiet_words _ f) t _ c quiet).led f refl
 
 quiet_logs : (t : LengthChecks) (place pid : ℕ) (c : Op) (f : Frame) → logs_nothing c ≡ true → exercises f pid c ≡ false → Ends (row t place pid c f) Anything (λ a g. LogAfter f place pid c g)
 quiet_logs t place pid c f quiet free =
-    ends_kept (λ g. g.log ≡ f.log) (row t place pid c f) Anything (λ a g. LogAfter f place pid c g) (quiet_row t place pid c f quiet) (λ r g same. tt) (λ a g same. no_line f g place pid c free same)
+    ends_kept _ (row t place pid c f) _ _ (quiet_row t _ _ c f quiet) (λ r g same. tt) (λ a g same. no_line f g _ _ c free same)
 
-row_logs : (t : LengthChecks) (place pid : ℕ) (c : Op) (f : Frame) → Ends (row t place pid c f) Anything (λ a g. LogAfter f place pid c g)
-unfolding row exercises
-row_logs t place pid (op.SetLabel path now) f = label_logs f place pid path now
-row_logs t place pid (op.SetSelf now) f = self_logs f place pid now
-row_logs t place pid (op.Thaw path) f = thaw_logs f place pid path
-row_logs t place pid op.ThawSelf f = thaw_self_logs f place pid
-row_logs t place pid (op.SetPriv path cap lic) f = priv_logs f place pid path cap lic
-row_logs t place pid (op.GrantLic target set) f = grant_logs f place pid target set
-row_logs t place pid (op.SetCeiling target now) f = ceiling_logs f place pid target now
-row_logs t place pid (op.ReadLog index) f = read_logs f place pid index
-row_logs t place pid c f = quiet_logs t place pid c f refl refl
+module _ (f : Frame) (place pid : ℕ) where
+  -- SetLabel
+  label_line : (m g : Frame) (o : ℕ) (path : PathOf) (now : Categories) (x : Object) → Sight pid path f o m → at m.objects o ≡ Some x
+      → not (leq x.label now) ≡ true → g.objects ≡ change m.objects o (λ y. record y { label = now })
+      → g.log ≡ m.log ++ audit_line place pid act.DownFile o x.label now ∷ [] → LogAfter f place pid (op.SetLabel path now) g
+  unfolding exercises line_of_act
+  label_line m g o path now x sight is lowers objects log =
+      line_added f g _ _ _ _
+      (ap (λ l. not (leq l now)) (at_target f m _ o _ x sight is) ∙ lowers)
+      (ap Some (object_line f m g _ _ o _ _ x _ sight is (changed _ _ o _ x objects is)))
+      (log ∙ ap (λ t. t ++ audit_line place pid act.DownFile o x.label now ∷ []) (same_log _ _ f m o sight))
+
+  label_quiet : (m g : Frame) (o : ℕ) (path : PathOf) (now : Categories) (x : Object) → Sight pid path f o m → at m.objects o ≡ Some x
+      → not (leq x.label now) ≡ false → g.log ≡ m.log → LogAfter f place pid (op.SetLabel path now) g
+  unfolding exercises
+  label_quiet m g o path now x sight is stays log =
+      no_line f g _ _ _ (ap (λ l. not (leq l now)) (at_target f m _ o _ x sight is) ∙ stays) (log
+      ∙ same_log _ _ f m o sight)
+
+  -- SetSelf
+  self_line : (g : Frame) (now : Categories) (p : Process) → living (at f.processes pid) ≡ Some p → not (leq p.label now) ≡ true
+      → g.processes ≡ change f.processes pid (λ q. record q { label = now }) → g.log ≡ f.log ++ audit_line place pid act.DownSelf pid p.label now ∷ []
+      → LogAfter f place pid (op.SetSelf now) g
+  unfolding exercises line_of_act of_process
+  self_line g now p lives lowers processes log =
+      let is = is_living _ p lives in
+      line_added f g _ _ _ _ (rw is lowers)
+      (ap Some (process_line _ f g _ _ _ _ p _ is (changed _ _ _ _ p processes is))) log
+
+  self_quiet : (g : Frame) (now : Categories) (p : Process) → living (at f.processes pid) ≡ Some p → not (leq p.label now) ≡ false → g.log ≡ f.log → LogAfter f place pid (op.SetSelf now) g
+  unfolding exercises of_process
+  self_quiet g now p lives stays log = no_line f g _ _ (op.SetSelf now) (rw (is_living (at f.processes pid) p lives) stays) log
+
+  -- Thaw
+  thaw_line : (m g : Frame) (o : ℕ) (path : PathOf) (x : Object) → Sight pid path f o m → at m.objects o ≡ Some x
+      → g.objects ≡ change m.objects o (λ y. record y { frozen = false }) → g.log ≡ m.log ++ audit_line place pid act.ThawFile o x.label x.label ∷ []
+      → LogAfter f place pid (op.Thaw path) g
+  unfolding exercises line_of_act
+  thaw_line m g o path x sight is objects log =
+      line_added f g _ _ _ _ refl
+      (ap Some (object_line f m g _ _ o _ _ x _ sight is (changed _ _ o _ x objects is)))
+      (log ∙ ap (λ t. t ++ audit_line place pid act.ThawFile o x.label x.label ∷ []) (same_log _ _ f m o sight))
+
+  -- ThawSelf
+  thaw_self_line : (g : Frame) (p : Process) → living (at f.processes pid) ≡ Some p → g.processes ≡ change f.processes pid (λ q. record q { frozen = false })
+      → g.log ≡ f.log ++ audit_line place pid act.ThawSelf pid p.label p.label ∷ [] → LogAfter f place pid op.ThawSelf g
+  unfolding exercises line_of_act
+  thaw_self_line g p lives processes log =
+      let is = is_living _ p lives in
+      line_added f g _ _ _ _ refl
+      (ap Some (process_line _ f g _ _ _ _ p _ is
+      (changed _ _ _ _ p processes is))) log
+
+  -- GrantLic
+  grant_line : (g : Frame) (target : ℕ) (set : PrivSet) (q : Process) → living (at f.processes target) ≡ Some q
+      → g.processes ≡ change f.processes target (λ p. record p { lic = either_of p.lic set })
+      → g.log ≡ f.log ++ record (audit_line place pid act.Grant target q.label q.label) { lic = set } ∷ [] → LogAfter f place pid (op.GrantLic target set) g
+  unfolding exercises line_of_act
+  grant_line g target set q lives processes log =
+      let is : at f.processes target ≡ Some q = is_living (at f.processes target) q lives in
+      line_added f g place pid (op.GrantLic target set) _ refl
+      (ap (λ (l : AuditLine). Some (record l { lic = set })) (process_line (λ p. p.label) f g place pid target act.Grant q (record q {
+        lic =
+            either_of q.lic set;
+      }) is (changed f.processes g.processes target (λ p. record p { lic = either_of p.lic set }) q processes is))) log
+
+  -- SetCeiling
+  ceiling_line : (g : Frame) (target : ℕ) (now : Categories) (q : Process) → living (at f.processes target) ≡ Some q
+      → needs_to_set_ceilings pid target q now ≡ true → g.processes ≡ change f.processes target (λ p. record p { ceiling = now })
+      → g.log ≡ f.log ++ audit_line place pid act.Ceiling target q.ceiling now ∷ [] → LogAfter f place pid (op.SetCeiling target now) g
+  unfolding exercises line_of_act of_process
+  ceiling_line g target now q lives needs processes log =
+      let is = is_living _ q lives in
+      line_added f g _ _ _ _ (rw is needs)
+      (ap Some (process_line _ f g _ _ _ _ q _ is
+      (changed _ _ _ _ q processes is))) log
+
+  ceiling_quiet : (g : Frame) (target : ℕ) (now : Categories) (q : Process) → living (at f.processes target) ≡ Some q
+      → needs_to_set_ceilings pid target q now ≡ false → g.log ≡ f.log → LogAfter f place pid (op.SetCeiling target now) g
+  unfolding exercises of_process
+  ceiling_quiet g target now q lives free log = no_line f g _ _ (op.SetCeiling target now) (rw (is_living (at f.processes target) q lives) free) log
+
+  -- ReadLog
+  read_line : (g : Frame) (index : ℕ) (p : Process) → living (at f.processes pid) ≡ Some p → g.processes ≡ f.processes
+      → g.log ≡ f.log ++ audit_line place pid act.ReadLog index p.label p.label ∷ [] → LogAfter f place pid (op.ReadLog index) g
+  unfolding exercises line_of_act of_process
+  read_line g index p lives processes log =
+      let is = is_living _ p lives in
+      line_added f g _ _ _ _ refl (rw (processes, is) refl) log
+
+  -- SetPriv
+  priv_line : (m g : Frame) (o : ℕ) (path : PathOf) (cap lic : PrivSet) (x : Object) (p : Process) → Sight pid path f o m → at m.objects o ≡ Some x
+      → at g.objects o ≡ Some (record x { label = join x.label p.label; cap = cap; lic = lic })
+      → g.log ≡ m.log ++ record (audit_line place pid act.SetPriv o x.label (join x.label p.label)) { cap = cap; lic = lic } ∷ []
+      → LogAfter f place pid (op.SetPriv path cap lic) g
+  unfolding exercises line_of_act
+  priv_line m g o path cap lic x p sight is after log =
+      line_added f g place pid (op.SetPriv path cap lic) _ refl
+      (ap (λ (l : AuditLine). Some (record l { cap = cap; lic = lic })) (object_line f m g place pid o path act.SetPriv x (record x {
+        label =
+            join x.label p.label;
+        cap = cap;
+        lic = lic;
+      }) sight is after))
+      (log ∙ ap (λ t. t ++ record (audit_line place pid act.SetPriv o x.label (join x.label p.label)) { cap = cap; lic = lic } ∷ []) (same_log pid path f m o sight))
+
+  -- what is affected has the joined label
+  record Affected (o : ℕ) (m g : Frame) : Type 0 where
+    caller : Process
+    is_caller : living (at m.processes pid) ≡ Some caller
+    object : Object
+    is_object : at m.objects o ≡ Some object
+    after : at g.objects o ≡ Some (record object { label = join object.label caller.label })
+    log : g.log ≡ m.log
+
+  affected_not : (o : ℕ) (m : Frame) (p : Process) (x : Object) → living (at m.processes pid) ≡ Some p → at m.objects o ≡ Some x
+      → not (same (join x.label (join p.label bottom)) x.label) ≡ false → Affected o m m
+  affected_not o m p x lives is free =
+      let far = join x.label (join p.label bottom) in
+      let e = sym (ap (join x.label) (join-bottom_right _)) ∙ (same-decides _ _).0 (sym (not_not _) ∙ ap not free) in
+      record { caller = p; is_caller = lives; object = x; is_object = is; after = is ∙ ap (λ l. Some (record x { label = l })) (sym e); log = refl }
+
+  affected_yes : (o : ℕ) (m g : Frame) (p : Process) (x : Object) → living (at m.processes pid) ≡ Some p → at m.objects o ≡ Some x
+      → g.objects ≡ change m.objects o (λ y. record y { label = join y.label (join p.label bottom) }) → g.log ≡ m.log → Affected o m g
+  affected_yes o m g p x lives is objects log = record {
+    caller = p;
+    is_caller = lives;
+    object = x;
+    is_object = is;
+    after = changed _ _ o _ x objects is ∙ (λ i. Some (record x { label = join x.label (join-bottom_right p.label i) }));
+    log = log;
+  }
+
+  affected : (o : ℕ) (m : Frame) → Ends (affect pid o bottom m) Anything (λ u g. Affected o m g)
+  unfolding affect
+  affected o m = search (ending, affected_not, affected_yes) depth 40 fits 8000
+
+  ends_affected : (o : ℕ) (m : Frame) (Q : Unit {0} → Frame → Type 0) → ((g : Frame) → Affected o m g → Q tt g) → Ends (affect pid o bottom m) Anything Q
+  ends_affected o m Q h = ends_more (affect pid o bottom m) _ _ Q (affected o m) (λ u g. h g)
+
+  priv_done : (m n g : Frame) (o : ℕ) (path : PathOf) (cap lic : PrivSet) (x : Object) (p : Process) → Sight pid path f o m → at m.objects o ≡ Some x
+      → living (at m.processes pid) ≡ Some p → Affected o m n → g.objects ≡ change n.objects o (λ y. record y { cap = cap; lic = lic })
+      → g.log ≡ n.log ++ record (audit_line place pid act.SetPriv o x.label (join x.label p.label)) { cap = cap; lic = lic } ∷ []
+      → LogAfter f place pid (op.SetPriv path cap lic) g
+  priv_done m n g o path cap lic x p sight is lives a objects log =
+      let same_object : a.object ≡ x = let h = a.is_object in cc in
+      let same_caller : a.caller ≡ p = let h = a.is_caller in cc in
+      let stands : at n.objects o ≡ Some (record x { label = join x.label p.label }) = a.after ∙ (λ i. Some (record (same_object i) { label = join (same_object i).label (same_caller i).label })) in
+      priv_line m g o path cap lic x p sight is
+      (changed n.objects g.objects o (λ y. record y { cap = cap; lic = lic }) (record x { label = join x.label p.label }) objects stands)
+      (log ∙ ap (λ t. t ++ record (audit_line place pid act.SetPriv o x.label (join x.label p.label)) { cap = cap; lic = lic } ∷ []) a.log)
+
+  -- ---- the table
+  ruleset logging = (
+    endings,
+    ends_sight,
+    ends_affected,
+    label_line,
+    label_quiet,
+    self_line,
+    self_quiet,
+    thaw_line,
+    thaw_self_line,
+    grant_line,
+    ceiling_line,
+    ceiling_quiet,
+    read_line,
+    priv_done,
+  )
+
+  row_logs : (t : LengthChecks) (c : Op) → Ends (row t place pid c f) Anything (λ a g. LogAfter f place pid c g)
+  unfolding open_row exercises
+  row_logs t (op.SetLabel path now) = search logging depth 80 fits 16000
+  row_logs t (op.SetSelf now) = search logging depth 80 fits 16000
+  row_logs t (op.Thaw path) = search logging depth 80 fits 16000
+  row_logs t op.ThawSelf = search logging depth 80 fits 16000
+  row_logs t (op.SetPriv path cap lic) = search logging depth 80 fits 16000
+  row_logs t (op.GrantLic target set) = search logging depth 80 fits 16000
+  row_logs t (op.SetCeiling target now) = search logging depth 80 fits 16000
+  row_logs t (op.ReadLog index) = search logging depth 80 fits 16000
+  row_logs t c = quiet_logs t _ _ c f refl refl
 
 -- ---- decisions
 -- the lines that a call adds, by its reply
@@ -334,7 +316,7 @@ adds f g place pid c r = if is_answer r && exercises f pid c then option_map_or 
 
 adds_none : (f g : Frame) (place pid : ℕ) (c : Op) (r : Reply) → exercises f pid c ≡ false → adds f g place pid c r ≡ []
 unfolding adds
-adds_none f g place pid c r free = go (is_answer r)
+adds_none f g place pid c r free = go _
   where
     go : (b : Bool) → (if b && exercises f pid c then option_map_or (λ l. l ∷ []) (line_of_act f g place pid c) [] else []) ≡ []
     go true = rw free refl
@@ -345,25 +327,25 @@ unfolding adds added
 adds_answered f g place pid c r is after = after.is ∙ rw is refl
 
 log_kept : (b : Bool) (pid : ℕ) (f g : Frame) → Relabelled pid f g → (if b then g else f).log ≡ f.log ++ []
-log_kept true pid f g r = ap (λ (h : Frame). h.log) r.is ∙ sym (append-nil f.log)
+log_kept true pid f g r = ap (λ h. h.log) r.is ∙ sym (append-nil f.log)
 log_kept false pid f g r = sym (append-nil f.log)
 
 settled_log : (place pid : ℕ) (c : Op) (f : Frame) (o : Outcome Reply) → Relabels is_answer pid f o → Ends o Anything (λ a g. LogAfter f place pid c g)
     → (settled f o).frame.log ≡ f.log ++ adds f (settled f o).frame place pid c (settled f o).reply
 unfolding Ends adds
-settled_log place pid c f (Refuse r g) relabels ends = log_kept (keeps_label r) pid f g relabels
-settled_log place pid c f (Pass a g) relabels ends = adds_answered f g place pid c a relabels ends
+settled_log place pid c f (Refuse r g) relabels ends = log_kept _ _ f g relabels
+settled_log place pid c f (Pass a g) relabels ends = adds_answered f g _ _ c a relabels ends
 
 decided_log : (t : LengthChecks) (place pid : ℕ) (c : Op) (f : Frame) → (verdict t place pid c f).frame.log ≡ f.log
     ++ adds f (verdict t place pid c f).frame place pid c (verdict t place pid c f).reply
 unfolding verdict adds
-decided_log t place pid c f = go (lives f pid)
+decided_log t place pid c f = go _
   where
     decision : Bool → Decision
     decision b = if b then settled f (row t place pid c f) else record { reply = reply.No refusal.NoProcess; frame = f }
 
     go : (b : Bool) → (decision b).frame.log ≡ f.log ++ adds f (decision b).frame place pid c (decision b).reply
-    go true = settled_log place pid c f (row t place pid c f) (refusing_row t place pid c f) (row_logs t place pid c f)
+    go true = settled_log _ _ c f (row t place pid c f) (refusing_row t _ _ c f) (row_logs f _ pid t c)
     go false = sym (append-nil f.log)
 
 -- ---- steps and runs

@@ -1,29 +1,22 @@
 -- What calls make of the privileges of processes and objects.
-use Rattle.std.{specs.Option.option_map_or, proofs.lemmas.Bool.{eq-eqb, Decides.eqb_tells}}
+use Rattle.std.{specs.Option.option_map_or, proofs.{lemmas.Bool.{eq-eqb, Decides.eqb_tells}, Common.{◌∙◌, subst, arith, inl, inr, if◌then◌else◌}}}
 use Rattle.std.proofs.Common.{◌≡◌, ◌≢◌, ◌==◌, ℕ, Bool, true, false, true≢false, List, [], ◌∷◌, ◌++◌, Option, Some, None, is_some, option_map, refl, sym, ap}
-use Rattle.std.proofs.Common.{◌∙◌, subst, arith, inl, inr, if◌then◌else◌}
 use Rattle.ix_label.specs.Category.{Categories, bottom, join}
-use Rattle.ix_model.specs.world.{Naming.PathOf, Privs.{either_of, without, to_grant}, World.{Frame, World, Object, Process, at, change, lives}}
-use Rattle.ix_model.specs.{rows.Refusals.keeps_label, rows.Outcomes.{Outcome, Refuse, Pass}, rows.Rows.affect, rows.Walks.{OpenFile, behind, object_at}}
-use Rattle.ix_model.specs.{rows.OnPaths.{create_at, make_dir}, rows.OnDescriptors.LengthChecks, rows.OnProcesses.{kept_fds, fork, exec}, rows.Telling.told}
-use Rattle.ix_model.specs.{rows.OnLabels.{set_priv, drop_lic, grant_lic}, rows.Table.{Decision, row, settled, verdict}}
+use Rattle.ix_model.specs.{world.{Naming.PathOf, Privs.{either_of, without, to_grant}, World.{Frame, World, Object, Process, at, change, lives}}, history.Step.pex_answer}
+use Rattle.ix_model.specs.rows.{Outcomes.{Outcome, Refuse, Pass}, Rows.affect, Walks.{OpenFile, object_at}}
+use Rattle.ix_model.{specs.rows.{OnDescriptors.LengthChecks, OnProcesses.{kept_fds, fork, exec}, Telling.told}, proofs.tables.{Tables.at_changed, Finds.at_change}}
+use Rattle.ix_model.{specs.rows.{OnLabels.{set_priv, drop_lic, grant_lic}, Table.{Decision, row, settled, verdict}}, proofs.words.Ends.ends_change_object}
 use Rattle.ix_model.specs.{history.{AuditLog.{object_of_path, is_answer}, Events.Op}, declared.{call.Keep.Keep, privs.PrivSet.PrivSet, reply.Reply.Reply}}
 use Rattle.ix_model.specs.history.Step.{step, answer, plainly, read_answer, write_answer, cut_answer, seek_answer, stat_answer, exit_answer, wait_answer}
-use Rattle.ix_model.specs.history.Step.{pex_answer}
 use Rattle.ix_model.specs.laws.Privileged.{Privileges, Carried, privileges, carried_by, carried_at, carries_none, privileges_after, carried_after, PrivilegesAs}
+use Rattle.ix_model.proofs.words.{Living.is_living, RowEnds.{endings, ends_exercise, ends_logged}, Answered.step_frame}
+use Rattle.ix_model.proofs.refused.{Seeing.{Seen, seen_nothing, ends_seen, ends_seen_walk}, Refusing.{Relabelled, relabelled_itself, refusing_row}}
+use Rattle.ix_model.proofs.words.Ends.{Ends, Anything, ends_change_caller, ends_bind, ends_then, ends_caller, ends_object, ends_need, ends_pass, ends_there, ends_kept}
+use Rattle.ix_model.proofs.told.Unmoved.{CallersOwn, Unmoved, unmoved_itself, kept_change, kept_push, u_affect, loss, u_row}
 use Rattle.ix_model.specs.history.Events as op
 use Rattle.ix_model.specs.declared.reply.Kind.TheVariants as kind
 use Rattle.ix_model.specs.declared.reply.Reply.TheVariants as reply
 use Rattle.ix_model.specs.declared.refusal.Refusal.TheVariants as refusal
-use Rattle.ix_model.proofs.tables.{Tables.at_changed, Finds.at_change}
-use Rattle.ix_model.proofs.words.{Living.is_living, Keeps.Keeps, Endings.ends_add_process, RowEnds.{ends_exercise, ends_logged}, Answered.step_frame}
-use Rattle.ix_model.proofs.refused.{Seeing.{Seen, seen_nothing, ends_seen, ends_seen_walk}, Refusing.{Relabelled, relabelled_itself, refusing_row}}
-use Rattle.ix_model.proofs.words.Ends.{Ends, Anything, ends_bind, ends_then, ends_caller, ends_object, ends_need, ends_frame, ends_pass, ends_there, ends_kept}
-use Rattle.ix_model.proofs.words.Ends.{ends_change_caller, ends_change_object}
-use Rattle.ix_model.proofs.told.Unmoved.{CallersOwn, Unmoved, unmoved_itself, kept_change, kept_push, u_affect, u_make, u_link_at, u_unlink_at, u_remove_dir}
-use Rattle.ix_model.proofs.told.Unmoved.{u_open_at, u_change_dir, u_stat_at, u_list_at, u_read_fd, u_write_fd, u_cut_fd, u_seek_fd, u_dup_fd, u_close_fd, u_pex}
-use Rattle.ix_model.proofs.told.Unmoved.{u_make_pipe, u_unpex, u_exit, u_wait_child, u_label_of, u_self_label, u_set_label, u_set_self, u_freeze, u_freeze_self}
-use Rattle.ix_model.proofs.told.Unmoved.{u_thaw, u_thaw_self, u_set_ceiling, u_read_log}
 
 module _ (f : Frame) (pid : ℕ) where
   pub Moves : Op → Frame → Type 0
@@ -43,9 +36,9 @@ module _ (f : Frame) (pid : ℕ) where
   -- a frame that differs in the caller's label alone
   unmoved_relabelled : (b : Bool) (g : Frame) → Relabelled pid f g → Unmoved f pid b g
   unmoved_relabelled b g r =
-      let u = unmoved_itself f pid b in
+      let u = unmoved_itself f _ b in
       subst (Unmoved f pid b) (sym r.is) (record {
-        processes = kept_change _ _ f.processes f.processes pid (λ p. record p { label = r.label }) (λ p. refl)
+        processes = kept_change _ _ _ _ _ _ (λ p. refl)
             u.processes;
         objects = u.objects;
         lasting = u.lasting;
@@ -53,10 +46,10 @@ module _ (f : Frame) (pid : ℕ) where
 
   unmoved_seen : (s : Categories) (b : Bool) (g : Frame) → Seen pid f s g → Unmoved f pid b g
   unmoved_seen s b g r =
-      let u = unmoved_itself f pid b in
+      let u = unmoved_itself f _ b in
       subst (Unmoved f pid b) (sym r.is) (record {
         processes =
-            kept_change _ _ f.processes f.processes pid (λ p. record p { label = join p.label s }) (λ p. refl) u.processes;
+            kept_change _ _ _ _ _ _ (λ p. refl) u.processes;
         objects = u.objects;
         lasting =
             u.lasting;
@@ -64,7 +57,7 @@ module _ (f : Frame) (pid : ℕ) where
 
   -- ---- one process changes
   same_number : (p n : ℕ) (A : Type 0) (a b : A) → p ≡ n → (if p == n then a else b) ≡ a
-  same_number p n A a b e = rw (eq-eqb p n e) refl
+  same_number p n A a b e = rw eq-eqb refl
 
   other_number : (p n : ℕ) (A : Type 0) (a b : A) → p ≢ n → (if p == n then a else b) ≡ b
   other_number p n A a b e = elim (eqb_tells p n) [
@@ -75,14 +68,14 @@ module _ (f : Frame) (pid : ℕ) where
   module _ (h : Frame) (n : ℕ) (k : Process → Process) (to : Process → Privileges) (u : Unmoved f pid false h) where
     process_moves : ((q was : Process) → privileges was ≡ privileges q → privileges (k was) ≡ to q) → (p : ℕ) (q r : Process) → at f.processes p ≡ Some q
         → at (change h.processes n k) p ≡ Some r → privileges r ≡ (if p == n then to q else privileges q)
-    process_moves makes p q r is seen = elim (at_change h.processes n k p r seen) [
-      | inl c ↦ ap privileges c.same ∙ makes q c.was (u.processes.same p q c.was is (ap (at h.processes) c.here ∙ c.is_was)) ∙ sym (same_number p n Privileges (to q) (privileges q) c.here)
-      | inr other ↦ u.processes.same p q r is other.1 ∙ sym (other_number p n Privileges (to q) (privileges q) other.0)
+    process_moves makes p q r is seen = elim (at_change _ n k p r seen) [
+      | inl c ↦ ap privileges c.same ∙ makes q _ (u.processes.same p q c.was is (ap (at h.processes) c.here ∙ c.is_was)) ∙ sym (same_number p n _ _ _ c.here)
+      | inr other ↦ u.processes.same p q r is other.1 ∙ sym (other_number p n _ _ _ other.0)
     ]
 
     process_new : ((was : Process) → at h.processes n ≡ Some was → is_some (at f.processes n) ≡ true) → (p : ℕ) (r : Process) → at f.processes p ≡ None
         → at (change h.processes n k) p ≡ Some r → CallersOwn f pid (privileges r)
-    process_new stood p r is seen = elim (at_change h.processes n k p r seen) [
+    process_new stood p r is seen = elim (at_change _ n k p r seen) [
       | inl c ↦ absurd (true≢false (sym (stood c.was c.is_was) ∙ ap (λ m. is_some (at f.processes m)) (sym c.here) ∙ ap is_some is))
       | inr other ↦ u.processes.fresh p r is other.1
     ]
@@ -90,21 +83,13 @@ module _ (f : Frame) (pid : ℕ) where
   -- ---- Fork
   fork_moves : (keep : Keep) → Ends (fork pid keep f) Anything (λ a g. Moves (op.Fork keep) g)
   unfolding fork Moves
-  fork_moves keep =
-      let Q : Reply → Frame → Type 0 = λ a g. Moves (op.Fork keep) g in
-      ends_bind _ _ f Anything Q (ends_caller pid f Anything _ (λ p lives.
-      ends_then _ _ f Anything Q (ends_need _ _ f Anything _ (λ kept.
-      ends_bind _ _ f Anything Q (ends_frame f Anything _ (
-      ends_then _ _ f Anything Q (ends_need _ _ f Anything _ (λ room.
-      ends_then _ _ f Anything Q (ends_add_process _ f Anything _ (
-      ends_pass _ _ Anything Q (forked p keep (is_living _ p lives)))))
-      tt)))) tt)) tt)
+  fork_moves keep = search (endings, is_living, forked) depth 60 fits 8000
     where
       forked : (p : Process) (keep : Keep) → at f.processes pid ≡ Some p
           → Moves (op.Fork keep) (record f { processes = f.processes ++ Some (record p { parent = Some pid; fds = kept_fds keep p.fds }) ∷ [] })
       forked p keep is =
-          let u = unmoved_itself f pid false in
-          stays (op.Fork keep) false _ (λ p q. refl) (λ o x. refl) (record {
+          let u = unmoved_itself f _ false in
+          stays _ false _ (λ p q. refl) (λ o x. refl) (record {
             processes =
                 kept_push _ _ f.processes f.processes _ (omega arith) (ap (option_map privileges) is) u.processes;
             objects = u.objects;
@@ -114,9 +99,7 @@ module _ (f : Frame) (pid : ℕ) where
   -- ---- DropLic
   drop_lic_moves : (some : PrivSet) → Ends (drop_lic pid some f) Anything (λ a g. Moves (op.DropLic some) g)
   unfolding drop_lic Moves
-  drop_lic_moves some =
-      let Q : Reply → Frame → Type 0 = λ a g. Moves (op.DropLic some) g in
-      ends_then _ _ f Anything Q (ends_change_caller pid _ f Anything _ (ends_pass _ _ Anything Q dropped))
+  drop_lic_moves some = search (endings, dropped) depth 60 fits 8000
     where
       fewer : Process → Process
       fewer p = record p { cap = without p.cap some; lic = without p.lic some; own = without p.own some }
@@ -137,13 +120,7 @@ module _ (f : Frame) (pid : ℕ) where
   -- ---- GrantLic
   grant_lic_moves : (place target : ℕ) (some : PrivSet) → Ends (grant_lic place pid target some f) Anything (λ a g. Moves (op.GrantLic target some) g)
   unfolding grant_lic Moves
-  grant_lic_moves place target some =
-      let Q : Reply → Frame → Type 0 = λ a g. Moves (op.GrantLic target some) g in
-      ends_bind _ _ f Anything Q (ends_caller target f Anything _ (λ q lives.
-      ends_then _ _ f Anything Q (ends_exercise pid to_grant f Anything _ (λ r. tt) (
-      ends_then _ _ f Anything Q (ends_change_caller target _ f Anything _ (
-      ends_then _ _ _ Anything Q (ends_logged _ _ Anything _ (
-      ends_pass _ _ Anything Q (granted _)))))))) tt)
+  grant_lic_moves place target some = search (endings, granted) depth 60 fits 8000
     where
       more : Process → Process
       more p = record p { lic = either_of p.lic some }
@@ -153,17 +130,17 @@ module _ (f : Frame) (pid : ℕ) where
 
       granted : (l : List Rattle.ix_model.specs.declared.audit.AuditLine.AuditLine) → Moves (op.GrantLic target some) (record f { processes = change f.processes target more; log = l })
       granted l =
-          let u = unmoved_itself f pid false in
+          let u = unmoved_itself f _ _ in
           record {
-            processes = process_moves f target more sets u (λ q was same. (λ i. record { cap = (same i).cap; lic = either_of (same i).lic some; own = (same i).own }));
-            children = process_new f target more sets u (λ was is. ap is_some is);
+            processes = process_moves f _ _ _ u (λ q was same. (λ i. record { cap = (same i).cap; lic = either_of (same i).lic some; own = (same i).own }));
+            children = process_new f _ _ sets u (λ was is. ap is_some is);
             objects = u.objects.same;
             made = u.objects.fresh;
           }
 
   -- ---- Exec
   stood_before : (s : Categories) (h : Frame) → Seen pid f s h → (was : Process) → at h.processes pid ≡ Some was → is_some (at f.processes pid) ≡ true
-  stood_before s h r was is = go (at f.processes pid) (sym (ap (λ (k : Frame). at k.processes pid) r.is ∙ at_changed f.processes pid (λ (p : Process). record p { label = join p.label s })) ∙ is)
+  stood_before s h r was is = go _ (sym (ap (λ k. at k.processes pid) r.is ∙ at_changed f.processes pid (λ p. record p { label = join p.label s })) ∙ is)
     where
       go : (o : Option Process) → option_map (λ (p : Process). record p { label = join p.label s }) o ≡ Some was → is_some o ≡ true
       go None e = cc
@@ -172,7 +149,7 @@ module _ (f : Frame) (pid : ℕ) where
   carried_there : (s : Categories) (g : Frame) (path : PathOf) (o : ℕ) (x : Object) → Seen pid f s g → object_of_path f pid path ≡ Some o
       → at g.objects o ≡ Some x → carried_at f pid path ≡ carried_by x
   carried_there s g path o x r leads is =
-      let here : at f.objects o ≡ Some x = sym (ap (λ (h : Frame). at h.objects o) r.is) ∙ is in
+      let here = sym (ap (λ h. at h.objects o) r.is) ∙ is in
       rw (leads, here) refl
 
   -- a path and its object
@@ -180,8 +157,8 @@ module _ (f : Frame) (pid : ℕ) where
       → Q o g) → Ends (object_at pid path f) Anything Q
   unfolding object_at
   ends_object_at path Q next =
-      ends_bind _ _ f Anything Q (ends_seen_walk pid f path bottom f Anything _ (seen_nothing pid f) (λ r h k. tt)
-      (λ w g seen leads. ends_there w g Anything Q (λ o dir is. next o _ g seen (leads o dir is)) tt tt))
+      ends_bind _ _ f _ Q (ends_seen_walk _ f _ _ f _ _ (seen_nothing _ f) (λ r h k. tt)
+      (λ w g seen leads. ends_there w g _ Q (λ o dir is. next o _ g seen (leads o dir is)) tt tt))
 
   exec_moves : (path : PathOf) → Ends (exec pid path f) Anything (λ a g. Moves (op.Exec path) g)
   unfolding exec Moves
@@ -211,13 +188,13 @@ module _ (f : Frame) (pid : ℕ) where
   -- ---- SetPriv
   module _ (h : Frame) (n : ℕ) (k : Object → Object) (to : Carried) (u : Unmoved f pid false h) (makes : (was : Object) → carried_by (k was) ≡ to) where
     object_moves : (o : ℕ) (x y : Object) → at f.objects o ≡ Some x → at (change h.objects n k) o ≡ Some y → carried_by y ≡ (if o == n then to else carried_by x)
-    object_moves o x y is seen = elim (at_change h.objects n k o y seen) [
-      | inl c ↦ ap carried_by c.same ∙ makes c.was ∙ sym (same_number o n Carried to (carried_by x) c.here)
-      | inr other ↦ u.objects.same o x y is other.1 ∙ sym (other_number o n Carried to (carried_by x) other.0)
+    object_moves o x y is seen = elim (at_change _ n k o y seen) [
+      | inl c ↦ ap carried_by c.same ∙ makes _ ∙ sym (same_number o n _ to _ c.here)
+      | inr other ↦ u.objects.same o x y is other.1 ∙ sym (other_number o n _ to _ other.0)
     ]
 
     object_new : is_some (at f.objects n) ≡ true → (o : ℕ) (y : Object) → at f.objects o ≡ None → at (change h.objects n k) o ≡ Some y → carried_by y ≡ carries_none
-    object_new stood o y is seen = elim (at_change h.objects n k o y seen) [
+    object_new stood o y is seen = elim (at_change _ n k o y seen) [
       | inl c ↦ absurd (true≢false (sym stood ∙ ap (λ m. is_some (at f.objects m)) (sym c.here) ∙ ap is_some is))
       | inr other ↦ u.objects.fresh o y is other.1
     ]
@@ -251,65 +228,40 @@ module _ (f : Frame) (pid : ℕ) where
           }
 
   -- ---- the table
-  kept_moves : (m : Rattle.ix_model.specs.rows.Outcomes.Row Reply) (c : Op) (b : Bool) → ((p : ℕ) (q : Process) → privileges_after f pid c p q ≡ privileges q)
-      → ((o : ℕ) (x : Object) → carried_after f pid c o x ≡ carried_by x) → Keeps (Unmoved f pid b) m → Ends (m f) Anything (λ a g. Moves c g)
-  kept_moves m c b processes objects keeps = ends_kept (Unmoved f pid b) (m f) Anything (λ a g. Moves c g) (keeps.led f (unmoved_itself f pid b)) (λ r g u. tt)
-      (λ a g u. stays c b g processes objects u)
+  left_moves : (t : LengthChecks) (place : ℕ) (c : Op) (b : Bool) → ((p : ℕ) (q : Process) → privileges_after f pid c p q ≡ privileges q)
+      → ((o : ℕ) (x : Object) → carried_after f pid c o x ≡ carried_by x) → loss c ≡ Some b → Ends (row t place pid c f) Anything (λ a g. Moves c g)
+  left_moves t place c b processes objects loses =
+      ends_kept _ _ _ _ ((u_row f _ b t _ c loses).led f (unmoved_itself f _ b)) (λ r g u. tt) (λ a g. stays c b g processes objects)
 
   row_moves : (t : LengthChecks) (place : ℕ) (c : Op) → Ends (row t place pid c f) Anything (λ a g. Moves c g)
-  unfolding row create_at make_dir
-  row_moves t place (op.CreateAt path) = kept_moves _ (op.CreateAt path) false (λ p q. refl) (λ o x. refl) (u_make f pid false refl path kind.File)
-  row_moves t place (op.OpenAt path mode) = kept_moves _ (op.OpenAt path mode) false (λ p q. refl) (λ o x. refl) (u_open_at f pid false path mode)
-  row_moves t place (op.ReadFd fd count) = kept_moves _ (op.ReadFd fd count) false (λ p q. refl) (λ o x. refl) (u_read_fd f pid false t fd count)
-  row_moves t place (op.WriteFd fd bytes) = kept_moves _ (op.WriteFd fd bytes) false (λ p q. refl) (λ o x. refl) (u_write_fd f pid false t fd)
-  row_moves t place (op.CutFd fd len) = kept_moves _ (op.CutFd fd len) false (λ p q. refl) (λ o x. refl) (u_cut_fd f pid false t fd len)
-  row_moves t place (op.SeekFd fd offset) = kept_moves _ (op.SeekFd fd offset) false (λ p q. refl) (λ o x. refl) (u_seek_fd f pid false fd offset)
-  row_moves t place (op.DupFd fd) = kept_moves _ (op.DupFd fd) false (λ p q. refl) (λ o x. refl) (u_dup_fd f pid false fd)
-  row_moves t place (op.CloseFd fd) = kept_moves _ (op.CloseFd fd) true (λ p q. refl) (λ o x. refl) (u_close_fd f pid true refl fd)
-  row_moves t place op.MakePipe = kept_moves _ op.MakePipe false (λ p q. refl) (λ o x. refl) (u_make_pipe f pid false refl)
-  row_moves t place (op.MakeDir path) = kept_moves _ (op.MakeDir path) false (λ p q. refl) (λ o x. refl) (u_make f pid false refl path kind.Dir)
-  row_moves t place (op.LinkAt target path) = kept_moves _ (op.LinkAt target path) false (λ p q. refl) (λ o x. refl) (u_link_at f pid false target path)
-  row_moves t place (op.UnlinkAt path) = kept_moves _ (op.UnlinkAt path) true (λ p q. refl) (λ o x. refl) (u_unlink_at f pid true refl path)
-  row_moves t place (op.RemoveDir path) = kept_moves _ (op.RemoveDir path) true (λ p q. refl) (λ o x. refl) (u_remove_dir f pid true refl path)
-  row_moves t place (op.ChangeDir path) = kept_moves _ (op.ChangeDir path) false (λ p q. refl) (λ o x. refl) (u_change_dir f pid false path)
-  row_moves t place (op.StatAt path) = kept_moves _ (op.StatAt path) false (λ p q. refl) (λ o x. refl) (u_stat_at f pid false path)
-  row_moves t place (op.ListAt path index) = kept_moves _ (op.ListAt path index) false (λ p q. refl) (λ o x. refl) (u_list_at f pid false path index)
+  unfolding row
   row_moves t place (op.Fork keep) = fork_moves keep
   row_moves t place (op.Exec path) = exec_moves path
-  row_moves t place (op.Exit status) = kept_moves _ (op.Exit status) true (λ p q. refl) (λ o x. refl) (u_exit f pid true refl)
-  row_moves t place op.WaitChild = kept_moves _ op.WaitChild false (λ p q. refl) (λ o x. refl) (u_wait_child f pid false)
-  row_moves t place (op.LabelOf path) = kept_moves _ (op.LabelOf path) false (λ p q. refl) (λ o x. refl) (u_label_of f pid false path)
-  row_moves t place op.SelfLabel = kept_moves _ op.SelfLabel false (λ p q. refl) (λ o x. refl) (u_self_label f pid false)
-  row_moves t place (op.SetLabel path label) = kept_moves _ (op.SetLabel path label) false (λ p q. refl) (λ o x. refl) (u_set_label f pid false place path label)
-  row_moves t place (op.SetSelf label) = kept_moves _ (op.SetSelf label) false (λ p q. refl) (λ o x. refl) (u_set_self f pid false place label)
-  row_moves t place (op.Freeze path) = kept_moves _ (op.Freeze path) false (λ p q. refl) (λ o x. refl) (u_freeze f pid false path)
-  row_moves t place op.FreezeSelf = kept_moves _ op.FreezeSelf false (λ p q. refl) (λ o x. refl) (u_freeze_self f pid false)
-  row_moves t place (op.Thaw path) = kept_moves _ (op.Thaw path) false (λ p q. refl) (λ o x. refl) (u_thaw f pid false place path)
-  row_moves t place op.ThawSelf = kept_moves _ op.ThawSelf false (λ p q. refl) (λ o x. refl) (u_thaw_self f pid false place)
   row_moves t place (op.SetPriv path caps lics) = set_priv_moves place path caps lics
   row_moves t place (op.DropLic some) = drop_lic_moves some
   row_moves t place (op.GrantLic target some) = grant_lic_moves place target some
-  row_moves t place (op.SetCeiling target label) = kept_moves _ (op.SetCeiling target label) false (λ p q. refl) (λ o x. refl) (u_set_ceiling f pid false place target label)
-  row_moves t place (op.Pex fd) = kept_moves _ (op.Pex fd) false (λ p q. refl) (λ o x. refl) (u_pex f pid false fd)
-  row_moves t place (op.Unpex fd) = kept_moves _ (op.Unpex fd) false (λ p q. refl) (λ o x. refl) (u_unpex f pid false fd)
-  row_moves t place (op.ReadLog index) = kept_moves _ (op.ReadLog index) false (λ p q. refl) (λ o x. refl) (u_read_log f pid false place index)
+  row_moves t place (op.CloseFd fd) = left_moves t place (op.CloseFd fd) true (λ p q. refl) (λ o x. refl) refl
+  row_moves t place (op.UnlinkAt path) = left_moves t place (op.UnlinkAt path) true (λ p q. refl) (λ o x. refl) refl
+  row_moves t place (op.RemoveDir path) = left_moves t place (op.RemoveDir path) true (λ p q. refl) (λ o x. refl) refl
+  row_moves t place (op.Exit status) = left_moves t place (op.Exit status) true (λ p q. refl) (λ o x. refl) refl
+  row_moves t place c = left_moves t place c false (λ p q. refl) (λ o x. refl) refl
 
 -- ---- the decision
 -- a refusal leaves all privileges
 refused_moves : (f g : Frame) (pid : ℕ) (c : Op) → Relabelled pid f g → PrivilegesAs f g pid c false
 refused_moves f g pid c r =
-    let u = unmoved_relabelled f pid false g r in
-    record { processes = u.processes.same; children = u.processes.fresh; objects = u.objects.same; made = u.objects.fresh }
+    let u = unmoved_relabelled f _ false g r in
+    search
 
 settled_moves : (f : Frame) (pid : ℕ) (c : Op) (o : Outcome Reply) → Ends o (λ r g. Relabelled pid f g) (λ a g. is_answer a ≡ true)
     → Ends o Anything (λ a g. Moves f pid c g) → PrivilegesAs f (settled f o).frame pid c (is_answer (settled f o).reply)
 unfolding Ends Moves
-settled_moves f pid c (Refuse r g) h k = go (keeps_label r)
+settled_moves f pid c (Refuse r g) h k = go _
   where
     go : (b : Bool) → PrivilegesAs f (if b then g else f) pid c false
-    go true = refused_moves f g pid c h
-    go false = refused_moves f f pid c (relabelled_itself pid f)
-settled_moves f pid c (Pass a g) h k = subst (λ (b : Bool). PrivilegesAs f g pid c b) (sym h) k
+    go true = refused_moves f g _ c h
+    go false = refused_moves f f _ c (relabelled_itself _ f)
+settled_moves f pid c (Pass a g) h k = subst (λ b. PrivilegesAs f g pid c b) (sym h) k
 
 decided_moves : (t : LengthChecks) (place pid : ℕ) (c : Op) (f : Frame) → PrivilegesAs f (verdict t place pid c f).frame pid c (is_answer (verdict t place pid c f).reply)
 unfolding verdict
@@ -366,14 +318,14 @@ answers_pex w None a g = refl
 
 answers_as_decided : (w : World) (place pid : ℕ) (c : Op) → is_answer (step w place pid c).reply ≡ is_answer (verdict (told w pid c) place pid c w.frame).reply
 unfolding step answer plainly
-answers_as_decided w place pid (op.ReadFd fd count) = answers_read w count (behind w.frame pid fd) _ _
-answers_as_decided w place pid (op.WriteFd fd bytes) = answers_write w bytes (behind w.frame pid fd) _ _
-answers_as_decided w place pid (op.CutFd fd len) = answers_cut w len (behind w.frame pid fd) _ _
-answers_as_decided w place pid (op.SeekFd fd offset) = answers_seek w offset (behind w.frame pid fd) _ _
+answers_as_decided w place pid (op.ReadFd fd count) = answers_read w _ _ _ _
+answers_as_decided w place pid (op.WriteFd fd bytes) = answers_write w _ _ _ _
+answers_as_decided w place pid (op.CutFd fd len) = answers_cut w _ _ _ _
+answers_as_decided w place pid (op.SeekFd fd offset) = answers_seek w _ _ _ _
 answers_as_decided w place pid (op.StatAt path) = answers_stat w _ _
-answers_as_decided w place pid (op.Exit status) = answers_exit w pid status _ _
+answers_as_decided w place pid (op.Exit status) = answers_exit w _ _ _ _
 answers_as_decided w place pid op.WaitChild = answers_wait w _ _
-answers_as_decided w place pid (op.Pex fd) = answers_pex w (behind w.frame pid fd) _ _
+answers_as_decided w place pid (op.Pex fd) = answers_pex w _ _ _
 answers_as_decided w place pid _ = refl
 
 pub privileges_move : (w : World) (place pid : ℕ) (c : Op) → PrivilegesAs w.frame (step w place pid c).world.frame pid c (is_answer (step w place pid c).reply)

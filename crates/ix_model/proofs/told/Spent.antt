@@ -1,9 +1,8 @@
 -- A pid is used once.
-use Rattle.std.proofs.Common.{◌≡◌, ℕ, suc, Bool, true, false, not, List, [], ◌∷◌, length, Option, Some, None, is_none, is_some, refl, ap, ◌∙◌, arith}
-use Rattle.std.proofs.Common.{length-set, length-append, if◌then◌else◌}
+use Rattle.std.proofs.Common.{◌≡◌, ℕ, suc, Bool, true, false, not, List, [], ◌∷◌, length, Option, Some, None, is_none, refl, ap, ◌∙◌, arith, length-set, length-append, if◌then◌else◌}
 use Rattle.std.{specs.Option.{option_map_or, option_and_then}, proofs.Math.ListN.get_or-append}
-use Rattle.ix_model.specs.{world.World.{World, Frame, Process, at}, rows.Auditing.logged, rows.OnProcesses.{remains, end_process}, rows.Table.verdict}
-use Rattle.ix_model.specs.{rows.Rows.{change_object, change_process, put_object, put_open, put_process, add_process, change_open}, rows.Telling.told}
+use Rattle.ix_model.specs.{world.World.{World, Frame, Process, at}, rows.{Auditing.logged, OnProcesses.{remains, end_process}, Table.verdict}}
+use Rattle.ix_model.specs.rows.{Rows.{change_object, change_process, put_object, put_open, put_process, add_process, change_open}, Telling.told}
 use Rattle.ix_model.specs.{rows.OnDescriptors.LengthChecks, history.{Step.{step, step_of, run}, Events.{Op, Event}}, laws.Laws.PidsSpent}
 use Rattle.ix_model.proofs.tables.Tables.{none_is, seen_changed, seen_put}
 use Rattle.ix_model.proofs.words.{Keeps.{Holds, Keeps}, Rowwise.{Words, all, bears_all, changes_of, kept_row}, Lasts.decided, Answered.step_frame}
@@ -26,7 +25,7 @@ spent_table : (f g : Frame) (t : List (Option Process)) → length t ≡ length 
     → PidsSpent f g → PidsSpent f (record g { processes = t })
 spent_table f g t long none dead r = record {
   grown = omega (arith, long, r.grown);
-  gone = λ p low is. none_is (at t p) (none p (ap is_none (r.gone p low is)));
+  gone = λ p low is. none_is _ (none p (ap is_none (r.gone p low is)));
   ended = λ p is low. dead p (r.ended p is low);
 }
 
@@ -41,8 +40,8 @@ module _ (f : Frame) where
   spent_collect : (p : ℕ) → Keeps (PidsSpent f) (put_process p None)
   unfolding put_process Holds
   spent_collect p = record {
-    led = λ g r. spent_table f g _ (length-set g.processes p None) (λ m is. seen_put is_none true g.processes p None m (λ k. refl) is)
-        (λ m is. seen_put lives_as false g.processes p None m (λ k. refl) is) r;
+    led = λ g r. spent_table f g _ (length-set g.processes p None) (λ m is. seen_put is_none _ g.processes p None m (λ k. refl) is)
+        (λ m is. seen_put lives_as _ g.processes p None m (λ k. refl) is) r;
   }
 
   remains_none : (o : Option Process) → is_none o ≡ true → is_none (option_and_then remains o) ≡ true
@@ -51,7 +50,7 @@ module _ (f : Frame) where
 
   remains_dead : (o : Option Process) → lives_as (option_and_then remains o) ≡ false
   remains_dead None = refl
-  remains_dead (Some p) = go (is_some p.parent)
+  remains_dead (Some p) = go _
     where
       go : (b : Bool) → lives_as (if b then Some (record p { ended = true }) else None) ≡ false
       go true = refl
@@ -61,8 +60,8 @@ module _ (f : Frame) where
   unfolding end_process put_process Holds
   spent_end pid = record {
     led =
-        λ g r. spent_table f g _ (length-set g.processes pid _) (λ m is. seen_put is_none true g.processes pid _ m (remains_none (at g.processes pid)) is)
-        (λ m is. seen_put lives_as false g.processes pid _ m (λ k. remains_dead (at g.processes pid)) is) r;
+        λ g r. spent_table f g _ (length-set g.processes pid _) (λ m is. seen_put is_none _ g.processes pid _ m (remains_none (at g.processes pid)) is)
+        (λ m is. seen_put lives_as _ g.processes pid _ m (λ k. remains_dead (at g.processes pid)) is) r;
   }
 
   spent_add : (p : Process) → Keeps (PidsSpent f) (add_process p)
@@ -70,8 +69,8 @@ module _ (f : Frame) where
   spent_add p = record {
     led = λ g r. record {
       grown = omega (arith, r.grown, length-append g.processes (Some p ∷ []));
-      gone = λ m low is. get_or-append g.processes (Some p ∷ []) None m (omega (arith, low, r.grown)) ∙ r.gone m low is;
-      ended = λ m is low. ap lives_as (get_or-append g.processes (Some p ∷ []) None m (omega (arith, low, r.grown))) ∙ r.ended m is low;
+      gone = λ m low is. get_or-append g.processes _ None m (omega (arith, low, r.grown)) ∙ r.gone m low is;
+      ended = λ m is low. ap lives_as (get_or-append g.processes _ None m (omega (arith, low, r.grown))) ∙ r.ended m is low;
     };
   }
 
@@ -80,7 +79,7 @@ module _ (f : Frame) where
   spent_words pid = record {
     object = λ o h same. record { led = λ g r. same_processes f g _ refl r };
     process = λ p h same. spent_processes p h (λ q. ap (λ x. x.ended) (same q));
-    float = λ h same. spent_processes pid h (λ q. ap (λ x. x.ended) (same q));
+    float = λ h same. spent_processes _ h (λ q. ap (λ x. x.ended) (same q));
     entry = λ e x low. record { led = λ g r. same_processes f g _ refl r };
     through = λ can e l. record { led = λ g r. same_processes f g _ refl r };
     unclaim = λ o end. record { led = λ g r. same_processes f g _ refl r };
@@ -92,7 +91,7 @@ module _ (f : Frame) where
     gone_object = λ can o. record { led = λ g r. same_processes f g _ refl r };
     gone_open = λ can e. record { led = λ g r. same_processes f g _ refl r };
     fork = λ can. spent_add;
-    end = λ can. spent_end pid;
+    end = λ can. spent_end _;
     collect = λ can. spent_collect;
   }
 

@@ -3,23 +3,14 @@ use Rattle.std.proofs.Common.{◌≡◌, ◌≢◌, ◌≤◌, ◌<◌, ◌==◌
 use Rattle.std.proofs.Common.{refl, sym, ap, ◌∙◌, arith, length-set, length-append, inl, inr, true≢false}
 use Rattle.std.{specs.List.list_all, proofs.{lemmas.{Bool.{eqb-false, Decides.eqb_tells}, List.get_or-set_other}, Math.ListN.get_or-append}}
 use Rattle.ix_label.specs.Category.{Categories}
-use Rattle.ix_model.specs.{world.{Naming.PathOf, Numbers.free_inode, World.{World, Frame, Object, Process, at, put, change, Open}}, rows.Outcomes.Row}
-use Rattle.ix_model.specs.{rows.Walks.{walked_to, object_at, spot_at, missing, opened, OpenFile}, rows.Lifetimes.let_go_object, rows.Auditing.logged}
-use Rattle.ix_model.specs.{rows.OnPaths.{new_object, make, create_at, make_dir, link_at, unlink_at, remove_dir}, rows.OnProcesses.end_process}
-use Rattle.ix_model.specs.{rows.OnDescriptors.{LengthChecks, write_fd, cut_fd, float_entry}, rows.OnLabels.{set_label, freeze, set_priv}, rows.Telling.told}
-use Rattle.ix_model.specs.{rows.Table.{row, verdict}, history.{Step.step, Events.Op}, laws.Laws.LabelsStay}
-use Rattle.ix_model.specs.declared.{privs.PrivSet.PrivSet, audit.AuditLine.AuditLine, refusal.Refusal.Refusal, reply.Kind.Kind}
-use Rattle.ix_model.specs.rows.Rows.{◌>>=◌, ◌>>◌, some, only_if, frame, change_object, change_process, put_object, put_open, put_process, add_process, observe}
-use Rattle.ix_model.specs.rows.Rows.{affect, change_open}
-use Rattle.ix_model.specs.history.Events as op
-use Rattle.ix_model.specs.declared.reply.Kind.TheVariants as kind
-use Rattle.ix_model.proofs.{tables.{Tables.seen_changed, FreeNumbers.{free_inode_is, free_pipe_is}}, words.Answered.step_frame}
-use Rattle.ix_model.proofs.words.Keeps.{Holds, Keeps, keeping, keeping_tests, keeps_only_if}
-use Rattle.ix_model.proofs.words.Lasts.{Lasting, lasting_itself, lasting_change, lasting_put, decided}
+use Rattle.ix_model.{specs.{world.{Numbers.free_inode, World.{World, Frame, Object, Process, at, put, change, Open}}, rows.Rows.{affect, change_open}}, proofs.words.OpenRows.open_row}
+use Rattle.ix_model.{specs.rows.{Walks.OpenFile, Lifetimes.let_go_object, Auditing.logged, OnPaths.new_object, OnProcesses.end_process}, proofs.words.Turns.{Turns, holds_more, turning}}
+use Rattle.ix_model.specs.rows.{OnDescriptors.{LengthChecks, float_entry}, Telling.told, Rows.{change_object, change_process, put_object, put_open, put_process, add_process}}
+use Rattle.ix_model.specs.{rows.Table.{row, verdict}, history.{Step.step, Events.Op}, laws.Laws.LabelsStay, declared.{audit.AuditLine.AuditLine, reply.Kind.Kind}}
+use Rattle.ix_model.proofs.{tables.{Tables.seen_changed, FreeNumbers.{free_inode_is, free_pipe_is}}, words.{Answered.step_frame, Keeps.{Holds, Keeps, keeping, keeping_tests, keeps_only_if}}}
+use Rattle.ix_model.proofs.words.{Lasts.{Lasting, lasting_itself, lasting_change, lasting_put, decided}, Rowwise.{kept_found_in, kept_missing, kept_opened, kept_row}}
 use Rattle.ix_model.proofs.words.Rowwise.{Change, Relabelling, Making, LettingGo, Words, changes_of, object_core, kept_observe, kept_walked_to, kept_found}
-use Rattle.ix_model.proofs.words.Rowwise.{kept_found_in, kept_missing, kept_opened, kept_row}
-use Rattle.ix_model.proofs.words.Turns.{Turns, holds_more, turns_bind_frame, turns_bind_some, turns_bind_first, turns_then_first, turns_then_last}
-use Rattle.ix_model.proofs.words.Turns.{turns_only_if}
+use Rattle.ix_model.specs.history.Events as op
 
 -- ---- tables
 -- what stands in both has the same in both, but at the numbers of the exception
@@ -28,7 +19,7 @@ record Alike {A B : Type 0} (get : A → B) (but : ℕ → Bool) (t u : List (Op
 
 module _ {A B : Type 0} (get : A → B) (but : ℕ → Bool) where
   alike_itself : (t : List (Option A)) → Alike get but t t
-  alike_itself t = record { same = λ n x z other is seen. let h : Some z ≡ Some (get x) = sym seen ∙ ap (option_map get) is in cc }
+  alike_itself t = record { same = λ n x z other is seen. let h = sym seen ∙ ap (option_map get) is in cc }
 
   alike_change : (t u : List (Option A)) (n : ℕ) (h : A → A) → ((x : A) → get (h x) ≡ get x) → Alike get but t u → Alike get but t (change u n h)
   alike_change t u n h keeps r = record { same = λ m x z other is seen. r.same m x z other is (sym (seen_changed (option_map get) h (λ y. ap Some (keeps y)) u n m) ∙ seen) }
@@ -51,7 +42,7 @@ module _ {A B : Type 0} (get : A → B) (but : ℕ → Bool) where
   alike_new : (t u : List (Option A)) (n : ℕ) (y : Option A) → at t n ≡ None → Alike get but t u → Alike get but t (put u n y)
   alike_new t u n y free r = record {
     same = λ m x z other is seen. elim (eqb_tells m n) [
-      | inl here ↦ let h : None ≡ Some x = sym free ∙ ap (at t) (sym here.1) ∙ is in cc
+      | inl here ↦ let h = sym free ∙ ap (at t) (sym here.1) ∙ is in cc
       | inr apart ↦ r.same m x z other is (ap (option_map get) (sym (get_or-set_other u n m y None apart.1)) ∙ seen)
     ];
   }
@@ -79,7 +70,7 @@ module _ (pid : ℕ) (f : Frame) where
   steady_itself = record { objects = alike_itself _ _ f.objects; processes = alike_itself _ _ f.processes; grown = omega arith }
 
   with_objects : (g : Frame) (t : List (Option Object)) → Alike (λ (x : Object). x.label) (λ n. false) f.objects t → Steady pid f g → Steady pid f (record g { objects = t })
-  with_objects g t a r = record { objects = a; processes = r.processes; grown = r.grown }
+  with_objects g t a r = search
 
   with_processes : (g : Frame) (t : List (Option Process)) → length g.processes ≤ length t → Alike (λ (p : Process). p.label) (λ n. n == pid) f.processes t
       → Steady pid f g → Steady pid f (record g { processes = t })
@@ -89,26 +80,26 @@ module _ (pid : ℕ) (f : Frame) where
   apart m other = eqb-false m pid other
 
   steady_object : (g : Frame) (o : ℕ) (h : Object → Object) → ((x : Object) → (h x).label ≡ x.label) → Steady pid f g → Steady pid f (record g { objects = change g.objects o h })
-  steady_object g o h same r = with_objects g _ (alike_change _ _ f.objects g.objects o h same r.objects) r
+  steady_object g o h same r = with_objects g _ (alike_change _ _ _ _ o h same r.objects) r
 
   steady_process : (g : Frame) (p : ℕ) (h : Process → Process) → ((q : Process) → (h q).label ≡ q.label) → Steady pid f g → Steady pid f (record g { processes = change g.processes p h })
-  steady_process g p h same r = with_processes g _ (omega (arith, length-set g.processes p (option_map h (at g.processes p)))) (alike_change _ _ f.processes g.processes p h same r.processes) r
+  steady_process g p h same r = with_processes g _ (omega (arith, length-set g.processes p (option_map h (at g.processes p)))) (alike_change _ _ _ _ p h same r.processes) r
 
   -- whatever becomes of the caller
   steady_caller : (g : Frame) (x : Option Process) → Steady pid f g → Steady pid f (record g { processes = put g.processes pid x })
-  steady_caller g x r = with_processes g _ (omega (arith, length-set g.processes pid x)) (alike_but _ _ f.processes g.processes pid x apart r.processes) r
+  steady_caller g x r = with_processes g _ (omega (arith, length-set g.processes pid x)) (alike_but _ _ _ _ pid x apart r.processes) r
 
   steady_gone : (g : Frame) (p : ℕ) → Steady pid f g → Steady pid f (record g { processes = put g.processes p None })
-  steady_gone g p r = with_processes g _ (omega (arith, length-set g.processes p None)) (alike_gone _ _ f.processes g.processes p r.processes) r
+  steady_gone g p r = with_processes g _ (omega (arith, length-set g.processes p None)) (alike_gone _ _ _ g.processes p r.processes) r
 
   steady_fork : (g : Frame) (p : Process) → Steady pid f g → Steady pid f (record g { processes = g.processes ++ Some p ∷ [] })
-  steady_fork g p r = with_processes g _ (omega (arith, length-append g.processes (Some p ∷ []))) (alike_more _ _ f.processes g.processes (Some p ∷ []) r.grown r.processes) r
+  steady_fork g p r = with_processes g _ (omega (arith, length-append g.processes (Some p ∷ []))) (alike_more _ _ _ g.processes (Some p ∷ []) r.grown r.processes) r
 
   steady_new : (g : Frame) (o : ℕ) (x : Option Object) → at f.objects o ≡ None → Steady pid f g → Steady pid f (record g { objects = put g.objects o x })
-  steady_new g o x free r = with_objects g _ (alike_new _ _ f.objects g.objects o x free r.objects) r
+  steady_new g o x free r = with_objects g _ (alike_new _ _ _ _ o x free r.objects) r
 
   steady_lost : (g : Frame) (o : ℕ) → Steady pid f g → Steady pid f (record g { objects = put g.objects o None })
-  steady_lost g o r = with_objects g _ (alike_gone _ _ f.objects g.objects o r.objects) r
+  steady_lost g o r = with_objects g _ (alike_gone _ _ _ g.objects o r.objects) r
 
   -- ---- where nothing is made
   makes_none : Change → Bool
@@ -143,11 +134,11 @@ module _ (pid : ℕ) (f : Frame) where
     lasting : Lasting f.objects g.objects
 
   staying_itself : Staying f
-  staying_itself = record { steady = steady_itself; lasting = lasting_itself f.objects }
+  staying_itself = record { steady = steady_itself; lasting = lasting_itself _ }
 
   -- where nothing stands now, nothing stood
   fresh : (g : Frame) (o : ℕ) → Lasting f.objects g.objects → at g.objects o ≡ None → at f.objects o ≡ None
-  fresh g o lasting free = go (at f.objects o) refl
+  fresh g o lasting free = go _ refl
     where
       go : (x : Option Object) → at f.objects o ≡ x → x ≡ None
       go None is = refl
@@ -165,7 +156,7 @@ module _ (pid : ℕ) (f : Frame) where
   staying_object g o h same r = record { steady = steady_object g o h same r.steady; lasting = lasting_change _ _ o h r.lasting }
 
   staying_new : (g : Frame) (o : ℕ) (x : Object) → at f.objects o ≡ None → Staying g → Staying (record g { objects = put g.objects o (Some x) })
-  staying_new g o x free r = record { steady = steady_new g o (Some x) free r.steady; lasting = lasting_put _ _ o x r.lasting }
+  staying_new g o x free r = record { steady = steady_new g o _ free r.steady; lasting = lasting_put _ _ o x r.lasting }
 
   staying_words : Words loses_none pid Staying
   unfolding loses_none change_object change_process change_open put_object put_open put_process add_process end_process logged Holds
@@ -205,7 +196,7 @@ module _ (pid : ℕ) (f : Frame) where
   turn_change o h = record {
     led = λ g r. record {
       number = o;
-      objects = alike_but _ _ f.objects g.objects o _ (λ m other. eqb-false m o other) (record { same = λ n x z other is seen. r.steady.objects.same n x z refl is seen });
+      objects = alike_but _ _ _ _ o _ (λ m other. eqb-false m o other) (record { same = λ n x z other is seen. r.steady.objects.same n x z refl is seen });
       processes = r.steady.processes;
     };
   }
@@ -213,7 +204,7 @@ module _ (pid : ℕ) (f : Frame) where
   -- and then no other's
   then_object : (o : ℕ) (h : Object → Object) → ((x : Object) → object_core (h x) ≡ object_core x) → Keeps Touched (change_object o h)
   unfolding change_object Holds
-  then_object o h same = record { led = λ g r. record { number = r.number; objects = alike_change _ _ f.objects g.objects o h (λ x. ap (λ y. y.label) (same x)) r.objects; processes = r.processes } }
+  then_object o h same = record { led = λ g r. record { number = r.number; objects = alike_change _ _ _ _ o h (λ x. ap (λ y. y.label) (same x)) r.objects; processes = r.processes } }
 
   then_inode : (m : Frame) (o k : ℕ) (kind : Kind) → Staying m → free_inode m k ≡ Some o → Keeps Touched (put_object o (Some (new_object kind (Some k))))
   unfolding put_object Holds
@@ -229,7 +220,7 @@ module _ (pid : ℕ) (f : Frame) where
 
   then_let_go : (o : ℕ) → Keeps Touched (let_go_object o)
   unfolding let_go_object
-  then_let_go o = record { led = λ g. (keeps_only_if Touched _ (put_object o None) (then_gone o)).led g }
+  then_let_go o = record { led = λ g. (keeps_only_if _ _ (put_object o None) (then_gone o)).led g }
 
   then_float_entry : (p : Process) (x : Object) (e : OpenFile) → Keeps Touched (float_entry p x e)
   unfolding float_entry
@@ -240,58 +231,19 @@ module _ (pid : ℕ) (f : Frame) where
   then_logged l = record { led = λ g r. record { number = r.number; objects = r.objects; processes = r.processes } }
 
   -- ---- the rows that touch a label
-  s_found : (path : PathOf) → Keeps Staying (object_at pid path)
-  s_found path = kept_found loses_none pid Staying staying_words path
-
-  s_found_in : (path : PathOf) → Keeps Staying (spot_at pid path)
-  s_found_in path = kept_found_in loses_none pid Staying staying_words path
-
-  s_missing : (path : PathOf) → Keeps Staying (missing pid path)
-  s_missing path = kept_missing loses_none pid Staying staying_words path
-
-  s_walked_to : (path : PathOf) → Keeps Staying (walked_to pid path)
-  s_walked_to path = kept_walked_to loses_none pid Staying staying_words path
-
-  s_opened : (fd : ℕ) → Keeps Staying (opened pid fd)
-  s_opened fd = kept_opened loses_none pid Staying staying_words fd
-
-  s_observe : (seen : Categories) → Keeps Staying (observe pid seen)
-  s_observe seen = kept_observe loses_none pid Staying staying_words seen
-
-  t_frame : {B : Type 0} (k : Frame → Row B) → ((g : Frame) → Staying g → Turns Staying Touched (k g)) → Turns Staying Touched (◌>>=◌ frame k)
-  t_frame k h = turns_bind_frame Staying Touched staying_touched k h
-
-  t_some : {A B : Type 0} (o : Option A) (why : Refusal) (k : A → Row B) → ((a : A) → o ≡ Some a → Turns Staying Touched (k a)) → Turns Staying Touched (◌>>=◌ (some o why) k)
-  t_some o why k h = turns_bind_some Staying Touched staying_touched o why k h
-
-  t_first : {A B : Type 0} (m : Row A) (k : A → Row B) → Keeps Staying m → ((a : A) → Turns Staying Touched (k a)) → Turns Staying Touched (◌>>=◌ m k)
-  t_first m k hm hk = turns_bind_first Staying Touched staying_touched m k hm hk
-
-  t_then : {A B : Type 0} (m : Row A) (k : Row B) → Keeps Staying m → Turns Staying Touched k → Turns Staying Touched (◌>>◌ m k)
-  t_then m k hm hk = turns_then_first Staying Touched staying_touched m k hm hk
-
-  t_last : {A B : Type 0} (m : Row A) (k : Row B) → Turns Staying Touched m → Keeps Touched k → Turns Staying Touched (◌>>◌ m k)
-  t_last m k hm hk = turns_then_last Staying Touched staying_touched m k hm hk
-
-  t_only_if : (b : Bool) (m : Row (Unit {0})) → Turns Staying Touched m → Turns Staying Touched (only_if b m)
-  t_only_if b m h = turns_only_if Staying Touched staying_touched b m h
-
   ruleset touching = (
-    t_frame,
-    t_some,
-    t_first,
-    t_then,
-    t_last,
-    t_only_if,
+    turning,
+    staying_touched,
     turn_change,
     keeping,
     keeping_tests,
-    s_found,
-    s_found_in,
-    s_missing,
-    s_walked_to,
-    s_opened,
-    s_observe,
+    kept_found,
+    kept_found_in,
+    kept_missing,
+    kept_walked_to,
+    kept_opened,
+    kept_observe,
+    staying_words,
     then_object,
     then_inode,
     then_gone,
@@ -304,57 +256,26 @@ module _ (pid : ℕ) (f : Frame) where
   unfolding affect
   t_affect o through = search touching depth 40
 
-  t_make : (path : PathOf) (kind : Kind) → Turns Staying Touched (make pid path kind)
-  unfolding make
-  t_make path kind = search (touching, t_affect) depth 60 fits 8000
+  ruleset turns = (touching, t_affect)
 
-  t_link_at : (target path : PathOf) → Turns Staying Touched (link_at pid target path)
-  unfolding link_at
-  t_link_at target path = search (touching, t_affect) depth 60 fits 8000
-
-  t_unlink_at : (path : PathOf) → Turns Staying Touched (unlink_at pid path)
-  unfolding unlink_at
-  t_unlink_at path = search (touching, t_affect) depth 60 fits 8000
-
-  t_remove_dir : (path : PathOf) → Turns Staying Touched (remove_dir pid path)
-  unfolding remove_dir
-  t_remove_dir path = search (touching, t_affect) depth 60 fits 8000
-
-  t_write_fd : (t : LengthChecks) (fd : ℕ) → Turns Staying Touched (write_fd t pid fd)
-  unfolding write_fd
-  t_write_fd t fd = search (touching, t_affect) depth 60 fits 8000
-
-  t_cut_fd : (t : LengthChecks) (fd len : ℕ) → Turns Staying Touched (cut_fd t pid fd len)
-  unfolding cut_fd
-  t_cut_fd t fd len = search (touching, t_affect) depth 60 fits 8000
-
-  t_set_label : (place : ℕ) (path : PathOf) (now : Categories) → Turns Staying Touched (set_label place pid path now)
-  unfolding set_label
-  t_set_label place path now = search touching depth 60 fits 8000
-
-  t_freeze : (path : PathOf) → Turns Staying Touched (freeze pid path)
-  unfolding freeze
-  t_freeze path = search (touching, t_affect) depth 60 fits 8000
-
-  t_set_priv : (place : ℕ) (path : PathOf) (cap lic : PrivSet) → Turns Staying Touched (set_priv place pid path cap lic)
-  unfolding set_priv
-  t_set_priv place path cap lic = search (touching, t_affect) depth 60 fits 8000
+  begun : (t : LengthChecks) (place : ℕ) (c : Op) → Turns Staying Touched (row t place pid c) → Holds (row t place pid c f) Touched
+  begun t place c h = h.led f staying_itself
 
   steady_row : (t : LengthChecks) (place : ℕ) (c : Op) → list_all makes_none (changes_of c) ≡ true → Holds (row t place pid c f) Touched
-  steady_row t place c fits = holds_more (Steady pid f) Touched (row t place pid c f) steady_touched ((kept_row makes_none pid (Steady pid f) steady_words t place c fits).led f steady_itself)
+  steady_row t place c fits = holds_more _ _ (row t place pid c f) steady_touched ((kept_row _ _ _ steady_words t _ c fits).led f steady_itself)
 
   touched_row : (t : LengthChecks) (place : ℕ) (c : Op) → Holds (row t place pid c f) Touched
-  unfolding row create_at make_dir makes_none loses_none
-  touched_row t place (op.CreateAt path) = (t_make path kind.File).led f staying_itself
-  touched_row t place (op.MakeDir path) = (t_make path kind.Dir).led f staying_itself
-  touched_row t place (op.LinkAt target path) = (t_link_at target path).led f staying_itself
-  touched_row t place (op.UnlinkAt path) = (t_unlink_at path).led f staying_itself
-  touched_row t place (op.RemoveDir path) = (t_remove_dir path).led f staying_itself
-  touched_row t place (op.WriteFd fd bytes) = (t_write_fd t fd).led f staying_itself
-  touched_row t place (op.CutFd fd len) = (t_cut_fd t fd len).led f staying_itself
-  touched_row t place (op.SetLabel path now) = (t_set_label place path now).led f staying_itself
-  touched_row t place (op.Freeze path) = (t_freeze path).led f staying_itself
-  touched_row t place (op.SetPriv path cap lic) = (t_set_priv place path cap lic).led f staying_itself
+  unfolding open_row makes_none loses_none
+  touched_row t place (op.CreateAt path) = begun t place (op.CreateAt path) (search turns depth 60 fits 8000)
+  touched_row t place (op.MakeDir path) = begun t place (op.MakeDir path) (search turns depth 60 fits 8000)
+  touched_row t place (op.LinkAt target path) = begun t place (op.LinkAt target path) (search turns depth 60 fits 8000)
+  touched_row t place (op.UnlinkAt path) = begun t place (op.UnlinkAt path) (search turns depth 60 fits 8000)
+  touched_row t place (op.RemoveDir path) = begun t place (op.RemoveDir path) (search turns depth 60 fits 8000)
+  touched_row t place (op.WriteFd fd bytes) = begun t place (op.WriteFd fd bytes) (search turns depth 60 fits 8000)
+  touched_row t place (op.CutFd fd len) = begun t place (op.CutFd fd len) (search turns depth 60 fits 8000)
+  touched_row t place (op.SetLabel path now) = begun t place (op.SetLabel path now) (search turns depth 60 fits 8000)
+  touched_row t place (op.Freeze path) = begun t place (op.Freeze path) (search turns depth 60 fits 8000)
+  touched_row t place (op.SetPriv path cap lic) = begun t place (op.SetPriv path cap lic) (search turns depth 60 fits 8000)
   touched_row t place (op.CloseFd fd) = steady_row t place (op.CloseFd fd) refl
   touched_row t place (op.Exit status) = steady_row t place (op.Exit status) refl
   touched_row t place c = holds_more Staying Touched (row t place pid c f) staying_touched ((kept_row loses_none pid Staying staying_words t place c refl).led f staying_itself)
@@ -362,8 +283,8 @@ module _ (pid : ℕ) (f : Frame) where
   labels_stay : (g : Frame) → Touched g → LabelsStay pid f g
   labels_stay g r = record {
     touched = r.number;
-    objects = λ o x y other was is. r.objects.same o x y.label other was (ap (option_map (λ (z : Object). z.label)) is);
-    processes = λ p x y other was is. r.processes.same p x y.label other was (ap (option_map (λ (q : Process). q.label)) is);
+    objects = λ o x y other was is. r.objects.same o x y.label other was (ap (option_map (λ z. z.label)) is);
+    processes = λ p x y other was is. r.processes.same p x y.label other was (ap (option_map (λ q. q.label)) is);
   }
 
 touched_decided : (t : LengthChecks) (place pid : ℕ) (c : Op) (f : Frame) → Touched pid f (verdict t place pid c f).frame

@@ -1,20 +1,17 @@
 -- The privileges of processes and objects: what rows leave of them that change none.
-use Rattle.std.specs.Option.{option_and_then}
-use Rattle.std.proofs.Common.{◌≡◌, ◌≤◌, ℕ, Bool, true, false, true≢false, List, [], ◌∷◌, ◌++◌, length, Option, Some, None, is_some, option_map, refl, sym, ap}
+use Rattle.std.{specs.Option.option_and_then, proofs.Common.{◌≡◌, ◌≤◌, ℕ, Bool, true, false, true≢false, List, [], ◌∷◌, ◌++◌, length, Option, Some, None, is_some, option_map, refl, sym, ap}}
 use Rattle.std.proofs.Common.{◌∙◌, subst, arith, inl, inr, if◌then◌else◌}
 use Rattle.ix_label.specs.Category.{Categories}
-use Rattle.ix_model.specs.{world.{Naming.PathOf, Numbers.{free_inode, free_pipe}, World.{Frame, Object, Process, Open, at, put, change}}, rows.Auditing.logged}
-use Rattle.ix_model.specs.rows.Rows.{change_object, change_process, put_object, put_process, put_open, change_open, observe, affect}
-use Rattle.ix_model.specs.{rows.Walks.{OpenFile, walked_to, object_at, spot_at, missing, opened}, rows.Lifetimes.{let_go_object, let_go, let_go_all}}
-use Rattle.ix_model.specs.rows.OnPaths.{new_object, make, open_at, link_at, unlink_at, remove_dir, change_dir, stat_at, list_at}
-use Rattle.ix_model.specs.{rows.OnProcesses.{remains, end_process, exit, wait_child}, declared.{call.Mode.Mode, audit.AuditLine.AuditLine, reply.Kind.Kind}}
+use Rattle.ix_model.specs.{world.{Naming.PathOf, Numbers.{free_inode, free_pipe}, World.{Frame, Object, Process, Open, at, put, change}}, rows.{Auditing.logged, OnPaths.new_object}}
+use Rattle.ix_model.specs.{rows.{Rows.{change_object, change_process, put_object, put_process, put_open, change_open, observe, affect}, Table.row}, history.Events.Op}
+use Rattle.ix_model.specs.rows.{Walks.{OpenFile, walked_to, object_at, spot_at, missing, opened}, Lifetimes.{let_go_object, let_go, let_go_all}, OnDescriptors.{LengthChecks, float_entry}}
+use Rattle.ix_model.{specs.{rows.OnProcesses.{remains, end_process}, declared.{audit.AuditLine.AuditLine, reply.Kind.Kind}}, proofs.words.OpenRows.open_row}
 use Rattle.ix_model.specs.laws.Privileged.{Privileges, Carried, privileges, carried_by, carries_none}
-use Rattle.ix_model.specs.rows.OnDescriptors.{LengthChecks, float_entry, read_fd, write_fd, cut_fd, seek_fd, dup_fd, close_fd, make_pipe, pex, unpex}
-use Rattle.ix_model.specs.rows.OnLabels.{label_of, self_label, set_label, set_self, freeze, freeze_self, thaw, thaw_self, set_ceiling, read_log}
-use Rattle.ix_model.specs.declared.reply.Kind.TheVariants as kind
 use Rattle.ix_model.proofs.tables.{Finds.{at_put, at_push, at_change, in_table}, FreeNumbers.{free_inode_is, free_pipe_is}}
-use Rattle.ix_model.proofs.{words.Lasts.{Lasting, lasting_itself, lasting_change, lasting_put}, words.Keeps.{Holds, Keeps, keeping, keeping_tests}}
-use Rattle.ix_model.proofs.{words.LetGo.{LetsGo, keeps_let_go_object, keeps_let_go, keeps_let_go_all}, words.Rowwise.{keeps_bind_frame, keeps_bind_some}}
+use Rattle.ix_model.proofs.words.{Lasts.{Lasting, lasting_itself, lasting_change, lasting_put}, Keeps.{Holds, Keeps, keeping, keeping_tests}}
+use Rattle.ix_model.proofs.words.{LetGo.{LetsGo, keeps_let_go_object, keeps_let_go, keeps_let_go_all}, Rowwise.{keeps_bind_frame, keeps_bind_some}}
+use Rattle.ix_model.specs.history.Events as op
+use Rattle.ix_model.specs.declared.reply.Kind.TheVariants as kind
 
 -- ---- tables
 -- what stands in both has the same, and what is new has what a new one may have
@@ -25,8 +22,8 @@ pub record Kept {A B : Type 0} (get : A → B) (new : B → Type 0) (t u : List 
 module _ {A B : Type 0} (get : A → B) (new : B → Type 0) (t : List (Option A)) where
   pub kept_itself : Kept get new t t
   kept_itself = record {
-    same = λ n x y is seen. let e : Some x ≡ Some y = sym is ∙ seen in let one : x ≡ y = cc in ap get (sym one);
-    fresh = λ n y is seen. let e : None ≡ Some y = sym is ∙ seen in cc;
+    same = λ n x y is seen. let e = sym is ∙ seen in let one : x ≡ y = cc in ap get (sym one);
+    fresh = λ n y is seen. let e = sym is ∙ seen in cc;
   }
 
   pub kept_change : (u : List (Option A)) (n : ℕ) (h : A → A) → ((x : A) → get (h x) ≡ get x) → Kept get new t u → Kept get new t (change u n h)
@@ -43,24 +40,24 @@ module _ {A B : Type 0} (get : A → B) (new : B → Type 0) (t : List (Option A
 
   pub kept_none : (u : List (Option A)) (n : ℕ) → Kept get new t u → Kept get new t (put u n None)
   kept_none u n r = record {
-    same = λ m x y is seen. elim (at_put u n m None y seen) [
-      | inl here ↦ let e : None ≡ Some y = here.1 in cc
+    same = λ m x y is seen. elim (at_put u n m _ y seen) [
+      | inl here ↦ let e = here.1 in cc
       | inr other ↦ r.same m x y is other.1
     ];
-    fresh = λ m y is seen. elim (at_put u n m None y seen) [
-      | inl here ↦ let e : None ≡ Some y = here.1 in cc
+    fresh = λ m y is seen. elim (at_put u n m _ y seen) [
+      | inl here ↦ let e = here.1 in cc
       | inr other ↦ r.fresh m y is other.1
     ];
   }
 
   pub kept_put : (u : List (Option A)) (n : ℕ) (z : A) → at t n ≡ None → new (get z) → Kept get new t u → Kept get new t (put u n (Some z))
   kept_put u n z free fits r = record {
-    same = λ m x y is seen. elim (at_put u n m (Some z) y seen) [
-      | inl here ↦ let e : None ≡ Some x = sym free ∙ ap (at t) (sym here.0) ∙ is in cc
+    same = λ m x y is seen. elim (at_put u n m _ y seen) [
+      | inl here ↦ let e = sym free ∙ ap (at t) (sym here.0) ∙ is in cc
       | inr other ↦ r.same m x y is other.1
     ];
-    fresh = λ m y is seen. elim (at_put u n m (Some z) y seen) [
-      | inl here ↦ let one : z ≡ y = cc in subst (λ (v : A). new (get v)) one fits
+    fresh = λ m y is seen. elim (at_put u n m _ y seen) [
+      | inl here ↦ let one : z ≡ y = cc in subst (λ v. new (get v)) one fits
       | inr other ↦ r.fresh m y is other.1
     ];
   }
@@ -68,11 +65,11 @@ module _ {A B : Type 0} (get : A → B) (new : B → Type 0) (t : List (Option A
   pub kept_push : (u : List (Option A)) (z : A) → length t ≤ length u → new (get z) → Kept get new t u → Kept get new t (u ++ Some z ∷ [])
   kept_push u z long fits r = record {
     same = λ m x y is seen. elim (at_push u z m y seen) [
-      | inl here ↦ let low = in_table t m x is in let at_end : m ≡ length u = here.0 in absurd (omega (arith, low, at_end, long))
+      | inl here ↦ let low = in_table t m x is in let at_end = here.0 in absurd (omega (arith, low, at_end, long))
       | inr other ↦ r.same m x y is other
     ];
     fresh = λ m y is seen. elim (at_push u z m y seen) [
-      | inl here ↦ subst (λ (v : A). new (get v)) here.1 fits
+      | inl here ↦ subst (λ v. new (get v)) here.1 fits
       | inr other ↦ r.fresh m y is other
     ];
   }
@@ -80,11 +77,11 @@ module _ {A B : Type 0} (get : A → B) (new : B → Type 0) (t : List (Option A
   -- another with the same
   pub kept_again : (u : List (Option A)) (n : ℕ) (z was : A) → at u n ≡ Some was → get z ≡ get was → Kept get new t u → Kept get new t (put u n (Some z))
   kept_again u n z was is_was keeps r = record {
-    same = λ m x y is seen. elim (at_put u n m (Some z) y seen) [
+    same = λ m x y is seen. elim (at_put u n m _ y seen) [
       | inl here ↦ let one : z ≡ y = cc in ap get (sym one) ∙ keeps ∙ r.same m x was is (ap (at u) here.0 ∙ is_was)
       | inr other ↦ r.same m x y is other.1
     ];
-    fresh = λ m y is seen. elim (at_put u n m (Some z) y seen) [
+    fresh = λ m y is seen. elim (at_put u n m _ y seen) [
       | inl here ↦ let one : z ≡ y = cc in subst new (sym (ap get (sym one) ∙ keeps)) (r.fresh m was is (ap (at u) here.0 ∙ is_was))
       | inr other ↦ r.fresh m y is other.1
     ];
@@ -103,7 +100,20 @@ pub record Unmoved (f : Frame) (pid : ℕ) (loses : Bool) (g : Frame) : Type 0 w
   pub lasting : loses ≡ false → Lasting f.objects g.objects
 
 pub unmoved_itself : (f : Frame) (pid : ℕ) (loses : Bool) → Unmoved f pid loses f
-unmoved_itself f pid loses = record { processes = kept_itself _ _ f.processes; objects = kept_itself _ _ f.objects; lasting = λ e. lasting_itself f.objects }
+unmoved_itself f pid loses = record { processes = kept_itself _ _ f.processes; objects = kept_itself _ _ f.objects; lasting = λ e. lasting_itself _ }
+
+-- whether objects go in a call's row, of the calls that leave privileges
+abbrev pub loss : Op → Option Bool
+loss (op.Fork keep) = None
+loss (op.Exec path) = None
+loss (op.SetPriv path cap lic) = None
+loss (op.DropLic set) = None
+loss (op.GrantLic target set) = None
+loss (op.CloseFd fd) = Some true
+loss (op.UnlinkAt path) = Some true
+loss (op.RemoveDir path) = Some true
+loss (op.Exit status) = Some true
+loss _ = Some false
 
 module _ (f : Frame) (pid : ℕ) (loses : Bool) where
   abbrev R : Frame → Type 0
@@ -114,15 +124,15 @@ module _ (f : Frame) (pid : ℕ) (loses : Bool) where
   u_change_object o h same = record {
     led = λ g r. record {
       processes = r.processes;
-      objects = kept_change _ _ f.objects g.objects o h same r.objects;
+      objects = kept_change _ _ _ g.objects o h same r.objects;
       lasting =
-          λ e. lasting_change f.objects g.objects o h (r.lasting e);
+          λ e. lasting_change _ _ o h (r.lasting e);
     };
   }
 
   u_change_process : (p : ℕ) (h : Process → Process) → ((q : Process) → privileges (h q) ≡ privileges q) → Keeps R (change_process p h)
   unfolding change_process Holds
-  u_change_process p h same = record { led = λ g r. record { processes = kept_change _ _ f.processes g.processes p h same r.processes; objects = r.objects; lasting = r.lasting } }
+  u_change_process p h same = record { led = λ g r. let processes = kept_change _ _ f.processes g.processes p h same r.processes in search }
 
   u_put_open : (e : ℕ) (x : Option Open) → Keeps R (put_open e x)
   unfolding put_open Holds
@@ -142,24 +152,24 @@ module _ (f : Frame) (pid : ℕ) (loses : Bool) where
 
   u_no_process : (p : ℕ) → Keeps R (put_process p None)
   unfolding put_process Holds
-  u_no_process p = record { led = λ g r. record { processes = kept_none _ _ f.processes g.processes p r.processes; objects = r.objects; lasting = r.lasting } }
+  u_no_process p = record { led = λ g r. let processes = kept_none _ _ f.processes g.processes p r.processes in search }
 
   u_end : (p : ℕ) → Keeps R (end_process p)
   unfolding end_process put_process Holds
-  u_end p = record { led = λ g r. record { processes = go g r (at g.processes p) refl; objects = r.objects; lasting = r.lasting } }
+  u_end p = record { led = λ g r. let processes = go g r (at g.processes p) refl in search }
     where
       left : (g : Frame) → R g → (q : Process) → at g.processes p ≡ Some q → (b : Bool)
           → Kept privileges (CallersOwn f pid) f.processes (put g.processes p (if b then Some (record q { ended = true }) else None))
-      left g r q is true = kept_again _ _ f.processes g.processes p (record q { ended = true }) q is refl r.processes
+      left g r q is true = kept_again _ _ _ _ p (record q { ended = true }) q is refl r.processes
       left g r q is false = kept_none _ _ f.processes g.processes p r.processes
 
       go : (g : Frame) → R g → (o : Option Process) → at g.processes p ≡ o → Kept privileges (CallersOwn f pid) f.processes (put g.processes p (option_and_then remains o))
       go g r None is = kept_none _ _ f.processes g.processes p r.processes
-      go g r (Some q) is = left g r q is (is_some q.parent)
+      go g r (Some q) is = left g r q is _
 
   -- what is new is put where nothing stood
   was_free : (g : Frame) (o : ℕ) → loses ≡ false → R g → at g.objects o ≡ None → at f.objects o ≡ None
-  was_free g o all r free = go (at f.objects o) refl
+  was_free g o all r free = go _ refl
     where
       go : (x : Option Object) → at f.objects o ≡ x → x ≡ None
       go None is = refl
@@ -172,9 +182,9 @@ module _ (f : Frame) (pid : ℕ) (loses : Bool) where
         led = λ g s. record {
           processes = s.processes;
           objects =
-              kept_put _ _ f.objects g.objects o _ (was_free m o all r (free_inode_is m k o free).free) refl s.objects;
+              kept_put _ _ _ g.objects o _ (was_free m o all r (free_inode_is m k o free).free) refl s.objects;
           lasting =
-              λ e. lasting_put f.objects g.objects o _ (s.lasting e);
+              λ e. lasting_put _ _ o _ (s.lasting e);
         };
       }
 
@@ -184,9 +194,9 @@ module _ (f : Frame) (pid : ℕ) (loses : Bool) where
     led = λ g s. record {
       processes = s.processes;
       objects =
-          kept_put _ _ f.objects g.objects o _ (was_free m o all r (free_pipe_is m o free).free) refl s.objects;
+          kept_put _ _ _ g.objects o _ (was_free m o all r (free_pipe_is m o free).free) refl s.objects;
       lasting =
-          λ e. lasting_put f.objects g.objects o _ (s.lasting e);
+          λ e. lasting_put _ _ o _ (s.lasting e);
     };
   }
 
@@ -227,132 +237,30 @@ module _ (f : Frame) (pid : ℕ) (loses : Bool) where
 
   -- ---- what goes
   u_going : loses ≡ true → LetsGo R pid
-  u_going can = record { free = λ fd. search words depth 20; unclaim = λ o end. u_change_object o _ (λ x. refl); close = λ e. u_put_open e None; gone = u_no_object can }
+  u_going can = record { free = λ fd. search words depth 20; unclaim = λ o end. u_change_object o _ (λ x. refl); close = λ e. u_put_open e _; gone = u_no_object can }
 
   u_let_go_object : loses ≡ true → (o : ℕ) → Keeps R (let_go_object o)
-  u_let_go_object can = keeps_let_go_object R pid (u_going can)
+  u_let_go_object can = keeps_let_go_object R _ (u_going can)
 
   u_let_go : loses ≡ true → (fd : ℕ) (e : OpenFile) → Keeps R (let_go pid fd e)
-  u_let_go can = keeps_let_go R pid (u_going can)
+  u_let_go can = keeps_let_go R _ (u_going can)
 
   u_let_go_all : loses ≡ true → Keeps R (let_go_all pid)
-  u_let_go_all can = keeps_let_go_all R pid (u_going can)
+  u_let_go_all can = keeps_let_go_all R _ (u_going can)
 
   -- ---- the rows
   ruleset rows = (words, u_observe, u_affect, u_float_entry, u_walked_to, u_object_at, u_spot_at, u_missing, u_opened, u_let_go_object, u_let_go, u_let_go_all)
 
-  pub u_make : loses ≡ false → (path : PathOf) (kind : Kind) → Keeps R (make pid path kind)
-  unfolding make
-  u_make all path kind = search rows depth 60 fits 8000
+  losing : (b : Bool) → Some b ≡ Some loses → loses ≡ b
+  losing b h = cc
 
-  pub u_link_at : (target path : PathOf) → Keeps R (link_at pid target path)
-  unfolding link_at
-  u_link_at target path = search rows depth 60 fits 8000
+  ruleset table = (rows, losing)
 
-  pub u_unlink_at : loses ≡ true → (path : PathOf) → Keeps R (unlink_at pid path)
-  unfolding unlink_at
-  u_unlink_at can path = search rows depth 60 fits 8000
-
-  pub u_remove_dir : loses ≡ true → (path : PathOf) → Keeps R (remove_dir pid path)
-  unfolding remove_dir
-  u_remove_dir can path = search rows depth 60 fits 8000
-
-  pub u_open_at : (path : PathOf) (mode : Mode) → Keeps R (open_at pid path mode)
-  unfolding open_at
-  u_open_at path mode = search rows depth 60 fits 8000
-
-  pub u_change_dir : (path : PathOf) → Keeps R (change_dir pid path)
-  unfolding change_dir
-  u_change_dir path = search rows depth 60 fits 8000
-
-  pub u_stat_at : (path : PathOf) → Keeps R (stat_at pid path)
-  unfolding stat_at
-  u_stat_at path = search rows depth 60 fits 8000
-
-  pub u_list_at : (path : PathOf) (index : ℕ) → Keeps R (list_at pid path index)
-  unfolding list_at
-  u_list_at path index = search rows depth 60 fits 8000
-
-  pub u_read_fd : (t : LengthChecks) (fd count : ℕ) → Keeps R (read_fd t pid fd count)
-  unfolding read_fd
-  u_read_fd t fd count = search rows depth 60 fits 8000
-
-  pub u_write_fd : (t : LengthChecks) (fd : ℕ) → Keeps R (write_fd t pid fd)
-  unfolding write_fd
-  u_write_fd t fd = search rows depth 60 fits 8000
-
-  pub u_cut_fd : (t : LengthChecks) (fd len : ℕ) → Keeps R (cut_fd t pid fd len)
-  unfolding cut_fd
-  u_cut_fd t fd len = search rows depth 60 fits 8000
-
-  pub u_seek_fd : (fd offset : ℕ) → Keeps R (seek_fd pid fd offset)
-  unfolding seek_fd
-  u_seek_fd fd offset = search rows depth 60 fits 8000
-
-  pub u_dup_fd : (fd : ℕ) → Keeps R (dup_fd pid fd)
-  unfolding dup_fd
-  u_dup_fd fd = search rows depth 60 fits 8000
-
-  pub u_close_fd : loses ≡ true → (fd : ℕ) → Keeps R (close_fd pid fd)
-  unfolding close_fd
-  u_close_fd can fd = search rows depth 60 fits 8000
-
-  pub u_make_pipe : loses ≡ false → Keeps R (make_pipe pid)
-  unfolding make_pipe
-  u_make_pipe all = search rows depth 60 fits 8000
-
-  pub u_pex : (fd : ℕ) → Keeps R (pex pid fd)
-  unfolding pex
-  u_pex fd = search rows depth 60 fits 8000
-
-  pub u_unpex : (fd : ℕ) → Keeps R (unpex pid fd)
-  unfolding unpex
-  u_unpex fd = search rows depth 60 fits 8000
-
-  pub u_exit : loses ≡ true → Keeps R (exit pid)
-  unfolding exit
-  u_exit can = search rows depth 60 fits 8000
-
-  pub u_wait_child : Keeps R (wait_child pid)
-  unfolding wait_child
-  u_wait_child = search rows depth 60 fits 8000
-
-  pub u_label_of : (path : PathOf) → Keeps R (label_of pid path)
-  unfolding label_of
-  u_label_of path = search rows depth 60 fits 8000
-
-  pub u_self_label : Keeps R (self_label pid)
-  unfolding self_label
-  u_self_label = search rows depth 60 fits 8000
-
-  pub u_set_label : (place : ℕ) (path : PathOf) (now : Categories) → Keeps R (set_label place pid path now)
-  unfolding set_label
-  u_set_label place path now = search rows depth 60 fits 8000
-
-  pub u_set_self : (place : ℕ) (now : Categories) → Keeps R (set_self place pid now)
-  unfolding set_self
-  u_set_self place now = search rows depth 60 fits 8000
-
-  pub u_freeze : (path : PathOf) → Keeps R (freeze pid path)
-  unfolding freeze
-  u_freeze path = search rows depth 60 fits 8000
-
-  pub u_freeze_self : Keeps R (freeze_self pid)
-  unfolding freeze_self
-  u_freeze_self = search rows depth 60 fits 8000
-
-  pub u_thaw : (place : ℕ) (path : PathOf) → Keeps R (thaw place pid path)
-  unfolding thaw
-  u_thaw place path = search rows depth 60 fits 8000
-
-  pub u_thaw_self : (place : ℕ) → Keeps R (thaw_self place pid)
-  unfolding thaw_self
-  u_thaw_self place = search rows depth 60 fits 8000
-
-  pub u_set_ceiling : (place target : ℕ) (now : Categories) → Keeps R (set_ceiling place pid target now)
-  unfolding set_ceiling
-  u_set_ceiling place target now = search rows depth 60 fits 8000
-
-  pub u_read_log : (place index : ℕ) → Keeps R (read_log place pid index)
-  unfolding read_log
-  u_read_log place index = search rows depth 60 fits 8000
+  pub u_row : (t : LengthChecks) (place : ℕ) (c : Op) → loss c ≡ Some loses → Keeps R (row t place pid c)
+  unfolding open_row
+  u_row t place (op.Fork keep) h = cc
+  u_row t place (op.Exec path) h = cc
+  u_row t place (op.SetPriv path cap lic) h = cc
+  u_row t place (op.DropLic set) h = cc
+  u_row t place (op.GrantLic target set) h = cc
+  u_row t place c h = search table depth 60 fits 8000

@@ -1,15 +1,12 @@
 -- What a step has from its decision: the frame, and where it answers, a row that passed.
 use Rattle.std.proofs.Common.{◌≡◌, ℕ, Bool, true, false, List, Option, Some, None, refl, if◌then◌else◌}
-use Rattle.ix_model.specs.{world.{World.{Frame, World, lives}, Contents.carried}, rows.Outcomes.{Outcome, Refuse, Pass}, rows.Walks.{OpenFile, behind}}
-use Rattle.ix_model.specs.{rows.OnDescriptors.LengthChecks, rows.Table.{Decision, row, settled, verdict}, rows.Telling.told, declared.reply.Reply.Reply}
-use Rattle.ix_model.specs.history.{AuditLog.is_answer, Events.Op}
+use Rattle.ix_model.specs.{world.{World.{Frame, World}, Contents.carried}, rows.{Outcomes.{Outcome, Refuse, Pass}, Walks.OpenFile}, history.{AuditLog.is_answer, Events.Op, Step.step}}
+use Rattle.ix_model.{specs.{rows.{OnDescriptors.LengthChecks, Table.{Decision, row, settled, verdict}, Telling.told}, declared.reply.Reply.Reply}, proofs.words.Ends.{Ends, Anything}}
 use Rattle.ix_model.specs.history.Step.{plainly, read_answer, write_answer, cut_answer, seek_answer, stat_answer, exit_answer, wait_answer, pex_answer, answer}
-use Rattle.ix_model.specs.history.Step.{step}
 use Rattle.ix_model.specs.history.Events as op
 use Rattle.ix_model.specs.declared.reply.Kind.TheVariants as kind
 use Rattle.ix_model.specs.declared.reply.Reply.TheVariants as reply
 use Rattle.ix_model.specs.declared.refusal.Refusal.TheVariants as refusal
-use Rattle.ix_model.proofs.words.Ends.{Ends, Anything}
 
 -- ---- the frame
 frame_read : (w : World) (count : ℕ) (b : Option OpenFile) (r : Reply) (g : Frame) → (read_answer w count b r g).world.frame ≡ g
@@ -56,18 +53,18 @@ frame_pex w None r g = refl
 -- the frame after a step is the decision's
 pub step_frame : (w : World) (place pid : ℕ) (c : Op) → (step w place pid c).world.frame ≡ (verdict (told w pid c) place pid c w.frame).frame
 unfolding step answer plainly
-step_frame w place pid (op.ReadFd fd count) = frame_read w count (behind w.frame pid fd) _ _
-step_frame w place pid (op.WriteFd fd bytes) = frame_write w bytes (behind w.frame pid fd) _ _
-step_frame w place pid (op.CutFd fd len) = frame_cut w len (behind w.frame pid fd) _ _
-step_frame w place pid (op.SeekFd fd offset) = frame_seek w offset (behind w.frame pid fd) _ _
+step_frame w place pid (op.ReadFd fd count) = frame_read w _ _ _ _
+step_frame w place pid (op.WriteFd fd bytes) = frame_write w _ _ _ _
+step_frame w place pid (op.CutFd fd len) = frame_cut w _ _ _ _
+step_frame w place pid (op.SeekFd fd offset) = frame_seek w _ _ _ _
 step_frame w place pid (op.StatAt path) =
     λ i. (world_stat w (verdict (told w pid (op.StatAt path)) place pid (op.StatAt path) w.frame).reply
     (verdict (told w pid (op.StatAt path)) place pid (op.StatAt path) w.frame).frame i).frame
-step_frame w place pid (op.Exit status) = frame_exit w pid status _ _
+step_frame w place pid (op.Exit status) = frame_exit w _ _ _ _
 step_frame w place pid op.WaitChild =
     λ i. (world_wait w (verdict (told w pid op.WaitChild) place pid op.WaitChild w.frame).reply (verdict (told w pid op.WaitChild) place pid op.WaitChild
     w.frame).frame i).frame
-step_frame w place pid (op.Pex fd) = frame_pex w (behind w.frame pid fd) _ _
+step_frame w place pid (op.Pex fd) = frame_pex w _ _ _
 step_frame w place pid c = refl
 
 -- ---- an answer
@@ -80,7 +77,7 @@ settled_passed f (Pass a g) Q h ends = ends
 pub passed : (t : LengthChecks) (place pid : ℕ) (c : Op) (f : Frame) (Q : Reply → Frame → Type 0) → Ends (row t place pid c f) Anything Q
     → is_answer (verdict t place pid c f).reply ≡ true → Q (verdict t place pid c f).reply (verdict t place pid c f).frame
 unfolding verdict
-passed t place pid c f Q ends h = go (lives f pid) h
+passed t place pid c f Q ends h = go _ h
   where
     unknown : Decision
     unknown = record { reply = reply.No refusal.NoProcess; frame = f }

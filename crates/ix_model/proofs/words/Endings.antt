@@ -1,6 +1,6 @@
 -- What is known where the words end that make and unmake.
 use Rattle.std.proofs.Common.{◌≡◌, ℕ, Option, Some, [], ◌∷◌, ◌++◌}
-use Rattle.ix_model.{specs.world.World.{Frame, Object, Process, at, put}, specs.rows.Rows.{put_object, put_process, add_process, record_of}}
+use Rattle.ix_model.specs.{world.World.{Frame, Object, Process, at, put}, rows.Rows.{put_object, put_process, add_process, record_of}}
 use Rattle.ix_model.{specs.declared.refusal.Refusal.Refusal, proofs.words.Ends.{Ends, ends_some}}
 use Rattle.ix_model.specs.declared.refusal.Refusal.TheVariants as refusal
 

@@ -1,9 +1,8 @@
 -- What is known where a row ends: P of a refusal and its frame, Q of what it passes and its frame.
 use Rattle.std.proofs.Common.{ℕ, ◌≡◌, Bool, true, false, Option, Some, None, refl, subst}
-use Rattle.ix_model.{specs.world.World.{Frame, Object, Process, Open, at, put, change, living}, specs.rows.Outcomes.{Row, Outcome, Refuse, Pass}}
-use Rattle.ix_model.{specs.rows.Walks.{Sought, OpenFile, found_object, behind, opened}, specs.declared.refusal.Refusal.Refusal, proofs.words.Keeps.Holds}
+use Rattle.ix_model.specs.{world.World.{Frame, Object, Process, Open, at, put, change, living}, rows.{Outcomes.{Row, Outcome, Refuse, Pass}, Rows.change_open}}
+use Rattle.ix_model.{specs.{rows.Walks.{Sought, OpenFile, found_object, behind, opened}, declared.refusal.Refusal.Refusal}, proofs.words.Keeps.Holds}
 use Rattle.ix_model.specs.rows.Rows.{◌>>=◌, ◌>>◌, on_pass, pass, refuse, need, some, only_if, frame, process, object, change_object, change_process, put_open}
-use Rattle.ix_model.specs.rows.Rows.{change_open}
 use Rattle.ix_model.specs.rows.Walks as sought
 use Rattle.ix_model.specs.declared.refusal.Refusal.TheVariants as refusal
 
@@ -13,7 +12,7 @@ Ends (Pass a g) P Q = Q a g
 
 -- nothing is said of a refusal
 abbrev pub Anything : Refusal → Frame → Type 0
-Anything r g = Unit {0}
+Anything r g = Unit
 
 ends_on_pass : {A B : Type 0} (o : Outcome A) (k : A → Frame → Outcome B) (P : Refusal → Frame → Type 0) (Q : B → Frame → Type 0) → Ends o P (λ a g. Ends (k a g) P Q) → Ends (on_pass o k) P Q
 unfolding Ends on_pass
@@ -45,7 +44,7 @@ known_passed (Refuse r h) a g Q is k = cc
 known_passed {A = A} (Pass m h) a g Q is k =
     let number : m ≡ a = cc in
     let same : h ≡ g = cc in
-    subst (λ (x : A). Q x g) number (subst (λ (x : Frame). Q m x) same k)
+    subst (λ x. Q x g) number (subst (λ x. Q m x) same k)
 
 module _ {A B : Type 0} where
   pub ends_bind : (m : Row A) (k : A → Row B) (f : Frame) (P : Refusal → Frame → Type 0) (Q : B → Frame → Type 0) → Ends (m f) P (λ a g. Ends (k a g) P Q) → Ends (◌>>=◌ m k f) P Q
@@ -54,7 +53,7 @@ module _ {A B : Type 0} where
 
   pub ends_then : (m : Row A) (k : Row B) (f : Frame) (P : Refusal → Frame → Type 0) (Q : B → Frame → Type 0) → Ends (m f) P (λ a g. Ends (k g) P Q) → Ends (◌>>◌ m k f) P Q
   unfolding ◌>>◌
-  ends_then m k f P Q h = ends_on_pass (m f) (λ a. k) P Q h
+  ends_then m k f P Q h = ends_on_pass (m f) _ P Q h
 
 pub ends_pass : {A : Type 0} (a : A) (f : Frame) (P : Refusal → Frame → Type 0) (Q : A → Frame → Type 0) → Q a f → Ends (pass a f) P Q
 unfolding Ends pass

@@ -1,7 +1,7 @@
 -- What no call changes: the limits, the file systems, and the lengths of the objects' and the open entries' tables.
-use Rattle.std.proofs.Common.{◌≡◌, ℕ, Option, Some, None, refl, sym, subst, ◌∙◌, length, length-set}
-use Rattle.ix_model.specs.{world.World.{World, Frame, Object, Process, Open}, rows.Auditing.logged, rows.OnProcesses.end_process, rows.Table.verdict}
-use Rattle.ix_model.specs.{rows.Rows.{change_object, change_process, put_object, put_open, put_process, add_process, change_open}, rows.Telling.told}
+use Rattle.std.proofs.Common.{◌≡◌, ℕ, Option, Some, None, sym, subst, ◌∙◌, length, length-set}
+use Rattle.ix_model.specs.{world.World.{World, Frame, Object, Process, Open}, rows.{Auditing.logged, OnProcesses.end_process, Table.verdict}}
+use Rattle.ix_model.specs.rows.{Rows.{change_object, change_process, put_object, put_open, put_process, add_process, change_open}, Telling.told}
 use Rattle.ix_model.specs.{rows.OnDescriptors.LengthChecks, history.{Step.step, Events.Op}, declared.audit.AuditLine.AuditLine}
 use Rattle.ix_model.proofs.words.{Keeps.{Holds, Keeps}, Rowwise.{Words, changes_of, kept_row, all, bears_all}, Lasts.decided, Answered.step_frame}
 
@@ -12,7 +12,7 @@ pub record Fixed (f g : Frame) : Type 0 where
   pub opens : length g.opens ≡ length f.opens
 
 fixed_itself : (f : Frame) → Fixed f f
-fixed_itself f = record { limits = refl; fss = refl; objects = refl; opens = refl }
+fixed_itself f = search
 
 module _ (f : Frame) where
   fixed_change_object : (o : ℕ) (h : Object → Object) → Keeps (Fixed f) (change_object o h)
@@ -21,7 +21,7 @@ module _ (f : Frame) where
 
   fixed_put_object : (o : ℕ) (x : Option Object) → Keeps (Fixed f) (put_object o x)
   unfolding put_object Holds
-  fixed_put_object o x = record { led = λ g r. record { limits = r.limits; fss = r.fss; objects = length-set g.objects o x ∙ r.objects; opens = r.opens } }
+  fixed_put_object o x = record { led = λ g r. let objects = length-set g.objects o x ∙ r.objects in search }
 
   fixed_change_open : (e : ℕ) (h : Open → Open) → Keeps (Fixed f) (change_open e h)
   unfolding change_open Holds
@@ -29,7 +29,7 @@ module _ (f : Frame) where
 
   fixed_put_open : (e : ℕ) (x : Option Open) → Keeps (Fixed f) (put_open e x)
   unfolding put_open Holds
-  fixed_put_open e x = record { led = λ g r. record { limits = r.limits; fss = r.fss; objects = r.objects; opens = length-set g.opens e x ∙ r.opens } }
+  fixed_put_open e x = record { led = λ g r. let opens = length-set g.opens e x ∙ r.opens in search }
 
   fixed_change_process : (p : ℕ) (h : Process → Process) → Keeps (Fixed f) (change_process p h)
   unfolding change_process Holds
@@ -55,7 +55,7 @@ fixed_words : (pid : ℕ) (f : Frame) → Words all pid (Fixed f)
 fixed_words pid f = record {
   object = λ o h same. fixed_change_object f o h;
   process = λ p h same. fixed_change_process f p h;
-  float = λ h same. fixed_change_process f pid h;
+  float = λ h same. fixed_change_process f _ h;
   entry = λ e x low. fixed_put_open f e (Some x);
   through = λ can e l. fixed_change_open f e _;
   unclaim = λ o end. fixed_change_object f o _;

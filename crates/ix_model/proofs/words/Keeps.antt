@@ -1,10 +1,9 @@
 -- A row keeps what each of its words keeps.
 use Rattle.std.proofs.Common.{ℕ, Bool, true, false, Option, Some, None}
 use Rattle.ix_label.specs.Category.{Categories}
-use Rattle.ix_model.specs.{world.World.{Frame, Object, at, living}, rows.Outcomes.{Row, Outcome, Refuse, Pass}, rows.OnLabels.{allowed, movable}}
-use Rattle.ix_model.specs.{rows.Walks.{Sought, found_object, found_spot, vacant}, rows.Auditing.{entitled, log_has_room, exercise}, rows.OnDescriptors.claimed}
-use Rattle.ix_model.specs.declared.{privs.PrivSet.PrivSet, refusal.Refusal.Refusal}
-use Rattle.ix_model.specs.rows.Rows.{◌>>=◌, ◌>>◌, on_pass, pass, refuse, need, some, only_if, frame, process, object, record_of}
+use Rattle.ix_model.specs.{world.World.{Frame, Object, at}, rows.{Outcomes.{Row, Outcome, Refuse, Pass}, OnLabels.{allowed, movable}}}
+use Rattle.ix_model.specs.rows.{Walks.{Sought, found_object, found_spot, vacant}, Auditing.{entitled, log_has_room, exercise}, OnDescriptors.claimed}
+use Rattle.ix_model.specs.{declared.{privs.PrivSet.PrivSet, refusal.Refusal.Refusal}, rows.Rows.{◌>>=◌, ◌>>◌, on_pass, pass, refuse, need, some, only_if, frame, process, object, record_of}}
 use Rattle.ix_model.specs.rows.Walks as sought
 
 -- R holds of the frame that the outcome has, passed or refused
@@ -27,45 +26,43 @@ keeps_bind R m k hm hk = record { led = λ g a. keeps_on_pass R (m g) k (hm.led 
 
 pub keeps_then : {A B : Type 0} (R : Frame → Type 0) (m : Row A) (k : Row B) → Keeps R m → Keeps R k → Keeps R (◌>>◌ m k)
 unfolding ◌>>◌
-keeps_then R m k hm hk = record { led = λ g a. keeps_on_pass R (m g) (λ u. k) (hm.led g a) (λ u. hk) }
+keeps_then R m k hm hk = record { led = λ g a. keeps_on_pass R (m g) _ (hm.led g a) (λ u. hk) }
 
 pub keeps_pass : {A : Type 0} (R : Frame → Type 0) (a : A) → Keeps R (pass a)
 unfolding pass Holds
-keeps_pass R a = record { led = λ g r. r }
+keeps_pass R a = search
 
 pub keeps_frame : (R : Frame → Type 0) → Keeps R frame
 unfolding frame Holds
-keeps_frame R = record { led = λ g r. r }
+keeps_frame R = search
 
 pub keeps_refuse : {A : Type 0} (R : Frame → Type 0) (r : Refusal) → Keeps R (refuse {A = A} r)
 unfolding refuse Holds
-keeps_refuse R r = record { led = λ g a. a }
+keeps_refuse R r = search
 
 pub keeps_need : (R : Frame → Type 0) (b : Bool) (r : Refusal) → Keeps R (need b r)
 unfolding need Holds refuse pass
-keeps_need R true r = record { led = λ g a. a }
-keeps_need R false r = record { led = λ g a. a }
+keeps_need R true r = search
+keeps_need R false r = search
 
 pub keeps_some : {A : Type 0} (R : Frame → Type 0) (o : Option A) (r : Refusal) → Keeps R (some o r)
 unfolding some Holds refuse pass
-keeps_some R None r = record { led = λ g a. a }
-keeps_some R (Some x) r = record { led = λ g a. a }
+keeps_some R None r = search
+keeps_some R (Some x) r = search
 
 pub keeps_only_if : (R : Frame → Type 0) (b : Bool) (m : Row (Unit {0})) → Keeps R m → Keeps R (only_if b m)
 unfolding only_if pass Holds
 keeps_only_if R true m h = h
-keeps_only_if R false m h = record { led = λ g a. a }
+keeps_only_if R false m h = search
 
 pub keeps_there : (R : Frame → Type 0) (w : Sought) → Keeps R (found_object w)
 unfolding found_object pass Holds refuse
-keeps_there R sought.NotDir = record { led = λ g a. a }
-keeps_there R sought.NotFound = record { led = λ g a. a }
-keeps_there R (sought.Missing d) = record { led = λ g a. a }
-keeps_there R (sought.Found o d) = record { led = λ g a. a }
+keeps_there R sought.NotDir = search
+keeps_there R _ = search
 
 pub keeps_caller : (R : Frame → Type 0) (pid : ℕ) → Keeps R (process pid)
 unfolding process
-keeps_caller R pid = record { led = λ g. (keeps_some R (living (at g.processes pid)) _).led g }
+keeps_caller R pid = record { led = λ g. (keeps_some R _ _).led g }
 
 pub keeps_object : (R : Frame → Type 0) (o : ℕ) → Keeps R (object o)
 unfolding object
@@ -73,21 +70,17 @@ keeps_object R o = record { led = λ g. (keeps_some R (at g.objects o) _).led g 
 
 pub keeps_spot : (R : Frame → Type 0) (w : Sought) → Keeps R (found_spot w)
 unfolding found_spot pass Holds refuse
-keeps_spot R sought.NotDir = record { led = λ g a. a }
-keeps_spot R sought.NotFound = record { led = λ g a. a }
-keeps_spot R (sought.Missing d) = record { led = λ g a. a }
-keeps_spot R (sought.Found o d) = record { led = λ g a. a }
+keeps_spot R sought.NotDir = search
+keeps_spot R _ = search
 
 pub keeps_vacant : (R : Frame → Type 0) (w : Sought) → Keeps R (vacant w)
 unfolding vacant pass Holds refuse
-keeps_vacant R sought.NotDir = record { led = λ g a. a }
-keeps_vacant R sought.NotFound = record { led = λ g a. a }
-keeps_vacant R (sought.Missing d) = record { led = λ g a. a }
-keeps_vacant R (sought.Found o d) = record { led = λ g a. a }
+keeps_vacant R sought.NotDir = search
+keeps_vacant R _ = search
 
 pub keeps_record_of : (R : Frame → Type 0) (p : ℕ) → Keeps R (record_of p)
 unfolding record_of
-keeps_record_of R p = record { led = λ g. (keeps_some R (at g.processes p) _).led g }
+keeps_record_of R p = record { led = λ g. (keeps_some R _ _).led g }
 
 -- the words that change nothing, and those that join words: what every row is made of, whatever is kept
 pub ruleset keeping = (

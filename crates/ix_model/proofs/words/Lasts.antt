@@ -1,14 +1,12 @@
 -- What stands stays.
-use Rattle.std.proofs.Common.{ℕ, zero, suc, ◌≡◌, Bool, true, false, List, [], ◌∷◌, Option, Some, is_some, refl, ap, ◌∙◌, length, length-set, if◌then◌else◌}
-use Rattle.std.specs.List.{list_all}
+use Rattle.std.{proofs.Common.{ℕ, zero, suc, ◌≡◌, Bool, true, false, List, [], ◌∷◌, Option, Some, is_some, refl, ap, ◌∙◌, length, length-set, if◌then◌else◌}, specs.List.list_all}
 use Rattle.ix_label.specs.Category.{Categories}
-use Rattle.ix_model.specs.{world.World.{Frame, Object, Process, Open, at, put, change, lives, is_ended}, rows.Outcomes.{Outcome, Refuse, Pass}}
-use Rattle.ix_model.specs.{rows.Rows.{put_open, put_object, change_object, change_process, change_open}, rows.Auditing.logged, rows.Refusals.keeps_label}
-use Rattle.ix_model.specs.{rows.OnDescriptors.LengthChecks, rows.Table.{Decision, row, settled, verdict}, history.Events.Op}
-use Rattle.ix_model.specs.declared.{audit.AuditLine.AuditLine, reply.Reply.Reply}
+use Rattle.ix_model.specs.{world.World.{Frame, Object, Process, Open, at, put, change, is_ended}, rows.Outcomes.{Outcome, Refuse, Pass}}
+use Rattle.ix_model.specs.{rows.{Rows.{put_open, put_object, change_object, change_process, change_open}, Auditing.logged}, declared.{audit.AuditLine.AuditLine, reply.Reply.Reply}}
+use Rattle.ix_model.specs.{rows.{OnDescriptors.LengthChecks, Table.{Decision, row, settled, verdict}}, history.Events.Op}
+use Rattle.ix_model.proofs.{tables.Tables.seen_changed, words.{Keeps.{Holds, Keeps}, Rowwise.{Change, LettingGo, Forking, Ending, Words, changes_of, kept_row}}}
 use Rattle.ix_model.specs.declared.reply.Reply.TheVariants as reply
 use Rattle.ix_model.specs.declared.refusal.Refusal.TheVariants as refusal
-use Rattle.ix_model.proofs.{tables.Tables.seen_changed, words.{Keeps.{Holds, Keeps}, Rowwise.{Change, LettingGo, Forking, Ending, Words, changes_of, kept_row}}}
 
 -- what stands in the first table stands in the second
 pub record Lasting {A : Type 0} (t u : List (Option A)) : Type 0 where
@@ -33,7 +31,7 @@ some_put (y ∷ t) (suc n) x zero h = h
 some_put (y ∷ t) (suc n) x (suc m) h = some_put t n x m h
 
 pub lasting_itself : {A : Type 0} (t : List (Option A)) → Lasting t t
-lasting_itself t = record { stays = λ n is. is }
+lasting_itself t = search
 
 pub lasting_change : {A : Type 0} (t u : List (Option A)) (n : ℕ) (h : A → A) → Lasting t u → Lasting t (change u n h)
 lasting_change t u n h r = record { stays = λ m is. seen_changed is_some h (λ x. refl) u n m ∙ r.stays m is }
@@ -46,28 +44,28 @@ ended_change t u n h same r = record { stays = λ m is. seen_changed is_ended h 
 
 -- ---- frames, and rows
 lasts_itself : (f : Frame) → Lasts f f
-lasts_itself f = record { objects = lasting_itself f.objects; opens = lasting_itself f.opens; processes = record { stays = λ n is. is; count = refl } }
+lasts_itself f = record { objects = lasting_itself _; opens = lasting_itself _; processes = search }
 
 module _ (f : Frame) where
   lasts_objects : (o : ℕ) (h : Object → Object) → Keeps (Lasts f) (change_object o h)
   unfolding change_object Holds
-  lasts_objects o h = record { led = λ g r. record { objects = lasting_change _ _ o h r.objects; opens = r.opens; processes = r.processes } }
+  lasts_objects o h = record { led = λ g r. let objects = lasting_change _ _ o h r.objects in search }
 
   lasts_processes : (p : ℕ) (h : Process → Process) → ((q : Process) → (h q).ended ≡ q.ended) → Keeps (Lasts f) (change_process p h)
   unfolding change_process Holds
-  lasts_processes p h same = record { led = λ g r. record { objects = r.objects; opens = r.opens; processes = ended_change _ _ p h same r.processes } }
+  lasts_processes p h same = record { led = λ g r. let processes = ended_change _ _ p h same r.processes in search }
 
   lasts_opens : (e : ℕ) (h : Open → Open) → Keeps (Lasts f) (change_open e h)
   unfolding change_open Holds
-  lasts_opens e h = record { led = λ g r. record { objects = r.objects; opens = lasting_change _ _ e h r.opens; processes = r.processes } }
+  lasts_opens e h = record { led = λ g r. let opens = lasting_change _ _ e h r.opens in search }
 
   lasts_put_object : (o : ℕ) (x : Object) → Keeps (Lasts f) (put_object o (Some x))
   unfolding put_object Holds
-  lasts_put_object o x = record { led = λ g r. record { objects = lasting_put _ _ o x r.objects; opens = r.opens; processes = r.processes } }
+  lasts_put_object o x = record { led = λ g r. let objects = lasting_put _ _ o x r.objects in search }
 
   lasts_put_open : (e : ℕ) (x : Open) → Keeps (Lasts f) (put_open e (Some x))
   unfolding put_open Holds
-  lasts_put_open e x = record { led = λ g r. record { objects = r.objects; opens = lasting_put _ _ e x r.opens; processes = r.processes } }
+  lasts_put_open e x = record { led = λ g r. let opens = lasting_put _ _ e x r.opens in search }
 
   lasts_logged : (l : AuditLine) → Keeps (Lasts f) (logged l)
   unfolding logged Holds
@@ -88,7 +86,7 @@ lasting_words : (pid : ℕ) (f : Frame) → Words lets_stay pid (Lasts f)
 lasting_words pid f = record {
   object = λ o h same. lasts_objects f o h;
   process = λ p h same. lasts_processes f p h (λ q. ap (λ r. r.ended) (same q));
-  float = λ h same. lasts_processes f pid h (λ q. ap (λ r. r.ended) (same q));
+  float = λ h same. lasts_processes f _ h (λ q. ap (λ r. r.ended) (same q));
   entry = λ e x low. lasts_put_open f e x;
   through = λ can e l. lasts_opens f e _;
   unclaim = λ o end. lasts_objects f o _;
@@ -111,13 +109,13 @@ kept_or_not R false f g rf rg = rf
 
 pub settled_keeps : (R : Frame → Type 0) (f : Frame) (o : Outcome Reply) → R f → Holds o R → R (settled f o).frame
 unfolding Holds
-settled_keeps R f (Refuse r g) rf h = kept_or_not R (keeps_label r) f g rf h
+settled_keeps R f (Refuse r g) rf h = kept_or_not R _ f g rf h
 settled_keeps R f (Pass a g) rf h = h
 
 -- what a row keeps, its decision keeps
 pub decided : (R : Frame → Type 0) (t : LengthChecks) (place pid : ℕ) (c : Op) (f : Frame) → R f → Holds (row t place pid c f) R → R (verdict t place pid c f).frame
 unfolding verdict
-decided R t place pid c f rf h = go (lives f pid)
+decided R t place pid c f rf h = go _
   where
     unknown : Decision
     unknown = record { reply = reply.No refusal.NoProcess; frame = f }
@@ -131,4 +129,4 @@ lasts_decided t place pid c f stays = decided (Lasts f) t place pid c f (lasts_i
 
 -- a frame in which the caller's label alone has changed
 pub lasts_relabelled : (pid : ℕ) (l : Categories) (f : Frame) → Lasts f (record f { processes = change f.processes pid (λ p. record p { label = l }) })
-lasts_relabelled pid l f = record { objects = lasting_itself f.objects; opens = lasting_itself f.opens; processes = ended_change _ _ pid _ (λ q. refl) (record { stays = λ n is. is; count = refl }) }
+lasts_relabelled pid l f = record { objects = lasting_itself _; opens = lasting_itself _; processes = ended_change _ _ _ _ (λ q. refl) (search) }

@@ -1,10 +1,9 @@
 -- What the two rules of floating come to: a refusal that changes nothing, nothing to do, or a label joined that may be.
 use Rattle.std.proofs.Common.{◌≡◌, ℕ, true, Some}
 use Rattle.ix_label.specs.Category.{Categories, join, leq}
-use Rattle.ix_model.specs.{world.World.{Frame, Object, Process, at, change, living, ceiling_of, Open}, declared.refusal.Refusal.Refusal}
+use Rattle.ix_model.{specs.{world.World.{Frame, Object, Process, at, change, living, ceiling_of, Open}, declared.refusal.Refusal.Refusal}, proofs.words.Ends.ends_change_open}
 use Rattle.ix_model.specs.rows.{Walks.OpenFile, OnDescriptors.float_entry, Rows.{observe, affect}}
 use Rattle.ix_model.proofs.words.Ends.{Ends, ending, ends_bind, ends_then, ends_caller, ends_object, ends_frame, ends_only_if, ends_need, ends_change_object}
-use Rattle.ix_model.proofs.words.Ends.{ends_change_open}
 
 pub ends_observe : (pid : ℕ) (seen : Categories) (f : Frame) (P : Refusal → Frame → Type 0) (Q : Unit {0} → Frame → Type 0) → ((r : Refusal) → P r f) → Q tt f
     → ((p : Process) → living (at f.processes pid) ≡ Some p → leq (join p.label seen) p.ceiling ≡ true
@@ -38,4 +37,4 @@ ends_touch pid o through f P Q h k = ends_affect pid o through f P Q h (k f) (λ
 pub ends_float_entry : (p : Process) (x : Object) (e : OpenFile) (f : Frame) (P : Refusal → Frame → Type 0) (Q : Unit {0} → Frame → Type 0) → Q tt f
     → ((h : Open → Open) → Q tt (record f { opens = change f.opens e.id h })) → Ends (float_entry p x e f) P Q
 unfolding float_entry
-ends_float_entry p x e f P Q stays changes = ends_only_if _ _ f P Q (λ file. ends_change_open e.id _ f P Q (changes _)) (λ pipe. stays)
+ends_float_entry p x e f P Q stays changes = ends_only_if _ _ f P Q (λ file. ends_change_open _ _ f P Q (changes _)) (λ pipe. stays)

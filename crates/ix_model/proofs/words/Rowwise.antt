@@ -1,22 +1,16 @@
 -- What every word that changes something keeps, every row keeps.
-use Rattle.std.proofs.Common.{ℕ, ◌≡◌, ◌&&◌, Bool, true, false, List, [], ◌∷◌, Option, Some, None, is_some, refl, sym, ap, ◌∙◌, true≢false, not, inl, inr}
+use Rattle.std.proofs.Common.{ℕ, ◌≡◌, ◌&&◌, Bool, true, false, List, [], ◌∷◌, Option, Some, None, is_some, refl, sym, ap, ◌∙◌, true≢false, inl, inr}
 use Rattle.std.{specs.List.list_all, proofs.lemmas.{Bool.{and_parts, Decides.eqb_tells}, List.{get_or-set_same, get_or-set_other}}}
 use Rattle.ix_label.specs.{Category.{Categories, bottom, join, leq}, Lattice.leq-join_left}
-use Rattle.ix_model.specs.{world.Naming.PathOf, world.Privs.no_privileges, world.Numbers.{free_inode, free_pipe}, rows.Outcomes.Row, rows.Auditing.logged}
-use Rattle.ix_model.specs.{world.World.{Frame, Object, Process, Open, at, put, lowest_free, no_claims, is_pipe}, rows.Table.row, history.Events.Op}
-use Rattle.ix_model.specs.{rows.Walks.{OpenFile, walked_to, object_at, spot_at, missing, opened}, rows.Lifetimes.{let_go_object, let_go, let_go_all}}
-use Rattle.ix_model.specs.{rows.OnProcesses.{end_process, fork, exec, exit, wait_child}, declared.call.Keep.Keep, declared.call.Mode.Mode}
-use Rattle.ix_model.specs.{declared.privs.PrivSet.PrivSet, declared.audit.AuditLine.AuditLine, declared.refusal.Refusal.Refusal, declared.reply.Kind.Kind}
+use Rattle.ix_model.specs.{world.{Naming.PathOf, Privs.no_privileges, Numbers.{free_inode, free_pipe}}, rows.{Outcomes.Row, Auditing.logged, Rows.{observe, affect}, OnPaths.new_object}}
+use Rattle.ix_model.specs.{world.World.{Frame, Object, Process, Open, at, put, lowest_free, no_claims}, rows.{Table.row, OnDescriptors.{LengthChecks, float_entry}}, history.Events.Op}
+use Rattle.ix_model.{specs.rows.{Walks.{OpenFile, walked_to, object_at, spot_at, missing, opened}, Lifetimes.{let_go_object, let_go, let_go_all}}, proofs.words.OpenRows.open_row}
+use Rattle.ix_model.specs.{rows.OnProcesses.{end_process, fork}, declared.{audit.AuditLine.AuditLine, refusal.Refusal.Refusal, reply.Kind.Kind}}
 use Rattle.ix_model.specs.rows.Rows.{◌>>=◌, some, frame, pass, put_open, change_open, put_object, put_process, add_process, change_object, change_process}
-use Rattle.ix_model.specs.rows.Rows.{observe, affect}
-use Rattle.ix_model.specs.rows.OnPaths.{new_object, make, create_at, make_dir, open_at, link_at, unlink_at, remove_dir, change_dir, stat_at, list_at}
-use Rattle.ix_model.specs.rows.OnDescriptors.{LengthChecks, float_entry, read_fd, write_fd, cut_fd, seek_fd, dup_fd, close_fd, make_pipe, pex, unpex}
-use Rattle.ix_model.specs.rows.OnLabels.{label_of, self_label, set_label, set_self, freeze, freeze_self, thaw, thaw_self, set_priv, drop_lic, grant_lic}
-use Rattle.ix_model.specs.rows.OnLabels.{set_ceiling, read_log}
-use Rattle.ix_model.specs.history.Events as op
-use Rattle.ix_model.specs.declared.reply.Kind.TheVariants as kind
 use Rattle.ix_model.proofs.{tables.FreeNumbers.lowest_free_is, words.LetGo.{LetsGo, keeps_let_go_object, keeps_let_go, keeps_let_go_all}}
 use Rattle.ix_model.proofs.words.Keeps.{Holds, Keeps, keeping, keeping_tests, keeps_only_if}
+use Rattle.ix_model.specs.history.Events as op
+use Rattle.ix_model.specs.declared.reply.Kind.TheVariants as kind
 
 -- ---- what calls do
 -- what a call may do, beside looking, changing descriptors and marks, and giving up a claim
@@ -68,19 +62,47 @@ object_core x = record x { frozen = false; cap = no_privileges; lic = no_privile
 abbrev pub process_core : Process → Process
 process_core p = record p { ceiling = bottom; frozen = false; cap = no_privileges; lic = no_privileges; own = no_privileges; cwd = 0; fds = [] }
 
+-- what each word keeps
+abbrev pub ObjectWord : (Frame → Type 0) → Type 0
+ObjectWord R = (o : ℕ) (h : Object → Object) → ((x : Object) → object_core (h x) ≡ object_core x) → Keeps R (change_object o h)
+
+abbrev pub ProcessWord : (Frame → Type 0) → Type 0
+ProcessWord R = (p : ℕ) (h : Process → Process) → ((q : Process) → process_core (h q) ≡ process_core q) → Keeps R (change_process p h)
+
+abbrev pub FloatWord : ℕ → (Frame → Type 0) → Type 0
+FloatWord pid R = (h : Process → Process) → ((q : Process) → record (h q) { label = bottom } ≡ record q { label = bottom }) → Keeps R (change_process pid h)
+
+abbrev pub ThroughWord : (Frame → Type 0) → Type 0
+ThroughWord R = (e : ℕ) (l : Categories) → Keeps R (change_open e (λ y. record y { label = join y.label l }))
+
+abbrev pub UnclaimWord : (Frame → Type 0) → Type 0
+UnclaimWord R = (o end : ℕ) → Keeps R (change_object o (λ x. record x { claims = put x.claims end None }))
+
+abbrev pub RelabelWord : (Frame → Type 0) → Type 0
+RelabelWord R = (o : ℕ) (h : Object → Object) → ((x : Object) → record (h x) { label = bottom } ≡ record x { label = bottom }) → Keeps R (change_object o h)
+
+abbrev pub ClaimWord : (Frame → Type 0) → Type 0
+ClaimWord R = (o : ℕ) (h : Object → Object) → ((x : Object) → record (h x) { claims = no_claims } ≡ record x { claims = no_claims }) → Keeps R (change_object o h)
+
+abbrev pub InodeWord : (Frame → Type 0) → Type 0
+InodeWord R = (f : Frame) (o k : ℕ) (kind : Kind) → R f → free_inode f k ≡ Some o → Keeps R (put_object o (Some (new_object kind (Some k))))
+
+abbrev pub PipeWord : (Frame → Type 0) → Type 0
+PipeWord R = (f : Frame) (o : ℕ) → R f → free_pipe f ≡ Some o → Keeps R (put_object o (Some (new_object kind.Pipe None)))
+
 -- the words of a caller's row keep R, as far as the changes go that it can bear
 pub record Words (can : Change → Bool) (pid : ℕ) (R : Frame → Type 0) : Type 0 where
-  pub object : (o : ℕ) (h : Object → Object) → ((x : Object) → object_core (h x) ≡ object_core x) → Keeps R (change_object o h)
-  pub process : (p : ℕ) (h : Process → Process) → ((q : Process) → process_core (h q) ≡ process_core q) → Keeps R (change_process p h)
-  pub float : (h : Process → Process) → ((q : Process) → record (h q) { label = bottom } ≡ record q { label = bottom }) → Keeps R (change_process pid h)
+  pub object : ObjectWord R
+  pub process : ProcessWord R
+  pub float : FloatWord pid R
   pub entry : (e : ℕ) (x : Open) → x.label ≡ bottom → Keeps R (put_open e (Some x))
-  pub through : can Moving ≡ true → (e : ℕ) (l : Categories) → Keeps R (change_open e (λ y. record y { label = join y.label l }))
-  pub unclaim : (o end : ℕ) → Keeps R (change_object o (λ x. record x { claims = put x.claims end None }))
-  pub relabel : can Relabelling ≡ true → (o : ℕ) (h : Object → Object) → ((x : Object) → record (h x) { label = bottom } ≡ record x { label = bottom }) → Keeps R (change_object o h)
-  pub claim : can Claiming ≡ true → (o : ℕ) (h : Object → Object) → ((x : Object) → record (h x) { claims = no_claims } ≡ record x { claims = no_claims }) → Keeps R (change_object o h)
+  pub through : can Moving ≡ true → ThroughWord R
+  pub unclaim : UnclaimWord R
+  pub relabel : can Relabelling ≡ true → RelabelWord R
+  pub claim : can Claiming ≡ true → ClaimWord R
   pub log : can Logging ≡ true → (l : AuditLine) → Keeps R (logged l)
-  pub inode : can Making ≡ true → (f : Frame) (o k : ℕ) (kind : Kind) → R f → free_inode f k ≡ Some o → Keeps R (put_object o (Some (new_object kind (Some k))))
-  pub pipe : can Making ≡ true → (f : Frame) (o : ℕ) → R f → free_pipe f ≡ Some o → Keeps R (put_object o (Some (new_object kind.Pipe None)))
+  pub inode : can Making ≡ true → InodeWord R
+  pub pipe : can Making ≡ true → PipeWord R
   pub gone_object : can LettingGo ≡ true → (o : ℕ) → Keeps R (put_object o None)
   pub gone_open : can LettingGo ≡ true → (e : ℕ) → Keeps R (put_open e None)
   pub fork : can Forking ≡ true → (p : Process) → Keeps R (add_process p)
@@ -89,22 +111,21 @@ pub record Words (can : Change → Bool) (pid : ℕ) (R : Frame → Type 0) : Ty
 
 -- the same, where it is known that looking and affecting raise labels, which calls set one, and that what is opened was free
 pub record Moves (can : Change → Bool) (pid : ℕ) (R : Frame → Type 0) : Type 0 where
-  pub object : (o : ℕ) (h : Object → Object) → ((x : Object) → object_core (h x) ≡ object_core x) → Keeps R (change_object o h)
-  pub process : (p : ℕ) (h : Process → Process) → ((q : Process) → process_core (h q) ≡ process_core q) → Keeps R (change_process p h)
+  pub object : ObjectWord R
+  pub process : ProcessWord R
   pub observed : (h : Process → Process) → ((q : Process) → record (h q) { label = bottom } ≡ record q { label = bottom })
       → ((q : Process) → leq q.label (h q).label ≡ true) → Keeps R (change_process pid h)
-  pub labelled_self : can Lowering ≡ true → (h : Process → Process) → ((q : Process) → record (h q) { label = bottom } ≡ record q { label = bottom }) → Keeps R (change_process pid h)
+  pub labelled_self : can Lowering ≡ true → FloatWord pid R
   pub entry : can Opening ≡ true → (f : Frame) (e : ℕ) (x : Open) → x.label ≡ bottom → R f → at f.opens e ≡ None → Keeps R (put_open e (Some x))
-  pub through : can Moving ≡ true → (e : ℕ) (l : Categories) → Keeps R (change_open e (λ y. record y { label = join y.label l }))
-  pub unclaim : (o end : ℕ) → Keeps R (change_object o (λ x. record x { claims = put x.claims end None }))
+  pub through : can Moving ≡ true → ThroughWord R
+  pub unclaim : UnclaimWord R
   pub affected : can Relabelling ≡ true → (o : ℕ) (h : Object → Object) → ((x : Object) → record (h x) { label = bottom } ≡ record x { label = bottom })
       → ((x : Object) → leq x.label (h x).label ≡ true) → Keeps R (change_object o h)
-  pub labelled : can Relabelling ≡ true → can Lowering ≡ true → (o : ℕ) (h : Object → Object)
-      → ((x : Object) → record (h x) { label = bottom } ≡ record x { label = bottom }) → Keeps R (change_object o h)
-  pub claim : can Claiming ≡ true → (o : ℕ) (h : Object → Object) → ((x : Object) → record (h x) { claims = no_claims } ≡ record x { claims = no_claims }) → Keeps R (change_object o h)
+  pub labelled : can Relabelling ≡ true → can Lowering ≡ true → RelabelWord R
+  pub claim : can Claiming ≡ true → ClaimWord R
   pub log : can Logging ≡ true → (l : AuditLine) → Keeps R (logged l)
-  pub inode : can Making ≡ true → (f : Frame) (o k : ℕ) (kind : Kind) → R f → free_inode f k ≡ Some o → Keeps R (put_object o (Some (new_object kind (Some k))))
-  pub pipe : can Making ≡ true → (f : Frame) (o : ℕ) → R f → free_pipe f ≡ Some o → Keeps R (put_object o (Some (new_object kind.Pipe None)))
+  pub inode : can Making ≡ true → InodeWord R
+  pub pipe : can Making ≡ true → PipeWord R
   pub gone_object : can LettingGo ≡ true → (o : ℕ) → Keeps R (put_object o None)
   pub gone_open : can LettingGo ≡ true → (e : ℕ) → Keeps R (put_open e None)
   pub fork : can Forking ≡ true → (p : Process) → Keeps R (add_process p)
@@ -137,10 +158,10 @@ moves_of can pid R w = record {
 free_second : {A : Type 0} (t : List (Option A)) (d e : ℕ) (x : A) → lowest_free t ≡ Some d → lowest_free (put t d (Some x)) ≡ Some e → at t e ≡ None
 free_second t d e x first second =
     let inside = (lowest_free_is t d first).0 in
-    let none = (lowest_free_is (put t d (Some x)) e second).1 in
+    let none = (lowest_free_is _ e second).1 in
     elim (eqb_tells e d) [
-      | inl same ↦ let e : Some x ≡ None = sym (get_or-set_same t d (Some x) None inside) ∙ ap (at (put t d (Some x))) (sym same.1) ∙ none in absurd (true≢false (ap is_some e))
-      | inr other ↦ sym (get_or-set_other t d e (Some x) None other.1) ∙ none
+      | inl same ↦ let e = sym (get_or-set_same t d _ None inside) ∙ ap (at (put t d (Some x))) (sym same.1) ∙ none in absurd (true≢false (ap is_some e))
+      | inr other ↦ sym (get_or-set_other t d e _ None other.1) ∙ none
     ]
 
 -- ---- what was looked at is known
@@ -150,55 +171,52 @@ keeps_bind_frame R k h = record { led = λ g r. (h g r).led g r }
 
 pub keeps_bind_some : {A B : Type 0} (R : Frame → Type 0) (o : Option A) (r : Refusal) (k : A → Row B) → ((a : A) → o ≡ Some a → Keeps R (k a)) → Keeps R (◌>>=◌ (some o r) k)
 unfolding ◌>>=◌ some pass Holds Rattle.ix_model.specs.rows.Rows.on_pass Rattle.ix_model.specs.rows.Rows.refuse
-keeps_bind_some R None r k h = record { led = λ g a. a }
+keeps_bind_some R None r k h = search
 keeps_bind_some R (Some x) r k h = record { led = λ g a. (h x refl).led g a }
 
 module _ (can : Change → Bool) (pid : ℕ) (R : Frame → Type 0) (w : Moves can pid R) where
-  w_object : (o : ℕ) (h : Object → Object) → ((x : Object) → object_core (h x) ≡ object_core x) → Keeps R (change_object o h)
-  w_object = w.object
-
-  w_process : (p : ℕ) (h : Process → Process) → ((q : Process) → process_core (h q) ≡ process_core q) → Keeps R (change_process p h)
-  w_process = w.process
-
-  w_observed : (h : Process → Process) → ((q : Process) → record (h q) { label = bottom } ≡ record q { label = bottom })
-      → ((q : Process) → leq q.label (h q).label ≡ true) → Keeps R (change_process pid h)
-  w_observed = w.observed
-
-  w_labelled_self : can Lowering ≡ true → (h : Process → Process) → ((q : Process) → record (h q) { label = bottom } ≡ record q { label = bottom }) → Keeps R (change_process pid h)
-  w_labelled_self = w.labelled_self
-
   w_first : can Opening ≡ true → (f : Frame) (e : ℕ) (x : Open) → x.label ≡ bottom → R f → lowest_free f.opens ≡ Some e → Keeps R (put_open e (Some x))
-  w_first opens f e x low is free = w.entry opens f e x low is (lowest_free_is f.opens e free).1
+  w_first opens f e x low is free = w.entry opens f e x low is (lowest_free_is _ e free).1
 
   w_second : can Opening ≡ true → (f : Frame) (d e : ℕ) (x y : Open) → x.label ≡ bottom → R f → lowest_free f.opens ≡ Some d
       → lowest_free (put f.opens d (Some y)) ≡ Some e → Keeps R (put_open e (Some x))
-  w_second opens f d e x y low is first second = w.entry opens f e x low is (free_second f.opens d e y first second)
+  w_second opens f d e x y low is first second = w.entry opens f e x low is (free_second _ d e y first second)
 
-  w_through : can Moving ≡ true → (e : ℕ) (l : Categories) → Keeps R (change_open e (λ y. record y { label = join y.label l }))
+  w_object : ObjectWord R
+  w_object = w.object
+
+  w_process : ProcessWord R
+  w_process = w.process
+
+  w_labelled_self : can Lowering ≡ true → FloatWord pid R
+  w_labelled_self = w.labelled_self
+
+  w_through : can Moving ≡ true → ThroughWord R
   w_through = w.through
 
-  w_unclaim : (o end : ℕ) → Keeps R (change_object o (λ x. record x { claims = put x.claims end None }))
+  w_unclaim : UnclaimWord R
   w_unclaim = w.unclaim
 
-  w_affected : can Relabelling ≡ true → (o : ℕ) (h : Object → Object) → ((x : Object) → record (h x) { label = bottom } ≡ record x { label = bottom })
-      → ((x : Object) → leq x.label (h x).label ≡ true) → Keeps R (change_object o h)
-  w_affected = w.affected
-
-  w_labelled : can Relabelling ≡ true → can Lowering ≡ true → (o : ℕ) (h : Object → Object)
-      → ((x : Object) → record (h x) { label = bottom } ≡ record x { label = bottom }) → Keeps R (change_object o h)
+  w_labelled : can Relabelling ≡ true → can Lowering ≡ true → RelabelWord R
   w_labelled = w.labelled
 
-  w_claim : can Claiming ≡ true → (o : ℕ) (h : Object → Object) → ((x : Object) → record (h x) { claims = no_claims } ≡ record x { claims = no_claims }) → Keeps R (change_object o h)
+  w_claim : can Claiming ≡ true → ClaimWord R
   w_claim = w.claim
 
   w_log : can Logging ≡ true → (l : AuditLine) → Keeps R (logged l)
   w_log = w.log
 
-  w_inode : can Making ≡ true → (f : Frame) (o k : ℕ) (kind : Kind) → R f → free_inode f k ≡ Some o → Keeps R (put_object o (Some (new_object kind (Some k))))
+  w_inode : can Making ≡ true → InodeWord R
   w_inode = w.inode
 
-  w_pipe : can Making ≡ true → (f : Frame) (o : ℕ) → R f → free_pipe f ≡ Some o → Keeps R (put_object o (Some (new_object kind.Pipe None)))
+  w_pipe : can Making ≡ true → PipeWord R
   w_pipe = w.pipe
+
+  w_gone_object : can LettingGo ≡ true → (o : ℕ) → Keeps R (put_object o None)
+  w_gone_object = w.gone_object
+
+  w_gone_open : can LettingGo ≡ true → (e : ℕ) → Keeps R (put_open e None)
+  w_gone_open = w.gone_open
 
   w_fork : can Forking ≡ true → (p : Process) → Keeps R (add_process p)
   w_fork = w.fork
@@ -209,48 +227,40 @@ module _ (can : Change → Bool) (pid : ℕ) (R : Frame → Type 0) (w : Moves c
   w_collect : can Ending ≡ true → (p : ℕ) → Keeps R (put_process p None)
   w_collect = w.collect
 
-  w_gone_object : can LettingGo ≡ true → (o : ℕ) → Keeps R (put_object o None)
-  w_gone_object = w.gone_object
-
-  w_gone_open : can LettingGo ≡ true → (e : ℕ) → Keeps R (put_open e None)
-  w_gone_open = w.gone_open
-
   -- the tests, and the words that a row changes the frame by
   ruleset wording = (
     keeps_bind_frame,
     keeps_bind_some,
     keeping,
     keeping_tests,
-    w_object,
-    w_process,
-    w_observed,
-    w_labelled_self,
+    leq-join_left,
     w_first,
     w_second,
-    leq-join_left,
+    w_object,
+    w_process,
+    w_labelled_self,
     w_through,
     w_unclaim,
-    w_affected,
     w_labelled,
     w_claim,
     w_log,
     w_inode,
     w_pipe,
+    w_gone_object,
+    w_gone_open,
     w_fork,
     w_end,
     w_collect,
-    w_gone_object,
-    w_gone_open,
   )
 
   -- ---- parts of rows
   pub moved_observe : (seen : Categories) → Keeps R (observe pid seen)
   unfolding observe
-  moved_observe seen = search wording depth 30
+  moved_observe seen = search (wording, w.observed) depth 30
 
   moved_affect : can Relabelling ≡ true → (o : ℕ) (l : Categories) → Keeps R (affect pid o l)
   unfolding affect
-  moved_affect moves o l = search wording depth 30
+  moved_affect moves o l = search (wording, w.affected) depth 30
 
   pub moved_walked_to : (path : PathOf) → Keeps R (walked_to pid path)
   unfolding walked_to
@@ -274,231 +284,77 @@ module _ (can : Change → Bool) (pid : ℕ) (R : Frame → Type 0) (w : Moves c
 
   moved_float_entry : can Moving ≡ true → (p : Process) (x : Object) (e : OpenFile) → Keeps R (float_entry p x e)
   unfolding float_entry
-  moved_float_entry moves p x e = keeps_only_if R (not (is_pipe x)) _ (w.through moves e.id p.label)
+  moved_float_entry moves p x e = keeps_only_if R _ _ (w.through moves e.id p.label)
 
   -- ---- what goes
   going : can LettingGo ≡ true → LetsGo R pid
   going goes = record { free = λ fd. search wording depth 20; unclaim = w.unclaim; close = w.gone_open goes; gone = w.gone_object goes }
 
   moved_let_go_object : can LettingGo ≡ true → (o : ℕ) → Keeps R (let_go_object o)
-  moved_let_go_object goes = keeps_let_go_object R pid (going goes)
+  moved_let_go_object goes = keeps_let_go_object R _ (going goes)
 
   moved_let_go : can LettingGo ≡ true → (fd : ℕ) (e : OpenFile) → Keeps R (let_go pid fd e)
-  moved_let_go goes = keeps_let_go R pid (going goes)
+  moved_let_go goes = keeps_let_go R _ (going goes)
 
   moved_let_go_all : can LettingGo ≡ true → Keeps R (let_go_all pid)
-  moved_let_go_all goes = keeps_let_go_all R pid (going goes)
+  moved_let_go_all goes = keeps_let_go_all R _ (going goes)
 
   -- ---- the rows
-  moved_make : can Relabelling ≡ true → can Making ≡ true → (path : PathOf) (k : Kind) → Keeps R (make pid path k)
-  unfolding make
-  moved_make moves makes path k = search (wording, moved_missing, moved_affect) depth 40
-
-  ruleset rows = (wording, moved_observe, moved_affect, moved_walked_to, moved_found, moved_found_in, moved_opened)
-
-  moved_link_at : can Relabelling ≡ true → (target path : PathOf) → Keeps R (link_at pid target path)
-  unfolding link_at
-  moved_link_at moves target path = search rows depth 40
-
-  moved_unlink_at : can Relabelling ≡ true → can LettingGo ≡ true → (path : PathOf) → Keeps R (unlink_at pid path)
-  unfolding unlink_at
-  moved_unlink_at moves goes path = search (rows, moved_let_go_object) depth 40
-
-  moved_remove_dir : can Relabelling ≡ true → can LettingGo ≡ true → (path : PathOf) → Keeps R (remove_dir pid path)
-  unfolding remove_dir
-  moved_remove_dir moves goes path = search rows depth 40
-
-  moved_open_at : can Opening ≡ true → (path : PathOf) (mode : Mode) → Keeps R (open_at pid path mode)
-  unfolding open_at
-  moved_open_at opens path mode = search rows depth 40
-
-  moved_change_dir : (path : PathOf) → Keeps R (change_dir pid path)
-  unfolding change_dir
-  moved_change_dir path = search rows depth 40
-
-  moved_stat_at : (path : PathOf) → Keeps R (stat_at pid path)
-  unfolding stat_at
-  moved_stat_at path = search rows depth 40
-
-  moved_list_at : (path : PathOf) (index : ℕ) → Keeps R (list_at pid path index)
-  unfolding list_at
-  moved_list_at path index = search rows depth 40
-
-  moved_read_fd : can Moving ≡ true → (t : LengthChecks) (fd count : ℕ) → Keeps R (read_fd t pid fd count)
-  unfolding read_fd
-  moved_read_fd shifts t fd count = search (rows, moved_float_entry) depth 40
-
-  moved_write_fd : can Relabelling ≡ true → can Moving ≡ true → (t : LengthChecks) (fd : ℕ) → Keeps R (write_fd t pid fd)
-  unfolding write_fd
-  moved_write_fd moves shifts t fd = search (rows, moved_float_entry) depth 40
-
-  moved_cut_fd : can Relabelling ≡ true → (t : LengthChecks) (fd len : ℕ) → Keeps R (cut_fd t pid fd len)
-  unfolding cut_fd
-  moved_cut_fd moves t fd len = search rows depth 40
-
-  moved_seek_fd : can Moving ≡ true → (fd offset : ℕ) → Keeps R (seek_fd pid fd offset)
-  unfolding seek_fd
-  moved_seek_fd shifts fd offset = search (rows, moved_float_entry) depth 40
-
-  moved_dup_fd : (fd : ℕ) → Keeps R (dup_fd pid fd)
-  unfolding dup_fd
-  moved_dup_fd fd = search rows depth 40
-
-  moved_close_fd : can LettingGo ≡ true → (fd : ℕ) → Keeps R (close_fd pid fd)
-  unfolding close_fd
-  moved_close_fd goes fd = search (rows, moved_let_go) depth 40
-
-  moved_make_pipe : can Making ≡ true → can Opening ≡ true → Keeps R (make_pipe pid)
-  unfolding make_pipe
-  moved_make_pipe makes opens = search rows depth 60 fits 8000
-
-  moved_pex : can Claiming ≡ true → (fd : ℕ) → Keeps R (pex pid fd)
-  unfolding pex
-  moved_pex claims fd = search rows depth 40
-
-  moved_unpex : (fd : ℕ) → Keeps R (unpex pid fd)
-  unfolding unpex
-  moved_unpex fd = search rows depth 40
-
-  moved_fork : can Forking ≡ true → (keep : Keep) → Keeps R (fork pid keep)
-  unfolding fork
-  moved_fork forks keep = search rows depth 40
-
-  moved_exec : (path : PathOf) → Keeps R (exec pid path)
-  unfolding exec
-  moved_exec path = search rows depth 40
-
-  moved_exit : can LettingGo ≡ true → can Ending ≡ true → Keeps R (exit pid)
-  unfolding exit
-  moved_exit goes ends = search (rows, moved_let_go_all) depth 40
-
-  moved_wait_child : can Ending ≡ true → Keeps R (wait_child pid)
-  unfolding wait_child
-  moved_wait_child ends = search rows depth 40
-
-  moved_label_of : (path : PathOf) → Keeps R (label_of pid path)
-  unfolding label_of
-  moved_label_of path = search rows depth 40
-
-  moved_self_label : Keeps R (self_label pid)
-  unfolding self_label
-  moved_self_label = search rows depth 40
-
-  moved_set_label : can Relabelling ≡ true → can Logging ≡ true → can Lowering ≡ true → (place : ℕ) (path : PathOf) (now : Categories) → Keeps R (set_label place pid path now)
-  unfolding set_label
-  moved_set_label moves logs lowers place path now = search rows depth 40
-
-  moved_set_self : can Logging ≡ true → can Lowering ≡ true → (place : ℕ) (now : Categories) → Keeps R (set_self place pid now)
-  unfolding set_self
-  moved_set_self logs lowers place now = search rows depth 40
-
-  moved_freeze : can Relabelling ≡ true → (path : PathOf) → Keeps R (freeze pid path)
-  unfolding freeze
-  moved_freeze moves path = search rows depth 40
-
-  moved_freeze_self : Keeps R (freeze_self pid)
-  unfolding freeze_self
-  moved_freeze_self = search rows depth 40
-
-  moved_thaw : can Logging ≡ true → (place : ℕ) (path : PathOf) → Keeps R (thaw place pid path)
-  unfolding thaw
-  moved_thaw logs place path = search rows depth 40
-
-  moved_thaw_self : can Logging ≡ true → (place : ℕ) → Keeps R (thaw_self place pid)
-  unfolding thaw_self
-  moved_thaw_self logs place = search rows depth 40
-
-  moved_set_priv : can Relabelling ≡ true → can Logging ≡ true → (place : ℕ) (path : PathOf) (cap lic : PrivSet) → Keeps R (set_priv place pid path cap lic)
-  unfolding set_priv
-  moved_set_priv moves logs place path cap lic = search rows depth 40
-
-  moved_drop_lic : (set : PrivSet) → Keeps R (drop_lic pid set)
-  unfolding drop_lic
-  moved_drop_lic set = search rows depth 40
-
-  moved_grant_lic : can Logging ≡ true → (place target : ℕ) (set : PrivSet) → Keeps R (grant_lic place pid target set)
-  unfolding grant_lic
-  moved_grant_lic logs place target set = search rows depth 40
-
-  moved_set_ceiling : can Logging ≡ true → (place target : ℕ) (now : Categories) → Keeps R (set_ceiling place pid target now)
-  unfolding set_ceiling
-  moved_set_ceiling logs place target now = search rows depth 40
-
-  moved_read_log : can Logging ≡ true → (place index : ℕ) → Keeps R (read_log place pid index)
-  unfolding read_log
-  moved_read_log logs place index = search rows depth 40
+  ruleset rows = (
+    wording,
+    moved_observe,
+    moved_affect,
+    moved_walked_to,
+    moved_found,
+    moved_found_in,
+    moved_missing,
+    moved_opened,
+    moved_float_entry,
+    moved_let_go_object,
+    moved_let_go,
+    moved_let_go_all,
+  )
 
   -- ---- the table
   first : (a b : Bool) → (a && b) ≡ true → a ≡ true
   first a b h = (and_parts a b h).0
 
   second : (a b c : Bool) → (a && (b && c)) ≡ true → b ≡ true
-  second a b c h = first b c (and_parts a (b && c) h).1
+  second a b c h = first b c (and_parts a _ h).1
 
   third : (a b c d : Bool) → (a && (b && (c && d))) ≡ true → c ≡ true
-  third a b c d h = second b c d (and_parts a (b && (c && d)) h).1
+  third a b c d h = second b c d (and_parts a _ h).1
+
+  ruleset table = (rows, first, second, third)
 
   -- where R can bear what a call may do, its row keeps it
   pub moved_row : (t : LengthChecks) (place : ℕ) (c : Op) → list_all can (changes_of c) ≡ true → Keeps R (row t place pid c)
-  unfolding row create_at make_dir
-  moved_row t place (op.CreateAt path) h = moved_make (first _ _ h) (second _ _ _ h) path kind.File
-  moved_row t place (op.OpenAt path mode) h = moved_open_at (first _ _ h) path mode
-  moved_row t place (op.ReadFd fd count) h = moved_read_fd (first _ _ h) t fd count
-  moved_row t place (op.WriteFd fd bytes) h = moved_write_fd (first _ _ h) (second _ _ _ h) t fd
-  moved_row t place (op.CutFd fd len) h = moved_cut_fd (first _ _ h) t fd len
-  moved_row t place (op.SeekFd fd offset) h = moved_seek_fd (first _ _ h) fd offset
-  moved_row t place (op.DupFd fd) h = moved_dup_fd fd
-  moved_row t place (op.CloseFd fd) h = moved_close_fd (first _ _ h) fd
-  moved_row t place op.MakePipe h = moved_make_pipe (first _ _ h) (second _ _ _ h)
-  moved_row t place (op.MakeDir path) h = moved_make (first _ _ h) (second _ _ _ h) path kind.Dir
-  moved_row t place (op.LinkAt target path) h = moved_link_at (first _ _ h) target path
-  moved_row t place (op.UnlinkAt path) h = moved_unlink_at (first _ _ h) (second _ _ _ h) path
-  moved_row t place (op.RemoveDir path) h = moved_remove_dir (first _ _ h) (second _ _ _ h) path
-  moved_row t place (op.ChangeDir path) h = moved_change_dir path
-  moved_row t place (op.StatAt path) h = moved_stat_at path
-  moved_row t place (op.ListAt path index) h = moved_list_at path index
-  moved_row t place (op.Fork keep) h = moved_fork (first _ _ h) keep
-  moved_row t place (op.Exec path) h = moved_exec path
-  moved_row t place (op.Exit status) h = moved_exit (first _ _ h) (second _ _ _ h)
-  moved_row t place op.WaitChild h = moved_wait_child (first _ _ h)
-  moved_row t place (op.LabelOf path) h = moved_label_of path
-  moved_row t place op.SelfLabel h = moved_self_label
-  moved_row t place (op.SetLabel path label) h = moved_set_label (first _ _ h) (second _ _ _ h) (third _ _ _ _ h) place path label
-  moved_row t place (op.SetSelf label) h = moved_set_self (first _ _ h) (second _ _ _ h) place label
-  moved_row t place (op.Freeze path) h = moved_freeze (first _ _ h) path
-  moved_row t place op.FreezeSelf h = moved_freeze_self
-  moved_row t place (op.Thaw path) h = moved_thaw (first _ _ h) place path
-  moved_row t place op.ThawSelf h = moved_thaw_self (first _ _ h) place
-  moved_row t place (op.SetPriv path cap lic) h = moved_set_priv (first _ _ h) (second _ _ _ h) place path cap lic
-  moved_row t place (op.DropLic set) h = moved_drop_lic set
-  moved_row t place (op.GrantLic target set) h = moved_grant_lic (first _ _ h) place target set
-  moved_row t place (op.SetCeiling target label) h = moved_set_ceiling (first _ _ h) place target label
-  moved_row t place (op.Pex fd) h = moved_pex (first _ _ h) fd
-  moved_row t place (op.Unpex fd) h = moved_unpex fd
-  moved_row t place (op.ReadLog index) h = moved_read_log (first _ _ h) place index
+  unfolding open_row
+  moved_row t place op.MakePipe h = search table depth 60 fits 8000
+  moved_row t place c h = search table depth 60 fits 8000
 
 -- ---- the same by its words
 module _ (can : Change → Bool) (pid : ℕ) (R : Frame → Type 0) (w : Words can pid R) where
   pub kept_observe : (seen : Categories) → Keeps R (observe pid seen)
-  kept_observe seen = moved_observe can pid R (moves_of can pid R w) seen
+  kept_observe seen = moved_observe _ pid R (moves_of _ _ R w) seen
 
   pub kept_walked_to : (path : PathOf) → Keeps R (walked_to pid path)
-  kept_walked_to path = moved_walked_to can pid R (moves_of can pid R w) path
+  kept_walked_to path = moved_walked_to _ pid R (moves_of _ _ R w) path
 
   pub kept_found : (path : PathOf) → Keeps R (object_at pid path)
-  kept_found path = moved_found can pid R (moves_of can pid R w) path
+  kept_found path = moved_found _ pid R (moves_of _ _ R w) path
 
   pub kept_found_in : (path : PathOf) → Keeps R (spot_at pid path)
-  kept_found_in path = moved_found_in can pid R (moves_of can pid R w) path
+  kept_found_in path = moved_found_in _ pid R (moves_of _ _ R w) path
 
   pub kept_missing : (path : PathOf) → Keeps R (missing pid path)
-  kept_missing path = moved_missing can pid R (moves_of can pid R w) path
+  kept_missing path = moved_missing _ pid R (moves_of _ _ R w) path
 
   pub kept_opened : (fd : ℕ) → Keeps R (opened pid fd)
-  kept_opened fd = moved_opened can pid R (moves_of can pid R w) fd
+  kept_opened fd = moved_opened _ pid R (moves_of _ _ R w) fd
 
   pub kept_row : (t : LengthChecks) (place : ℕ) (c : Op) → list_all can (changes_of c) ≡ true → Keeps R (row t place pid c)
-  kept_row t place c h = moved_row can pid R (moves_of can pid R w) t place c h
+  kept_row t place c h = moved_row _ _ R (moves_of _ _ R w) t place c h
 
 -- R can bear all
 abbrev pub all : Change → Bool

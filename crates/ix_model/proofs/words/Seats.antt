@@ -1,9 +1,8 @@
 -- What a seat has made of a history, one entry later; and how a seat goes on.
-use Rattle.std.proofs.Common.{◌≡◌, ℕ, suc, ◌+◌, ◌==◌, ◌&&◌, Bool, true, List, [], ◌∷◌, ◌++◌, length, refl, sym, ap, ◌∙◌, arith, append-nil, append_assoc}
-use Rattle.std.proofs.Common.{if◌then◌else◌}
+use Rattle.std.proofs.Common.{◌≡◌, ℕ, suc, ◌+◌, ◌==◌, ◌&&◌, Bool, true, List, [], ◌∷◌, ◌++◌, length, refl, sym, ap, ◌∙◌, arith, append-nil, append_assoc, if◌then◌else◌}
 use Rattle.std.{specs.List.filter, proofs.lemmas.{Bool.{and_from, eq-eqb}, List.{Elements.filter-append, Folds.list_all-append}}}
-use Rattle.ix_model.specs.{world.World.World, opening.Opening.opening_world, history.Step.{step_of, run}, history.Events.Event, history.Made.Made}
-use Rattle.ix_model.specs.{history.History.{History, world_of, next, with_entry}, history.Seats.{made_of, replied, made_by, GoesOn}}
+use Rattle.ix_model.specs.{world.World.World, opening.Opening.opening_world, history.{Step.{step_of, run}, Events.Event, Made.Made}}
+use Rattle.ix_model.specs.history.{History.{History, world_of, next, with_entry}, Seats.{made_of, replied, made_by, GoesOn}}
 
 -- ---- what was made
 -- the entry that comes last is answered by the world to which the others lead
@@ -20,9 +19,9 @@ pub made_by-push : (seat : ℕ) (h : History) (e : Event) → e.seat ≡ seat �
 unfolding made_by world_of
 made_by-push seat h e own =
     let by : Made → Bool = λ m. m.event.seat == seat in
-    let last : Made = made_of e (next h e) in
-    let here : by last ≡ true = eq-eqb e.seat seat own in
-    ap (filter by) (replied-push (opening_world h.config) 1 h.events e)
+    let last = made_of e (next h e) in
+    let here = eq-eqb e.seat seat own in
+    ap (filter by) (replied-push _ 1 _ e)
     ∙ filter-append by (replied (opening_world h.config) 1 h.events) (last ∷ [])
     ∙ ap (λ b. filter by (replied (opening_world h.config) 1 h.events) ++ (if b then last ∷ [] else [])) here
 

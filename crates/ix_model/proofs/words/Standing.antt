@@ -1,12 +1,10 @@
 -- What stands behind a descriptor in a sound world: an open entry, and an object that is no directory.
-use Rattle.std.proofs.Common.{◌≡◌, ◌==◌, ℕ, Bool, true, false, not, ◌&&◌, ◌||◌, Option, Some, None, option_map, refl, sym, ap, ◌∙◌}
-use Rattle.std.{specs.Option.option_map_or, proofs.lemmas.Bool.eqb-true}
-use Rattle.ix_model.specs.{world.{World.{Frame, Object, Process, Open, at, living, is_dir, is_pipe}, Contents.on_pipe}, laws.Sound.OpensSound}
-use Rattle.ix_model.specs.rows.Walks.{OpenFile, behind, behind_of, entry_at}
+use Rattle.std.{proofs.{Common.{◌≡◌, ◌==◌, ℕ, Bool, true, false, not, ◌&&◌, ◌||◌, Option, Some, None, option_map, refl, sym, ap, ◌∙◌}, lemmas.Bool.eqb-true}, specs.Option.option_map_or}
+use Rattle.ix_model.specs.{world.{World.{Frame, Object, Process, Open, at, is_dir, is_pipe}, Contents.on_pipe}, laws.Sound.OpensSound, rows.Walks.{OpenFile, behind, behind_of, entry_at}}
 
 entry_is : (f : Frame) (d : Option ℕ) (e : OpenFile) → entry_at f d ≡ Some e → at f.opens e.id ≡ Some e.entry
 entry_is f None e h = cc
-entry_is f (Some n) e h = go (at f.opens n) refl h
+entry_is f (Some n) e h = go _ refl h
   where
     go : (o : Option Open) → at f.opens n ≡ o → option_map (λ x. let b : OpenFile = record { id = n; entry = x } in b) o ≡ Some e → at f.opens e.id ≡ Some e.entry
     go None is h = cc
@@ -15,11 +13,11 @@ entry_is f (Some n) e h = go (at f.opens n) refl h
 -- the open entry behind a descriptor stands
 pub behind_is : (f : Frame) (pid fd : ℕ) (e : OpenFile) → behind f pid fd ≡ Some e → at f.opens e.id ≡ Some e.entry
 unfolding behind
-behind_is f pid fd e h = go (living (at f.processes pid)) h
+behind_is f pid fd e h = go _ h
   where
     go : (p : Option Process) → behind_of p f fd ≡ Some e → at f.opens e.id ≡ Some e.entry
     go None h = cc
-    go (Some p) h = entry_is f (at p.fds fd) e h
+    go (Some p) h = entry_is f _ e h
 
 -- the object of an open entry
 pub record Standing (f : Frame) (x : Open) : Type 0 where
@@ -29,7 +27,7 @@ pub record Standing (f : Frame) (x : Open) : Type 0 where
   pub at_end : is_pipe object ≡ false → x.end ≡ 0
 
 no_pipe_end : (n : ℕ) (b : Bool) → b ≡ false → (n == 0 || n == 1 && b) ≡ true → n ≡ 0
-no_pipe_end n b is h = eqb-true n 0 (go (n == 0) (n == 1) (ap (λ c. n == 0 || n == 1 && c) (sym is) ∙ h))
+no_pipe_end n b is h = eqb-true n 0 (go _ _ (ap (λ c. n == 0 || n == 1 && c) (sym is) ∙ h))
   where
     go : (x y : Bool) → (x || y && false) ≡ true → x ≡ true
     go true y h = refl

@@ -1,34 +1,33 @@
 -- The rows of a read and of a write, walked once: what is known where they look, affect and float, and where they end.
-use Rattle.std.proofs.Common.{◌≡◌, ◌-◌, ◌&&◌, ℕ, true, false, not, Option, Some, option_map, refl, sym, ap, ◌∙◌, subst, inl, inr}
-use Rattle.std.proofs.lemmas.Bool.{not-false}
+use Rattle.std.proofs.{Common.{◌≡◌, ◌-◌, ◌&&◌, ℕ, true, false, not, Option, Some, option_map, refl, sym, ap, ◌∙◌, subst, inl, inr}, lemmas.Bool.not-false}
 use Rattle.ix_label.specs.{Category.{Categories, join, leq}, Lattice.{same-decides, leq-join_right}}
-use Rattle.ix_model.specs.{world.World.{Frame, Object, Process, at, change, living, is_pipe, held}, rows.Outcomes.Row, rows.Walks.{OpenFile, behind}}
+use Rattle.ix_model.specs.{world.World.{Frame, Object, Process, at, change, living, is_pipe, held}, rows.{Outcomes.Row, Walks.{OpenFile, behind}}}
 use Rattle.ix_model.specs.{rows.Rows.{◌>>=◌, ◌>>◌, pass, need, frame, process, observe, affect}, declared.{refusal.Refusal.Refusal, reply.Reply.Reply}}
 use Rattle.ix_model.specs.rows.OnDescriptors.{LengthChecks, float_entry, read_fd, write_fd, read_passed, write_passed}
-use Rattle.ix_model.specs.declared.refusal.Refusal.TheVariants as refusal
 use Rattle.ix_model.proofs.{tables.{Tables.at_changed, Finds.at_change}, words.Living.{is_living, not_ended, lives_as}}
-use Rattle.ix_model.proofs.words.Ends.{Ends, Anything, ends_bind, ends_then, ends_pass, ends_frame, ends_need, ends_only_if, ends_caller, ends_object}
-use Rattle.ix_model.proofs.words.Ends.{ends_opened, ends_change_object, ends_change_caller, ends_change_open}
+use Rattle.ix_model.proofs.words.Ends.{Ends, Anything, ends_bind, ends_then, ends_frame, ends_need, ends_only_if, ends_caller, ends_object}
+use Rattle.ix_model.proofs.words.Ends.{ends_pass, ends_change_open, ends_change_object, ends_change_caller, ending}
+use Rattle.ix_model.specs.declared.refusal.Refusal.TheVariants as refusal
 
 -- ---- looking and affecting
 still_lives : (f : Frame) (pid : ℕ) (h : Process → Process) (p : Process) → (h p).ended ≡ p.ended → living (at f.processes pid) ≡ Some p → living (at (change f.processes pid h) pid) ≡ Some (h p)
-still_lives f pid h p ended lives = lives_as _ (h p) (at_changed f.processes pid h ∙ ap (option_map h) (is_living _ p lives)) (ended ∙ not_ended _ p lives)
+still_lives f pid h p ended lives = lives_as _ _ (at_changed f.processes pid h ∙ ap (option_map h) (is_living _ p lives)) (ended ∙ not_ended _ p lives)
 
 pub one_there : {A : Type 0} (o : Option A) (p q : A) → o ≡ Some p → o ≡ Some q → p ≡ q
-one_there o p q is here = let h : Some p ≡ Some q = sym is ∙ here in cc
+one_there o p q is here = let h = sym is ∙ here in cc
 
 -- where a look passes, the caller's label is at or above what was looked at
 pub ends_looks : (pid : ℕ) (seen : Categories) (f : Frame) (Q : Unit {0} → Frame → Type 0) → ((g : Frame) (p : Process) → g.objects ≡ f.objects → g.opens ≡ f.opens
     → living (at g.processes pid) ≡ Some p → leq seen p.label ≡ true → Q tt g) → Ends (observe pid seen f) Anything Q
 unfolding observe
 ends_looks pid seen f Q looks =
-    ends_bind _ _ f Anything Q (ends_caller pid f Anything _ (λ p lives. ends_only_if _ _ f Anything Q
-    (λ raises. ends_then _ _ f Anything Q (ends_need _ _ f Anything _ (λ free.
-    ends_then _ _ f Anything Q (ends_need _ _ f Anything _ (λ low.
-    ends_change_caller pid _ f Anything Q (looks _ (record p { label = join p.label seen }) refl refl
-    (still_lives f pid (λ q. record q { label = join q.label seen }) p refl lives) (leq-join_right p.label seen)))
+    ends_bind _ _ f _ Q (ends_caller _ f _ _ (λ p lives. ends_only_if _ _ f _ Q
+    (λ raises. ends_then _ _ f _ Q (ends_need _ _ f _ _ (λ free.
+    ends_then _ _ f _ Q (ends_need _ _ f _ _ (λ low.
+    ends_change_caller _ _ f _ Q (looks _ _ refl refl
+    (still_lives f _ _ p refl lives) (leq-join_right _ _)))
     tt)) tt))
-    (λ no. looks f p refl refl lives (subst (λ (l : Categories). leq seen l ≡ true) ((same-decides (join p.label seen) p.label).0 (not-false _ no)) (leq-join_right p.label seen))))
+    (λ no. looks f p refl refl lives (subst (λ l. leq seen l ≡ true) ((same-decides _ _).0 (not-false _ no)) (leq-join_right p.label _))))
     tt)
 
 -- where an object was affected, its label is at or above the caller's and that of the open entry
@@ -64,40 +63,19 @@ module _ (f : Frame) (P : Refusal → Frame → Type 0) (Q : Reply → Frame →
   pub ends_read : (t : LengthChecks) (pid fd count : ℕ) → ((e : OpenFile) → behind f pid fd ≡ Some e → (x : Object) → at f.objects e.entry.object ≡ Some x
       → Ends (◌>>◌ (observe pid (join x.label e.entry.label)) (read_behind t pid e x) f) P Q) → Ends (read_fd t pid fd count f) P Q
   unfolding read_fd
-  ends_read t pid fd count h =
-      ends_bind _ _ f P Q (ends_opened pid fd f P _ (λ e is.
-      ends_then _ _ f P Q (ends_need _ _ f P _ (λ may.
-      ends_bind _ _ f P Q (ends_object e.entry.object f P _ (λ x here.
-      ends_then _ _ f P Q (ends_need _ _ f P _ (λ free.
-      ends_then _ _ f P Q (ends_need _ _ f P _ (λ few. h e is x here)
-      (r _))) (r _))) (r _))) (r _))) (r _))
+  ends_read t pid fd count h = search (ending, h, r) depth 60 fits 8000
 
   -- and from behind its look on
   pub ends_read_behind : (t : LengthChecks) (pid : ℕ) (e : OpenFile) (x : Object) → ((q : Process) → living (at f.processes pid) ≡ Some q
       → Ends (◌>>◌ (float_entry q x e) (pass read_passed) f) P Q) → Ends (read_behind t pid e x f) P Q
-  ends_read_behind t pid e x h =
-      ends_bind _ _ f P Q (ends_frame f P _ (
-      ends_then _ _ f P Q (ends_need _ _ f P _ (λ some.
-      ends_bind _ _ f P Q (ends_caller pid f P _ (λ q lives. h q lives) (r _))) (r _))))
+  ends_read_behind t pid e x h = search (ending, h, r) depth 40 fits 8000
 
   -- a write, from where it affects on
   pub ends_write : (t : LengthChecks) (pid fd : ℕ) → ((e : OpenFile) → behind f pid fd ≡ Some e → (x : Object) → at f.objects e.entry.object ≡ Some x
       → (q : Process) → living (at f.processes pid) ≡ Some q
       → Ends (◌>>◌ (affect pid e.entry.object e.entry.label) (◌>>◌ (float_entry q x e) (pass write_passed)) f) P Q) → Ends (write_fd t pid fd f) P Q
   unfolding write_fd
-  ends_write t pid fd h =
-      ends_bind _ _ f P Q (ends_opened pid fd f P _ (λ e is.
-      ends_then _ _ f P Q (ends_need _ _ f P _ (λ may.
-      ends_bind _ _ f P Q (ends_object e.entry.object f P _ (λ x here.
-      ends_then _ _ f P Q (ends_need _ _ f P _ (λ free.
-      ends_then _ _ f P Q (ends_need _ _ f P _ (λ few.
-      ends_then _ _ f P Q (ends_need _ _ f P _ (λ plain.
-      ends_bind _ _ f P Q (ends_frame f P _ (
-      ends_then _ _ f P Q (ends_need _ _ f P _ (λ whole.
-      ends_then _ _ f P Q (ends_need _ _ f P _ (λ room.
-      ends_then _ _ f P Q (ends_need _ _ f P _ (λ space.
-      ends_bind _ _ f P Q (ends_caller pid f P _ (λ q own. h e is x here q own)
-      (r _))) (r _))) (r _))) (r _))))) (r _))) (r _))) (r _))) (r _))) (r _))) (r _))
+  ends_write t pid fd h = search (ending, h, r) depth 80 fits 16000
 
 -- where the open entry floats, and where it is a pipe's and doesn't
 pub ends_floated : (P : Refusal → Frame → Type 0) (Q : Reply → Frame → Type 0) (q : Process) (x : Object) (e : OpenFile) (a : Reply) (g : Frame)
@@ -105,4 +83,4 @@ pub ends_floated : (P : Refusal → Frame → Type 0) (Q : Reply → Frame → T
     → Ends (◌>>◌ (float_entry q x e) (pass a) g) P Q
 unfolding float_entry
 ends_floated P Q q x e a g file pipe =
-    ends_then _ _ g P Q (ends_only_if _ _ g P _ (λ yes_. ends_change_open e.id _ g P _ (ends_pass _ _ P Q (file yes_))) (λ no. ends_pass _ _ P Q (pipe no)))
+    ends_then _ _ g P Q (ends_only_if _ _ g P _ (λ yes_. ends_change_open _ _ g P _ (ends_pass _ _ P Q (file yes_))) (λ no. ends_pass _ _ P Q (pipe no)))

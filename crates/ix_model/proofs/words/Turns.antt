@@ -1,6 +1,6 @@
 -- Rows that keep one thing up to a word, and another from there on.
 use Rattle.std.proofs.Common.{◌≡◌, Bool, true, false, Option, Some, None, refl}
-use Rattle.ix_model.{specs.world.World.Frame, specs.rows.Outcomes.{Outcome, Row, Refuse, Pass}, specs.declared.refusal.Refusal.Refusal}
+use Rattle.ix_model.specs.{world.World.Frame, rows.Outcomes.{Outcome, Row, Refuse, Pass}, declared.refusal.Refusal.Refusal}
 use Rattle.ix_model.{specs.rows.Rows.{◌>>=◌, ◌>>◌, on_pass, pass, refuse, some, only_if, frame}, proofs.words.Keeps.{Holds, Keeps}}
 
 -- from a frame of which R holds, the row comes to one of which S holds
@@ -39,12 +39,12 @@ module _ (R S : Frame → Type 0) (so : (g : Frame) → R g → S g) where
 
   pub turns_then_first : {A B : Type 0} (m : Row A) (k : Row B) → Keeps R m → Turns R S k → Turns R S (◌>>◌ m k)
   unfolding ◌>>◌
-  turns_then_first m k hm hk = record { led = λ g r. before_passed (m g) (λ a. k) (hm.led g r) (λ a. hk) }
+  turns_then_first m k hm hk = record { led = λ g r. before_passed (m g) _ (hm.led g r) (λ a. hk) }
 
   -- here is the turn
   pub turns_then_last : {A B : Type 0} (m : Row A) (k : Row B) → Turns R S m → Keeps S k → Turns R S (◌>>◌ m k)
   unfolding ◌>>◌
-  turns_then_last m k hm hk = record { led = λ g r. after_passed (m g) (λ a. k) (hm.led g r) (λ a. hk) }
+  turns_then_last m k hm hk = record { led = λ g r. after_passed (m g) _ (hm.led g r) (λ a. hk) }
 
   pub turns_only_if : (b : Bool) (m : Row (Unit {0})) → Turns R S m → Turns R S (only_if b m)
   unfolding only_if pass Holds

@@ -1,15 +1,12 @@
 -- Where a walk leads: the directory that was looked into last, and what it has under the last name.
-use Rattle.std.proofs.Common.{◌≡◌, ◌-◌, ℕ, suc, Bool, true, false, true≢false, List, [], ◌∷◌, length, Option, Some, None, unwrap_or, if◌then◌else◌, refl, sym}
-use Rattle.std.proofs.Common.{ap, ◌∙◌, subst, arith, get_or}
+use Rattle.std.proofs.Common.{◌≡◌, ◌-◌, ℕ, suc, Bool, true, false, true≢false, List, [], ◌∷◌, length, Option, Some, None, unwrap_or, if◌then◌else◌, refl, sym, ap, ◌∙◌, subst, arith, get_or}
 use Rattle.std.specs.Option.{option_map_or}
-use Rattle.ix_model.specs.{world.{Naming.{PathOf, last_name}, World.{Frame, Object, Process, at, is_dir}}, rows.{Outcomes.Row, Rows.observe}}
-use Rattle.ix_model.specs.declared.refusal.Refusal.{Refusal}
-use Rattle.ix_model.specs.rows.Walks.{Spot, Sought, node, child, lacking, looking_into, walk_from, walk, join_all, walked_to, found_object, found_spot, vacant}
-use Rattle.ix_model.specs.rows.Walks.{object_at, spot_at, missing}
-use Rattle.ix_model.specs.rows.Walks as sought
-use Rattle.ix_model.proofs.{tables.Tables.{SameBut, back, seen_same}, words.Keeps.Keeps, words.RowEnds.{ends_spot, ends_vacant}, sound.Logging.holds_both}
+use Rattle.ix_model.specs.{world.{Naming.{PathOf, last_name}, World.{Frame, Object, Process, at, is_dir}}, rows.{Outcomes.Row, Rows.observe}, declared.refusal.Refusal.Refusal}
+use Rattle.ix_model.specs.rows.Walks.{Spot, Sought, node, child, lacking, looking_into, walk_from, walk, join_all, walked_to, found_object, vacant, spot_at, missing}
+use Rattle.ix_model.proofs.{tables.Tables.{SameBut, back, seen_same}, words.{Keeps.Keeps, RowEnds.{ends_spot, ends_vacant}}, sound.Logging.holds_both}
 use Rattle.ix_model.proofs.words.Ends.{Ends, ends_kept, ends_bind, ends_then, ends_pass, ends_frame, ends_caller, ends_there}
 use Rattle.ix_model.proofs.frames.{Floats.{Floats, object_but, floats_itself, floats_observe}, Frames.{Follows, follows_observe}}
+use Rattle.ix_model.specs.rows.Walks as sought
 
 -- ---- a name in a directory
 -- under that name the directory has that object, or none
@@ -24,15 +21,15 @@ abbrev pub Leads : Frame → List ℕ → Sought → Type 0
 Leads f name (sought.Found o None) = option_map_or is_dir (at f.objects o) false ≡ true
 Leads f name (sought.Found o (Some d)) = Within f d name (Some o)
 Leads f name (sought.Missing d) = Within f d name None
-Leads f name sought.NotFound = Unit {0}
-Leads f name sought.NotDir = Unit {0}
+Leads f name sought.NotFound = Unit
+Leads f name sought.NotDir = Unit
 
 node_is : (f : Frame) (n : ℕ) (name : List ℕ) (c : Option ℕ) → is_dir (node f.objects n) ≡ true → child (node f.objects n) name ≡ c → Within f n name c
 node_is f n name c dir leads = go (at f.objects n) refl dir leads
   where
     go : (x : Option Object) → at f.objects n ≡ x → is_dir (unwrap_or x sought.nothing) ≡ true → child (unwrap_or x sought.nothing) name ≡ c → Within f n name c
     go None is dir leads = absurd (true≢false (sym dir))
-    go (Some x) is dir leads = record { dir = x; is = is; is_directory = dir; leads = leads }
+    go (Some x) is dir leads = search
 
 last_later : (name next : List ℕ) (names : List (List ℕ)) → last_name (name ∷ next ∷ names) ≡ last_name (next ∷ names)
 last_later name next names =
@@ -67,20 +64,20 @@ module _ (f : Frame) where
 
   pub walks : (p : Process) (path : PathOf) → option_map_or is_dir (at f.objects 0) false ≡ true → option_map_or is_dir (at f.objects p.cwd) false ≡ true
       → Leads f (last_name path.names) (walk f.objects p path).outcome
-  walks p path root home = go path.names
+  walks p path root home = go _
     where
       go : (names : List (List ℕ)) → Leads f (last_name names) (walk_from f.objects (if path.absolute then 0 else p.cwd) None names).outcome
-      go [] = start_dir p path.absolute root home
-      go (name ∷ names) = walk_leads name names _ None
+      go [] = start_dir p _ root home
+      go (name ∷ names) = walk_leads _ _ _ None
 
 -- ---- in a frame that is one but for labels
 pub within_back : (f g : Frame) → SameBut object_but f.objects g.objects → (d : ℕ) (name : List ℕ) (c : Option ℕ) → Within g d name c → Within f d name c
 within_back f g same d name c w =
-    let b = back object_but (λ y. refl) f.objects g.objects same d w.dir w.is in
+    let b = back _ (λ y. refl) _ _ same d _ w.is in
     record { dir = b.was; is = b.is_was; is_directory = sym (ap is_dir b.same) ∙ w.is_directory; leads = sym (ap (λ y. child y name) b.same) ∙ w.leads }
 
 pub within_on : (f g : Frame) → Floats f g → (d : ℕ) (name : List ℕ) (c : Option ℕ) → Within f d name c → Within g d name c
-within_on f g r d name c w = within_back g f (record { same = sym r.objects.same }) d name c w
+within_on f g r d name c w = within_back g f (record { same = sym r.objects.same }) d _ c w
 
 -- ---- the frames on the way
 -- a frame that follows, and is one but for labels
@@ -92,16 +89,16 @@ pub along_itself : (f : Frame) → Follows f f → Along f f
 along_itself f s = record { follows = s; floats = floats_itself f }
 
 leads_back : (f g : Frame) → Floats f g → (name : List ℕ) (w : Sought) → Leads g name w → Leads f name w
-leads_back f g r name (sought.Found o None) h = sym (seen_same object_but (λ y. option_map_or is_dir y false) (λ y. refl) f.objects g.objects r.objects o) ∙ h
-leads_back f g r name (sought.Found o (Some d)) h = within_back f g r.objects d name (Some o) h
-leads_back f g r name (sought.Missing d) h = within_back f g r.objects d name None h
+leads_back f g r name (sought.Found o None) h = sym (seen_same _ (λ y. option_map_or is_dir y false) (λ y. refl) _ _ r.objects o) ∙ h
+leads_back f g r name (sought.Found o (Some d)) h = within_back f g r.objects d _ _ h
+leads_back f g r name (sought.Missing d) h = within_back f g r.objects d _ _ h
 leads_back f g r name sought.NotFound h = h
 leads_back f g r name sought.NotDir h = h
 
 module _ {A : Type 0} (f g : Frame) (m : Row A) (follow : Keeps (Follows f) m) (float : Keeps (Floats f) m) where
   pub ends_along : (P : Refusal → Frame → Type 0) (Q : A → Frame → Type 0) → Along f g → ((r : Refusal) (h : Frame) → Follows f h → P r h) → ((a : A) (h : Frame) → Along f h → Q a h) → Ends (m g) P Q
-  ends_along P Q s refused passed = ends_kept (λ h. Follows f h × Floats f h) (m g) P Q (holds_both _ _ _ (follow.led g s.follows) (float.led g s.floats))
-      (λ r h k. refused r h k.0) (λ a h k. passed a h (record { follows = k.0; floats = k.1 }))
+  ends_along P Q s refused passed = ends_kept _ (m g) P Q (holds_both _ _ _ (follow.led g s.follows) (float.led g s.floats))
+      (λ r h k. refused r h k.0) (λ a h k. passed a h (search))
 
 -- what a walk tells holds of the frame from which it began
 pub leads_walked_to : (f g : Frame) (pid : ℕ) (path : PathOf) (P : Refusal → Frame → Type 0) (Q : Sought → Frame → Type 0) → Along f g
@@ -120,11 +117,11 @@ leads_walked_to f g pid path P Q s refused passed =
 -- what a walk told, and where it led
 pub leads_vacant : (f : Frame) (name : List ℕ) (w : Sought) (h : Frame) (P : Refusal → Frame → Type 0) (Q : ℕ → Frame → Type 0) → Leads f name w
     → ((d : ℕ) → Within f d name None → Q d h) → ((r : Refusal) → P r h) → Ends (vacant w h) P Q
-leads_vacant f name w h P Q leads next k = ends_vacant w h P Q (λ d is. next d (subst (λ (v : Sought). Leads f name v) is leads)) (k _) (k _) (k _)
+leads_vacant f name w h P Q leads next k = ends_vacant w h P Q (λ d is. next d (subst (λ v. Leads f name v) is leads)) (k _) (k _) (k _)
 
 pub leads_there : (f : Frame) (name : List ℕ) (w : Sought) (h : Frame) (P : Refusal → Frame → Type 0) (Q : ℕ → Frame → Type 0) → Leads f name w
     → ((o : ℕ) (dir : Option ℕ) → Leads f name (sought.Found o dir) → Q o h) → ((r : Refusal) → P r h) → Ends (found_object w h) P Q
-leads_there f name w h P Q leads next k = ends_there w h P Q (λ o dir is. next o dir (subst (λ (v : Sought). Leads f name v) is leads)) (k _) (k _)
+leads_there f name w h P Q leads next k = ends_there w h P Q (λ o dir is. next o dir (subst (λ v. Leads f name v) is leads)) (k _) (k _)
 
 pub leads_missing : (f : Frame) (pid : ℕ) (path : PathOf) (P : Refusal → Frame → Type 0) (Q : ℕ → Frame → Type 0) → Follows f f
     → ((r : Refusal) (h : Frame) → Follows f h → P r h) → ((d : ℕ) (h : Frame) → Along f h → Within f d (last_name path.names) None → Q d h)

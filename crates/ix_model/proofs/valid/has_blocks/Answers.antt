@@ -1,6 +1,5 @@
 use Rattle.std.proofs.{Common.{◌≡◌, ◌+◌, ◌≤◌, length, take, sym, ap, ◌∙◌, arith}, lemmas.Bool.{eq-eqb, lt-leb}}
-use Rattle.ix_model.specs.{world.{World.fs_at, Naming.PathOf}, rows.Telling.blocks_for, opening.Valid.{blocks_taken, fs_of}}
-use Rattle.ix_model.proofs.opening.Fitting.{taken_more}
+use Rattle.ix_model.{specs.{world.{World.fs_at, Naming.PathOf}, rows.Telling.blocks_for, opening.Valid.{blocks_taken, fs_of}}, proofs.opening.Fitting.taken_more}
 use Rattle.ix_model.proofs.valid.has_blocks.Goals as goal
 
 pub returns-then-needed-left : goal.returns-then-needed-left
