@@ -1,17 +1,16 @@
 -- The name of a `lane` line stands behind its word and a space.
-use Rattle.std.proofs.Common.{◌≡◌, ℕ, ◌≤◌, true, false, List, ◌++◌, length, drop, Some, option_map, refl, sym, ap, ◌∙◌, arith}
+use Rattle.std.proofs.Common.{◌≡◌, ℕ, ◌≤◌, false, List, ◌++◌, length, drop, Some, option_map, refl, sym, ap, ◌∙◌, arith}
 use Rattle.std.{specs.{Prelude.codes, List.slice_get}, proofs.lemmas.{Bool.false≢true, List.append-nil, Option.same_Some}}
+use Rattle.ix_script.specs.{lines.Roles.role_of, scripts.{Canonical.{line_words, line_text, may_be_respelled}, Packed.{IsLine, line_in}}, declared.{line.Line.Line, role.Role.Role}}
+use Rattle.ix_script.proofs.{reader.Scheduling.lane_role, back.TextBack.own_text}
 use Rattle.ix_label.specs.declared.form.Form as spelled
-use Rattle.ix_script.specs.{lines.Roles.role_of, scripts.{Canonical.{line_words, line_text, may_be_respelled}, Packed.{IsLine, line_in}}}
-use Rattle.ix_script.specs.declared.{line.Line.Line, role.Role.Role}
 use Rattle.ix_script.specs.declared.line.Line.TheVariants as line
 use Rattle.ix_script.specs.declared.role.Role.TheVariants as role
-use Rattle.ix_script.proofs.{reader.Scheduling.lane_role, back.TextBack.own_text}
 
 lane_is : (l : Line) → role_of l ≡ role.Lane → (name : List ℕ) × (l ≡ line.Lane name)
 unfolding role_of
 lane_is (line.Lane name) is = (name, refl)
-lane_is _ is = let other : false ≡ true = ap lane_role is in absurd (false≢true other)
+lane_is _ is = let other = ap lane_role is in absurd (false≢true other)
 
 pub record LaneText (labels : spelled.Form) (text : List ℕ) : Type 0 where
   pub says : line_in labels text ≡ line.Lane (drop 5 text)

@@ -1,21 +1,19 @@
 -- The canonical text of a line that was read is read as the same line, has no fault, and is no longer.
-use Rattle.std.proofs.Common.{◌≡◌, ℕ, ◌^◌, ◌<◌, ◌≤◌, true, false, not, nat_le, List, [], ◌∷◌, ◌++◌, length, take, Some, None, inl, inr, refl, sym, ap, ◌∙◌}
-use Rattle.std.proofs.Common.{subst, arith}
-use Rattle.std.proofs.Math.Seq.{take-append_seam}
-use Rattle.std.proofs.lemmas.{Bool.{cases_Bool, false≢true, not-false, leb-true}, List.{length-append, Folds.list_all-append}, Option.cond_some}
+use Rattle.std.proofs.Common.{◌≡◌, ℕ, ◌^◌, ◌<◌, ◌≤◌, true, false, not, nat_le, List, [], ◌∷◌, ◌++◌, length, take, Some, None, inl, inr, refl, sym, ap, ◌∙◌, subst, arith}
+use Rattle.std.proofs.{Math.Seq.take-append_seam, lemmas.{Bool.{cases_Bool, false≢true, not-false, leb-true}, List.{length-append, Folds.list_all-append}, Option.cond_some}}
 use Rattle.std.specs.{Prelude.{codes, if◌then◌else◌}, List.list_all, Option.{option_or, option_map_or}}
 use Rattle.ix_model.specs.{world.Naming.same_bytes, opening.Valid.is_within}
-use Rattle.ix_label.specs.declared.form.Form as spelled
 use Rattle.ix_script.specs.lines.{Before.form_told, Kinds.places_fault, Rules.{is_late, is_outside}, Said.{payload_within, said, version_of, line_of}}
 use Rattle.ix_script.specs.texts.{Cutting.{is_skipped, is_policy_line, pieces, words_of, word_at}, Payloads.{◌>>=◌, payload_of}, Spellings.payload_text}
 use Rattle.ix_script.specs.{scripts.Canonical.{line_words, line_text, has_one_spelling, may_be_respelled}, declared.{line.Line.Line, form.Form.Form}}
 use Rattle.ix_text.{specs.{Bytes.{is_empty, begins}, Spellings.{further, joined}}, proofs.Tests.{both as both_true, join_tests}}
 use Rattle.ix_script.specs.lines.Forms.{form_of, frame_form, group_form, plain_of, on_path_of, on_fd_of, counted_of, file_form, has_right_count, places}
 use Rattle.ix_script.specs.lines.Faults.{text_fault, words_fault, stand_fault, names_fault, said_fault, form_fault, command_fault, line_fault, body_fault}
-use Rattle.ix_script.specs.declared.form.Form.TheVariants as form
-use Rattle.ix_script.specs.declared.words.Spot.TheVariants as spot
 use Rattle.ix_script.proofs.{reader.Told.{bound, neither, neither_from}, lines.{FirstWords.form_word, Faultless.{one_kept, text_parts, text_from, words_again}}}
 use Rattle.ix_script.proofs.{texts.Cuts.{words_joined, words_some, cut_again}, back.{PayloadBack.Spells, QuotesBack.payload_spells, Shorter.payload_longer}}
+use Rattle.ix_label.specs.declared.form.Form as spelled
+use Rattle.ix_script.specs.declared.form.Form.TheVariants as form
+use Rattle.ix_script.specs.declared.words.Spot.TheVariants as spot
 
 -- a text that stands for another
 pub record Back (before : List Line) (text again : List ℕ) (l : Line) : Type 0 where
@@ -52,19 +50,19 @@ itself before text again l e means sound = record {
 pub right_count : (before : List Line) (f : Form) (words : List (List ℕ)) → form_fault before f words ≡ None → has_right_count f words ≡ true
 unfolding form_fault stand_fault
 right_count before f words h =
-    let stand = (neither (stand_fault before f words) (option_or (places_fault (places (form_told before) f words))
+    let stand = (neither _ (option_or (places_fault (places (form_told before) f words))
     (option_or (names_fault before f words) (option_map_or (said_fault before) (said (form_told before) f words) None))) h).0 in
-    let late = one_kept 8 (is_late before f) ((9, is_outside before f) ∷ (10, not (has_right_count f words)) ∷ []) stand in
-    let outside = one_kept 9 (is_outside before f) ((10, not (has_right_count f words)) ∷ []) late.1 in
-    let count = one_kept 10 (not (has_right_count f words)) [] outside.1 in
-    not-false (has_right_count f words) count.0
+    let late = one_kept 8 (is_late before f) ((9, is_outside before f) ∷ (10, not _) ∷ []) stand in
+    let outside = one_kept 9 (is_outside before f) ((10, not _) ∷ []) late.1 in
+    let count = one_kept 10 _ [] outside.1 in
+    not-false _ count.0
 
 -- ---- a line that has several spellings
 -- a text begins with its first word
 pub front_of : (words : List (List ℕ)) (text first : List ℕ) → is_empty first ≡ false → first ≡ word_at words 0 → joined 32 words ≡ text → take (length first) text ≡ first
 front_of [] text first some h whole = absurd (false≢true (sym some ∙ ap is_empty h))
 front_of (word ∷ words) text first some h whole =
-    ap (take (length first)) (sym whole) ∙ ap (λ w. take (length first) (w ++ further 32 words)) (sym h) ∙ take-append_seam first (further 32 words)
+    ap (take _) (sym whole) ∙ ap (λ w. take (length first) (w ++ further 32 words)) (sym h) ∙ take-append_seam first (further 32 words)
 
 pub skipped_several : (text : List ℕ) → is_skipped text ≡ true → has_one_spelling text ≡ false
 unfolding has_one_spelling
@@ -114,30 +112,27 @@ fitting most p bytes few printable h =
 
 -- the last word is printable, where the text is
 pub last_printable : (front : List (List ℕ)) (p : List ℕ) → list_all (is_within 32 126) (joined 32 (front ++ p ∷ [])) ≡ true → list_all (is_within 32 126) p ≡ true
-last_printable [] p h = (both_true (list_all (is_within 32 126) p) true (sym (list_all-append (is_within 32 126) p []) ∙ h)).0
+last_printable [] p h = (both_true _ true (sym (list_all-append _ p []) ∙ h)).0
 last_printable (word ∷ front) p h =
-    let parts = both_true (list_all (is_within 32 126) word) (list_all (is_within 32 126) (further 32 (front ++ p ∷ [])))
-    (sym (list_all-append (is_within 32 126) word (further 32 (front ++ p ∷ []))) ∙ h) in
+    let parts = both_true (list_all _ word) _ (sym (list_all-append _ word _) ∙ h) in
     further_printable front p parts.1
   where
     further_printable : (front : List (List ℕ)) (p : List ℕ) → list_all (is_within 32 126) (further 32 (front ++ p ∷ [])) ≡ true → list_all (is_within 32 126) p ≡ true
-    further_printable [] p h = (both_true (list_all (is_within 32 126) p) true (sym (list_all-append (is_within 32 126) p []) ∙ h)).0
+    further_printable [] p h = (both_true _ true (sym (list_all-append _ p []) ∙ h)).0
     further_printable (word ∷ front) p h =
-        let parts = both_true (list_all (is_within 32 126) word) (list_all (is_within 32 126) (further 32 (front ++ p ∷ [])))
-        (sym (list_all-append (is_within 32 126) word (further 32 (front ++ p ∷ []))) ∙ h) in
+        let parts = both_true _ _ (sym (list_all-append _ word _) ∙ h) in
         further_printable front p parts.1
 
 -- another last word, no longer and printable
 further_other : (front : List (List ℕ)) (p q : List ℕ) → length q ≤ length p → list_all (is_within 32 126) q ≡ true
     → list_all (is_within 32 126) (further 32 (front ++ p ∷ [])) ≡ true → (length (further 32 (front ++ q ∷ [])) ≤ length (further 32 (front ++ p ∷ [])))
     × (list_all (is_within 32 126) (further 32 (front ++ q ∷ [])) ≡ true)
-further_other [] p q short fine h = (omega (arith, length-append q [], length-append p []), list_all-append (is_within 32 126) q [] ∙ join_tests _ _ fine refl)
+further_other [] p q short fine h = (omega (arith, length-append q [], length-append p []), list_all-append _ q [] ∙ join_tests _ _ fine refl)
 further_other (word ∷ front) p q short fine h =
-    let parts = both_true (list_all (is_within 32 126) word) (list_all (is_within 32 126) (further 32 (front ++ p ∷ [])))
-    (sym (list_all-append (is_within 32 126) word (further 32 (front ++ p ∷ []))) ∙ h) in
+    let parts = both_true _ _ (sym (list_all-append _ word _) ∙ h) in
     let k = further_other front p q short fine parts.1 in (
       omega (arith, k.0, length-append word (further 32 (front ++ q ∷ [])), length-append word (further 32 (front ++ p ∷ []))),
-      list_all-append (is_within 32 126) word (further 32 (front ++ q ∷ [])) ∙ join_tests _ _ parts.0 k.1,
+      list_all-append _ word _ ∙ join_tests _ _ parts.0 k.1,
     )
 
 joined_other : (first : List ℕ) (front : List (List ℕ)) (p q : List ℕ) → length q ≤ length p → list_all (is_within 32 126) q ≡ true
@@ -145,11 +140,10 @@ joined_other : (first : List ℕ) (front : List (List ℕ)) (p q : List ℕ) →
     → (length (joined 32 (first ∷ (front ++ q ∷ []))) ≤ length (joined 32 (first ∷ (front ++ p ∷ []))))
     × (list_all (is_within 32 126) (joined 32 (first ∷ (front ++ q ∷ []))) ≡ true)
 joined_other first front p q short fine h =
-    let parts = both_true (list_all (is_within 32 126) first) (list_all (is_within 32 126) (further 32 (front ++ p ∷ [])))
-    (sym (list_all-append (is_within 32 126) first (further 32 (front ++ p ∷ []))) ∙ h) in
+    let parts = both_true _ _ (sym (list_all-append _ first _) ∙ h) in
     let k = further_other front p q short fine parts.1 in (
       omega (arith, k.0, length-append first (further 32 (front ++ q ∷ [])), length-append first (further 32 (front ++ p ∷ []))),
-      list_all-append (is_within 32 126) first (further 32 (front ++ q ∷ [])) ∙ join_tests _ _ parts.0 k.1,
+      list_all-append _ first _ ∙ join_tests _ _ parts.0 k.1,
     )
 
 -- ---- a line with a payload
@@ -172,15 +166,13 @@ write_begins = record { form = refl; some = λ rest. refl; not_skipped = λ rest
 means_by_words : (labels : spelled.Form) (first : List ℕ) (rest : List (List ℕ)) (f : Form) → Begins first f → words_of (joined 32 (first ∷ rest)) ≡ first
     ∷ rest → line_of labels (joined 32 (first ∷ rest)) ≡ said labels f (first ∷ rest)
 unfolding line_of
-means_by_words labels first rest f k cut =
-    rw (k.not_skipped rest, k.not_version rest, k.not_policy rest, cut) (ap (λ o. o >>= λ g. said labels g (first ∷ rest)) k.form)
+means_by_words labels first rest f k cut = rw (k.not_skipped, k.not_version, k.not_policy, cut) (ap (λ o. o >>= λ g. said labels g (first ∷ rest)) k.form)
 
 sound_by_words : (before : List Line) (first : List ℕ) (rest : List (List ℕ)) (f : Form) → Begins first f → words_of (joined 32 (first ∷ rest)) ≡ first ∷ rest
     → is_empty before ≡ false → text_fault (joined 32 (first ∷ rest)) ≡ None → words_fault (first ∷ rest) ≡ None → form_fault before f (first ∷ rest) ≡ None
     → line_fault before (joined 32 (first ∷ rest)) ≡ None
 unfolding line_fault body_fault command_fault
-sound_by_words before first rest f k cut later fine whole fits =
-    neither_from _ _ fine (rw (later, k.not_skipped rest, k.not_policy rest, cut)
+sound_by_words before first rest f k cut later fine whole fits = neither_from _ _ fine (rw (later, k.not_skipped, k.not_policy, cut)
     (neither_from _ _ whole (ap (λ o. option_map_or (λ g. form_fault before g (first ∷ rest)) o (Some 7)) k.form ∙ fits)))
 
 pub payload_back : (before : List Line) (text : List ℕ) (f : Form) (l : Line) (most : ℕ) (first : List ℕ) (front : List (List ℕ)) (p bytes : List ℕ)
@@ -190,9 +182,9 @@ pub payload_back : (before : List Line) (text : List ℕ) (f : Form) (l : Line) 
     → line_words (form_told before) l ≡ first ∷ (front ++ payload_text bytes ∷ []) → Back before text (line_text (form_told before) l) l
 unfolding line_fault
 payload_back before text f l most first front p bytes begins k s cut fits tells words =
-    let q : List ℕ = payload_text bytes in
-    let whole : joined 32 (first ∷ (front ++ p ∷ [])) ≡ text = ap (joined 32) (sym cut) ∙ words_joined text in
-    let fine = text_parts text (neither_text before text k.sound) in
+    let q = payload_text bytes in
+    let whole = ap (joined 32) (sym cut) ∙ words_joined _ in
+    let fine = text_parts _ (neither_text _ _ k.sound) in
     let other = joined_other first front p q s.short s.spells.printable (ap (list_all (is_within 32 126)) whole ∙ fine.1) in
     let long : length (joined 32 (first ∷ (front ++ p ∷ []))) ≡ length text = ap length whole in
     let pieces_are : pieces spot.Front (joined 32 (first ∷ (front ++ p ∷ []))) ≡ first ∷ (front ++ p ∷ []) = ap (pieces spot.Front) whole ∙ sym (words_some text k.some) ∙ cut in

@@ -1,17 +1,15 @@
 -- The canonical text of a script is read back.
-use Rattle.std.proofs.Common.{◌≡◌, ℕ, suc, ◌+◌, ◌<◌, ◌≤◌, Bool, true, not, ◌==◌, List, [], ◌∷◌, ◌++◌, length, map, Option, Some, None, inl, inr, refl, sym, ap}
-use Rattle.std.proofs.Common.{◌∙◌, subst, arith}
+use Rattle.std.proofs.Common.{◌≡◌, ℕ, suc, ◌+◌, ◌<◌, ◌≤◌, Bool, true, not, ◌==◌, List, [], ◌∷◌, ◌++◌, length, map, Option, Some, None, inl, inr, refl, sym, ap, ◌∙◌, subst, arith}
 use Rattle.std.specs.{Prelude.unwrap_or, List.{list_all, flat_map}}
 use Rattle.std.proofs.lemmas.{Bool.{cases_Bool, le-ltb, not-true, Decides.nat_tests}, List.{append_assoc, length-append}, Option.{none-some, same_Some}}
 use Rattle.ix_model.specs.{opening.Valid.is_within, world.Texts.with_front}
 use Rattle.ix_label.specs.declared.form.Form.{Form, TheVariants.One}
-use Rattle.ix_script.specs.{texts.Lines.{cut, lines_of}, lines.Before.{form_by, form_told}, lines.Said.{both, version_of, line_of}, declared.line.Line.Line}
-use Rattle.ix_script.specs.lines.Faults.{or_next, text_fault, body_fault, line_fault, fault_from, fault_of}
-use Rattle.ix_script.specs.scripts.{Scripts.{form_in, lines_said, script_of}, Canonical.{line_text, canonical_in, canonical}}
-use Rattle.ix_script.specs.declared.line.Line.TheVariants as line
+use Rattle.ix_script.specs.{texts.Lines.{cut, lines_of}, lines.{Before.{form_by, form_told}, Said.{both, version_of, line_of}}, declared.line.Line.Line}
+use Rattle.ix_script.specs.{lines.Faults.{or_next, line_fault, fault_from, fault_of}, scripts.{Scripts.{form_in, lines_said, script_of}, Canonical.{line_text, canonical_in, canonical}}}
 use Rattle.ix_text.proofs.Tests.{both as both_true, join_tests, list_all_weaker}
-use Rattle.ix_script.proofs.{reader.Told.{mapped, paired, neither}, lines.Faultless.text_parts, lines.EachLine.{no_fault_from, read_parts, first_told}}
+use Rattle.ix_script.proofs.{reader.Told.{mapped, paired, neither}, lines.{Faultless.text_parts, EachLine.{no_fault_from, read_parts, first_told}}}
 use Rattle.ix_script.proofs.{lines.Deciding.{version_is, version_said, first_version, first_faultless}, back.TextBack.{version_spelled, line_back}}
+use Rattle.ix_script.specs.declared.line.Line.TheVariants as line
 
 -- ---- texts with a line feed after each
 -- how many bytes they are
@@ -28,7 +26,7 @@ size_more text texts = omega (arith, length-append (text ++ 10 ∷ []) (flat_map
 size_canonical : (labels : Form) (lines : List Line) → length (canonical_in labels lines) ≡ size (map (line_text labels) lines)
 size_canonical labels [] = refl
 size_canonical labels (l ∷ lines) =
-    let rest : length (canonical_in labels lines) ≡ length (flat_map (λ text. text ++ 10 ∷ []) (map (line_text labels) lines)) = size_canonical labels lines in
+    let rest = size_canonical labels lines in
     omega (
       arith,
       rest,
@@ -41,16 +39,16 @@ one_cut : (text rest : List ℕ) → no_feed text ≡ true → cut (text ++ 10 �
 unfolding cut
 one_cut [] rest h = refl
 one_cut (b ∷ text) rest h =
-    let p = both_true (not (b == 10)) (no_feed text) h in
+    let p = both_true _ _ h in
     rw (not-true (b == 10) p.0, one_cut text rest p.1) refl
 
 canonical_cut : (labels : Form) (lines : List Line) → list_all no_feed (map (line_text labels) lines) ≡ true → cut (canonical_in labels lines) ≡ map (line_text labels) lines
 unfolding cut
 canonical_cut labels [] h = refl
 canonical_cut labels (l ∷ lines) h =
-    let p = both_true (no_feed (line_text labels l)) (list_all no_feed (map (line_text labels) lines)) h in
-    ap cut (append_assoc (line_text labels l) (10 ∷ []) (canonical_in labels lines)) ∙ one_cut (line_text labels l) (canonical_in labels lines) p.0
-    ∙ ap (λ texts. line_text labels l ∷ texts) (canonical_cut labels lines p.1)
+    let p = both_true _ _ h in
+    ap cut (append_assoc (line_text labels l) (10 ∷ []) (canonical_in labels lines)) ∙ one_cut _ (canonical_in labels lines) p.0
+    ∙ ap (λ texts. line_text labels l ∷ texts) (canonical_cut _ lines p.1)
 
 some_lines : (bytes : List ℕ) → 0 < length bytes → lines_of bytes ≡ cut bytes
 unfolding lines_of
@@ -62,7 +60,7 @@ unfolding cut
 size_cut [] = omega arith
 size_cut (b ∷ bytes) = elim (cases_Bool (b == 10)) [
   | inl e ↦ let k : length (flat_map (λ text. text ++ 10 ∷ []) (cut bytes)) ≤ length bytes + 1 = size_cut bytes in rw e (omega (arith, k))
-  | inr e ↦ rw e (front_fits b (cut bytes) (length bytes) (size_cut bytes))
+  | inr e ↦ rw e (front_fits b _ _ (size_cut bytes))
 ]
   where
     front_fits : (b : ℕ) (texts : List (List ℕ)) (n : ℕ) → size texts ≤ n + 1 → size (with_front b texts) ≤ suc n + 1
@@ -72,7 +70,7 @@ size_cut (b ∷ bytes) = elim (cases_Bool (b == 10)) [
 size_lines : (bytes : List ℕ) → size (lines_of bytes) ≤ length bytes + 1
 unfolding lines_of
 size_lines [] = omega arith
-size_lines (b ∷ bytes) = size_cut (b ∷ bytes)
+size_lines (b ∷ bytes) = size_cut _
 
 -- ---- lines, one after another
 -- what is known of the canonical texts of lines
@@ -90,8 +88,8 @@ no_fault (Some rule) n later h more = absurd (none-some rule (sym h))
 line_plain : (before : List Line) (text : List ℕ) → line_fault before text ≡ None → no_feed text ≡ true
 unfolding line_fault
 line_plain before text h =
-    let p = text_parts text (neither (text_fault text) (body_fault before text) h).0 in
-    list_all_weaker (is_within 32 126) (λ b. not (b == 10)) no_control text p.1
+    let p = text_parts _ (neither _ _ h).0 in
+    list_all_weaker _ _ no_control text p.1
   where
     no_control : (b : ℕ) → is_within 32 126 b ≡ true → not (b == 10) ≡ true
     no_control b h = grind (arith, nat_tests)
@@ -99,9 +97,7 @@ line_plain before text h =
 fault_from_none : (before : List Line) (text : List ℕ) (texts : List (List ℕ)) (l : Line) → line_of (form_told before) text ≡ Some l
     → line_fault before text ≡ None → fault_from (before ++ l ∷ []) texts ≡ None → fault_from before (text ∷ texts) ≡ None
 unfolding fault_from
-fault_from_none before text texts l means sound more =
-    no_fault (line_fault before text) (length before + 1) (fault_from (before ++ unwrap_or (line_of (form_told before) text) line.Skipped ∷ []) texts) sound
-    (ap (λ o. fault_from (before ++ unwrap_or o line.Skipped ∷ []) texts) means ∙ more)
+fault_from_none before text texts l means sound more = no_fault _ _ _ sound (ap (λ o. fault_from (before ++ unwrap_or o line.Skipped ∷ []) texts) means ∙ more)
 
 -- lines behind the first
 later_back : (b : Line) (before : List Line) (texts : List (List ℕ)) (lines : List Line) → fault_from (b ∷ before) texts ≡ None
@@ -159,16 +155,16 @@ told_in : (texts : List (List ℕ)) (lines : List Line) → fault_from [] texts 
 unfolding form_in lines_said
 told_in [] lines sound means = ap form_told (same_Some [] lines means)
 told_in (text ∷ texts) lines sound means =
-    let k = first_told text texts lines sound means in
+    let k = first_told _ _ _ sound means in
     ap (λ o. unwrap_or o One) k.2 ∙ ap form_told k.3
 
 told_again : (texts : List (List ℕ)) (lines : List Line) → fault_from [] texts ≡ None → lines_said (form_in texts) texts ≡ Some lines → form_in (map (line_text (form_in texts)) lines) ≡ form_in texts
 unfolding form_in lines_said
-told_again [] lines sound means = subst (λ (ls : List Line). form_in (map (line_text One) ls) ≡ One) (same_Some [] lines means) refl
+told_again [] lines sound means = subst (λ ls. form_in (map (line_text One) ls) ≡ One) (same_Some [] lines means) refl
 told_again (text ∷ texts) lines sound means =
-    let labels : Form = form_in (text ∷ texts) in
-    let k = first_told text texts lines sound means in
-    subst (λ (ls : List Line). form_in (map (line_text labels) ls) ≡ labels) k.3 (ap (λ t. unwrap_or (version_of t) One) (version_spelled labels k.0 ∙ sym (version_is text k.0 k.2)))
+    let labels = form_in (text ∷ texts) in
+    let k = first_told _ _ _ sound means in
+    subst (λ ls. form_in (map (line_text labels) ls) ≡ labels) k.3 (ap (λ t. unwrap_or (version_of t) One) (version_spelled labels _ ∙ sym (version_is _ _ k.2)))
 
 pub one_byte_more : (bytes : List ℕ) (lines : List Line) → script_of bytes ≡ Some lines → length (canonical lines) ≤ length bytes + 1
 one_byte_more bytes lines h =
@@ -185,8 +181,8 @@ read_again : (labels : Form) (lines : List Line) → form_in (map (line_text lab
     → script_of (canonical_in labels lines) ≡ Some lines
 unfolding script_of fault_of
 read_again labels lines told sound means short plain some =
-    let cut_lines : lines_of (canonical_in labels lines) ≡ map (line_text labels) lines = some_lines (canonical_in labels lines) some ∙ canonical_cut labels lines plain in
-    rw (le-ltb 16777216 (length (canonical_in labels lines)) short, cut_lines, sound, told) means
+    let cut_lines = some_lines _ some ∙ canonical_cut _ _ plain in
+    rw (le-ltb, cut_lines, sound, told) means
 
 some_canonical : (labels : Form) (l : Line) (lines : List Line) → 0 < length (canonical_in labels (l ∷ lines))
 some_canonical labels l lines = omega (arith, length-append (line_text labels l ++ 10 ∷ []) (canonical_in labels lines), length-append (line_text labels l) (10 ∷ []))
@@ -196,7 +192,7 @@ unfolding lines_of cut
 some_text [] = ([], [], refl)
 some_text (b ∷ bytes) = elim (cases_Bool (b == 10)) [
   | inl e ↦ ([], cut bytes, rw e refl)
-  | inr e ↦ front_some b (cut bytes) (cut (b ∷ bytes)) (rw e refl)
+  | inr e ↦ front_some b (cut bytes) _ (rw e refl)
 ]
   where
     front_some : (b : ℕ) (texts all : List (List ℕ)) → all ≡ with_front b texts → (text : List ℕ) × (more : List (List ℕ)) × (all ≡ text ∷ more)
@@ -207,8 +203,8 @@ some_said : (labels : Form) (texts : List (List ℕ)) (text : List ℕ) (more : 
     → lines_said labels texts ≡ Some lines → 0 < length (canonical_in labels lines)
 unfolding lines_said
 some_said labels texts text more lines e h =
-    let m = mapped (λ (x : Line × List Line). x.0 ∷ x.1) (both (line_of labels text) (lines_said labels more)) lines (ap (lines_said labels) (sym e) ∙ h) in
-    subst (λ (ls : List Line). 0 < length (canonical_in labels ls)) m.2 (some_canonical labels m.0.0 m.0.1)
+    let m = mapped _ _ _ (ap (lines_said labels) (sym e) ∙ h) in
+    subst (λ ls. 0 < length (canonical_in labels ls)) m.2 (some_canonical labels m.0.0 m.0.1)
 
 pub reads_back : (bytes : List ℕ) (lines : List Line) → script_of bytes ≡ Some lines → length (canonical lines) ≤ 16777216 → script_of (canonical lines) ≡ Some lines
 reads_back bytes lines h short =

@@ -1,31 +1,29 @@
 -- No spelling of a payload is shorter than the shortest.
 use Rattle.std.proofs.Common.{◌≡◌, ℕ, zero, suc, ◌+◌, ◌-◌, ◌^◌, ◌<◌, ◌≤◌, true, false, ◌||◌, ◌==◌, nat_lt, nat_le, cond, List, [], ◌∷◌, ◌++◌, length, get_or, take}
 use Rattle.std.proofs.Common.{drop, replicate, Option, Some, None, inl, inr, refl, sym, ap, ◌∙◌, option_map, IsSome, unwrap_or, subst, append_assoc, arith}
-use Rattle.std.specs.{Prelude.{if◌then◌else◌}, List.{list_all, flat_map, position, position_or_len}, Fmt.decimal}
-use Rattle.std.proofs.{lemmas.Bool.{cases_Bool, eqb-true, ne_eqb, ltb-true, ltb-false, leb-true, eq-eqb, or_cases}, lemmas.List.{length-append, length-replicate, length-take-le, take_at}}
-use Rattle.std.proofs.{lemmas.List.Sums.{split_at_first, passes_at_first}, lemmas.Option.{cond_some, none-some, same_Some}}
+use Rattle.std.specs.{Prelude.if◌then◌else◌, List.{list_all, flat_map, position_or_len}, Fmt.decimal}
+use Rattle.std.proofs.lemmas.{Bool.{cases_Bool, eqb-true, ne_eqb, ltb-true, ltb-false, leb-true, eq-eqb, or_cases}, List.{length-append, length-replicate, length-take-le, take_at}}
+use Rattle.std.proofs.lemmas.{List.Sums.{split_at_first, passes_at_first}, Option.{cond_some, none-some, same_Some}}
 use Rattle.ix_model.specs.opening.Valid.{is_within}
 use Rattle.ix_text.{specs.{Bytes.{begins, begins_with, is_digit, is_empty}, Spellings.hex_pair}, proofs.Tests.{both, join_tests}}
-use Rattle.ix_script.specs.{texts.Words.{is_numeral, value}, lines.Said.payload_within, declared.payload.Escape.Escape}
+use Rattle.ix_script.specs.{texts.{Words.{is_numeral, value}, Payloads.{times_from, payload_of}}, lines.Said.payload_within, declared.payload.Escape.Escape}
 use Rattle.ix_script.specs.texts.Payloads.{◌>>=◌, after_bytes, pair_of, pairs_of, escaped_byte, escape_step, ends, bytes_of, quoted_from, two_digits, times_of}
-use Rattle.ix_script.specs.texts.Payloads.{times_from, payload_of}
 use Rattle.ix_script.specs.texts.Spellings.{pairs_text, times_text, stands_quoted, quoted_byte, quoted_text, once, times_texts, shortest, payload_text}
+use Rattle.ix_script.proofs.{reader.Told.{bound, mapped, chosen, either}, back.{OneSpelling.{decimal_of_value, begun}, HexBack.{Small, pair_small, pairs_long}, Shortest.length-pairs}}
 use Rattle.ix_script.specs.declared.payload.Escape.TheVariants as escape
-use Rattle.ix_script.proofs.reader.Told.{bound, mapped, chosen, either}
-use Rattle.ix_script.proofs.back.{OneSpelling.{decimal_of_value, begun}, HexBack.{Small, pair_small, pairs_long}, Shortest.length-pairs}
 
 -- ---- the first of the shortest
 le_first : (text : List ℕ) (others : List (List ℕ)) → length (shortest text others) ≤ length text
 le_first text [] = omega arith
-le_first text (other ∷ others) = elim (cases_Bool (nat_lt (length other) (length text))) [
+le_first text (other ∷ others) = elim (cases_Bool _) [
   | inl e ↦ let k = le_first other others in let less = ltb-true (length other) (length text) e in rw e (omega arith)
-  | inr e ↦ rw e (le_first text others)
+  | inr e ↦ rw e (le_first _ others)
 ]
 
 le_later : (text : List ℕ) (before : List (List ℕ)) (it : List ℕ) (others : List (List ℕ)) → length (shortest text (before ++ it ∷ others)) ≤ length it
 le_later text [] it others = elim (cases_Bool (nat_lt (length it) (length text))) [
   | inl e ↦ rw e (le_first it others)
-  | inr e ↦ let k = le_first text others in let more = ltb-false (length it) (length text) e in rw e (omega arith)
+  | inr e ↦ let k = le_first text others in let more = ltb-false _ _ e in rw e (omega arith)
 ]
 le_later text (other ∷ before) it others = elim (cases_Bool (nat_lt (length other) (length text))) [
   | inl e ↦ rw e (le_later other before it others)
@@ -42,7 +40,7 @@ le_quotes bytes = le_later (pairs_text bytes) (times_texts bytes) (quoted_text b
 
 pub le_times : (bytes : List ℕ) (b : ℕ) → once bytes ≡ Some b → length (payload_text bytes) ≤ length (times_text (length bytes) b)
 unfolding payload_text
-le_times bytes b e = rw e (le_later (pairs_text bytes) [] (times_text (length bytes) b) (quoted_text bytes ∷ []))
+le_times bytes b e = rw e (le_later (pairs_text bytes) [] _ (quoted_text bytes ∷ []))
 
 -- ---- quotes
 -- what an escape has taken before the byte that it stands for is told
@@ -74,7 +72,7 @@ cost_one b fine no_quote no_slash = rw (fine, no_quote, no_slash) (omega arith)
 
 cost_two : (c b : ℕ) → escaped_byte c ≡ Some b → (length (quoted_byte b) ≤ 2) × (b < 256)
 unfolding quoted_byte escaped_byte
-cost_two c b h = elim (chosen (c == 92 || c == 34) c (cond (c == 110) (Some 10) None) b h) [
+cost_two c b h = elim (chosen _ c (cond _ (Some 10) None) b h) [
   | inl p ↦ elim (or_cases (c == 92) (c == 34) p.0) [
     | inl e ↦ let k : b ≡ 92 = sym p.1 ∙ eqb-true c 92 e in rw k (omega arith, omega arith)
     | inr e ↦ let k : b ≡ 34 = sym p.1 ∙ eqb-true c 34 e in rw k (omega arith, omega arith)
@@ -109,7 +107,7 @@ Costs taken next (Some byte) = (next ≡ escape.Plain) × (byte < 256) × (lengt
 
 step_costs : (at : Escape) (b : ℕ) (s : Escape × Option ℕ) → is_within 32 126 b ≡ true → ends at b ≡ false → escape_step at b ≡ Some s → Costs (begun_with at) s.0 s.1
 unfolding escape_step
-step_costs escape.Plain b s fine no_end h = elim (either (b == 92) (Some (escape.Begun, None)) (Some (escape.Plain, Some b)) s h) [
+step_costs escape.Plain b s fine no_end h = elim (either (b == 92) (Some (escape.Begun, None)) _ s h) [
   | inl p ↦ subst (λ (s : Escape × Option ℕ). Costs 0 s.0 s.1) (same_Some (escape.Begun, None) s p.1) refl
   | inr p ↦ subst (λ (s : Escape × Option ℕ). Costs 0 s.0 s.1) (same_Some (escape.Plain, Some b) s p.1) (refl, below b fine, cost_one b fine no_end p.0)
 ]
@@ -130,18 +128,18 @@ one_step : (taken : ℕ) (next : Escape) (byte : Option ℕ) (text bytes : List 
     → after_bytes (bytes_of byte) (quoted_from next text) ≡ Some bytes → ((more : List ℕ) → quoted_from next text ≡ Some more
     → NoLonger (begun_with next) text more) → NoLonger (suc taken) text bytes
 one_step taken next None text bytes cost h later =
-    let m = mapped (λ (more : List ℕ). more) (quoted_from next text) bytes h in
-    subst (λ (n : ℕ). NoLonger n text bytes) cost (subst (NoLonger (begun_with next) text) m.2 (later m.0 m.1))
+    let m = mapped _ _ _ h in
+    subst (λ n. NoLonger n text bytes) cost (subst (NoLonger _ text) m.2 (later _ m.1))
 one_step taken next (Some byte) text bytes cost h later =
-    let m = mapped (λ (more : List ℕ). byte ∷ more) (quoted_from next text) bytes h in
-    let plain : NoLonger 0 text m.0 = subst (λ (n : Escape). NoLonger (begun_with n) text m.0) cost.0 (later m.0 m.1) in
-    subst (NoLonger (suc taken) text) m.2 (one_more byte (suc taken) text m.0 cost.1 cost.2 plain)
+    let m = mapped _ _ _ h in
+    let plain = subst (λ n. NoLonger (begun_with n) text m.0) cost.0 (later _ m.1) in
+    subst (NoLonger _ text) m.2 (one_more _ _ _ _ cost.1 cost.2 plain)
 
 quotes_longer : (at : Escape) (text bytes : List ℕ) → list_all (is_within 32 126) text ≡ true → quoted_from at text ≡ Some bytes → NoLonger (begun_with at) text bytes
 unfolding quoted_from
 quotes_longer at [] bytes all h = absurd (none-some bytes h)
 quotes_longer at (b ∷ text) bytes all h =
-    let a = both (is_within 32 126 b) (list_all (is_within 32 126) text) all in
+    let a = both (is_within 32 126 b) (list_all _ text) all in
     let step = λ (s : Escape × Option ℕ). after_bytes (bytes_of s.1) (quoted_from s.0 text) in
     elim (either (ends at b) (cond (is_empty text) (Some []) None) (escape_step at b >>= step) bytes h) [
       | inl p ↦
@@ -168,14 +166,14 @@ no_longer_times : (n b : ℕ) → n < 2 ^ 64 → length (payload_text (replicate
 no_longer_times zero b h = omega (arith, le_pairs [])
 no_longer_times (suc n) b h =
     let k = le_times (replicate (suc n) b) b (once_replicate n b) in
-    let e : length (replicate (suc n) b) ≡ suc n = length-replicate (suc n) b in
+    let e = length-replicate (suc n) b in
     let f : length (times_text (length (replicate (suc n) b)) b) ≡ length (times_text (suc n) b) = ap (λ m. length (times_text m b)) e in
     omega (arith, k, f, length-append (decimal (suc n)) (42 ∷ hex_pair b))
 
 two_parts : (text : List ℕ) (b : ℕ) → two_digits text ≡ Some b → (b < 256) × (length text ≡ 2)
 two_parts [] b h = absurd (none-some b h)
 two_parts (high ∷ []) b h = absurd (none-some b h)
-two_parts (high ∷ low ∷ []) b h = (pair_small high low b h, refl)
+two_parts (high ∷ low ∷ []) b h = (pair_small _ _ b h, refl)
 two_parts (high ∷ low ∷ c ∷ text) b h = absurd (none-some b h)
 
 -- a word n*HH, by its parts
@@ -193,17 +191,17 @@ record TimesWord (word bytes : List ℕ) : Type 0 where
 times_word : (word bytes : List ℕ) → times_of word ≡ Some bytes → TimesWord word bytes
 unfolding times_of times_from
 times_word word bytes h =
-    let m = bound (position (λ b. b == 42) word) (λ star. times_from (take star word) (drop (star + 1) word)) bytes h in
-    let at = cond_some (nat_lt (position_or_len (λ b. b == 42) word) (length word)) (position_or_len (λ b. b == 42) word) m.0 m.1 in
-    let inside : position_or_len (λ b. b == 42) word < length word = ltb-true _ _ at.0 in
-    let passes : get_or word m.0 0 ≡ 42 = eqb-true _ 42 (subst (λ (i : ℕ). (get_or word i 0 == 42) ≡ true) at.1 (passes_at_first (λ b. b == 42) word 0 inside)) in
-    let split : word ≡ take m.0 word ++ 42 ∷ drop (m.0 + 1) word =
-    subst (λ (i : ℕ). word ≡ take i word ++ (get_or word i 0 ∷ drop (i + 1) word)) at.1 (split_at_first (λ b. b == 42) word 0 inside) ∙ ap (λ b. take m.0 word ++ b ∷ drop (m.0 + 1) word) passes in
-    elim (either (is_numeral (take m.0 word)) (option_map (λ byte. replicate (value (take m.0 word)) byte) (two_digits (drop (m.0 + 1) word))) None bytes m.2) [
+    let m = bound _ _ _ h in
+    let at = cond_some (nat_lt (position_or_len (λ b. b == 42) word) _) (position_or_len (λ b. b == 42) word) m.0 m.1 in
+    let inside = ltb-true _ _ at.0 in
+    let passes = eqb-true _ 42 (subst (λ (i : ℕ). (get_or word i 0 == 42) ≡ true) at.1 (passes_at_first (λ b. b == 42) word 0 inside)) in
+    let split =
+    subst (λ i. word ≡ take i word ++ (get_or word i 0 ∷ drop (i + 1) word)) at.1 (split_at_first (λ b. b == 42) word 0 inside) ∙ ap (λ b. take m.0 word ++ b ∷ drop (m.0 + 1) word) passes in
+    elim (either _ (option_map (λ byte. replicate (value (take m.0 word)) byte) (two_digits (drop (m.0 + 1) word))) None bytes m.2) [
       | inl p ↦
-          let d = mapped (λ byte. replicate (value (take m.0 word)) byte) (two_digits (drop (m.0 + 1) word)) bytes p.1 in
-          let two = two_parts (drop (m.0 + 1) word) d.0 d.1 in
-          let front : length (take m.0 word) ≡ m.0 = length-take-le m.0 word (omega (arith, inside, at.1)) in
+          let d = mapped _ (two_digits (drop (m.0 + 1) word)) bytes p.1 in
+          let two = two_parts _ d.0 d.1 in
+          let front = length-take-le m.0 word (omega (arith, inside, at.1)) in
           record {
             star = m.0;
             byte = d.0;
@@ -213,15 +211,15 @@ times_word word bytes h =
             are = d.2;
             whole = split;
             front = front;
-            long = ap length split ∙ length-append (take m.0 word) (42 ∷ drop (m.0 + 1) word) ∙ (omega (arith, front, two.1));
+            long = ap length split ∙ length-append _ (42 ∷ drop (m.0 + 1) word) ∙ (omega (arith, front, two.1));
           }
       | inr p ↦ absurd (none-some bytes p.1)
     ]
 
 times_longer : (word bytes : List ℕ) → length bytes < 2 ^ 64 → times_of word ≡ Some bytes → (length (payload_text bytes) ≤ length word) × Small bytes
 times_longer word bytes few h =
-    let k = times_word word bytes h in
-    let n : ℕ = value (take k.star word) in
+    let k = times_word _ _ h in
+    let n = value (take _ _) in
     let count : n ≡ length bytes = sym (length-replicate n k.byte) ∙ ap length k.are in
     let small : n < 2 ^ 64 = omega arith in
     let digits : length (decimal n) ≡ k.star = ap length (decimal_of_value (take k.star word) k.numeral small) ∙ k.front in
@@ -235,7 +233,7 @@ begun_by_digit (b ∷ word) h =
     let p = both (nat_le 48 b) (nat_le b 57) h in
     let low = leb-true 48 b p.0 in
     let high = leb-true b 57 p.1 in
-    rw (ne_eqb b 34 (λ e. let q : b ≡ 34 = e in absurd (omega arith)), ne_eqb b 120 (λ e. let q : b ≡ 120 = e in absurd (omega arith))) refl
+    rw (ne_eqb b 34 (λ e. let q = e in absurd (omega arith)), ne_eqb b 120 (λ e. let q = e in absurd (omega arith))) refl
 
 -- a payload that begins with a digit: n*HH, whose digits are the last two bytes
 pub record KnownTimes (word : List ℕ) (n : ℕ) : Type 0 where
@@ -249,8 +247,8 @@ pub record KnownTimes (word : List ℕ) (n : ℕ) : Type 0 where
 
 pub known_times : (word : List ℕ) → begins_with is_digit word ≡ true → IsSome (payload_within 1048576 word) → KnownTimes word (value (take (length word - 3) word))
 known_times word digit some =
-    let bytes : List ℕ = unwrap_or (payload_within 1048576 word) [] in
-    let m = bound (payload_of word) (λ bs. if nat_le (length bs) 1048576 then Some bs else None) bytes (some_is (payload_within 1048576 word) some) in
+    let bytes = unwrap_or (payload_within 1048576 word) [] in
+    let m = bound _ _ _ (some_is _ some) in
     let c = cond_some (nat_le (length m.0) 1048576) m.0 bytes m.2 in
     let most : length m.0 ≤ 1048576 = leb-true (length m.0) 1048576 c.0 in
     let k = times_word word bytes (sym (begun_by_digit word digit) ∙ m.1 ∙ ap (λ (bs : List ℕ). Some bs) c.1) in

@@ -1,44 +1,41 @@
 -- The canonical text of any line.
-use Rattle.std.proofs.Common.{◌≡◌, ℕ, Bool, true, false, cond, List, [], ◌∷◌, ◌++◌, take, drop, Option, Some, None, option_map, ◌⊎◌, inl, inr, refl, sym, ap}
-use Rattle.std.proofs.Common.{◌∙◌, subst, arith}
+use Rattle.std.proofs.Common.{◌≡◌, ℕ, Bool, true, false, cond, List, [], ◌∷◌, ◌++◌, take, drop, Option, Some, None, option_map, ◌⊎◌, inl, inr, refl, sym, ap, ◌∙◌, subst, arith}
 use Rattle.std.specs.{Prelude.codes, Option.{option_map_or, option_or}, Cmp.Lexicographic.same_text}
 use Rattle.std.proofs.lemmas.{Bool.{false≢true, or_cases, or_parts}, List.{append-nil, take-append-drop}, Option.{same_Some, none-some}}
 use Rattle.ix_model.specs.world.Naming.{same_bytes}
-use Rattle.ix_script.specs.{texts.Cutting.{is_skipped, is_policy_line, policy_text, words_of, word_at}, lines.Forms.form_of}
-use Rattle.ix_script.specs.{lines.Before.{form_told, has_policy, in_body}, lines.Rules.{is_too_long, is_unprintable}, declared.{line.Line.Line, form.Form.Form}}
-use Rattle.ix_script.specs.lines.Said.{said, said_by_words, version_of, line_of}
+use Rattle.ix_script.specs.{texts.Cutting.{is_skipped, is_policy_line, policy_text, words_of, word_at}, lines.{Forms.form_of, Said.{said, said_by_words, version_of, line_of}}}
+use Rattle.ix_script.specs.{lines.{Before.{form_told, has_policy, in_body}, Rules.{is_too_long, is_unprintable}}, declared.{line.Line.Line, form.Form.Form}}
 use Rattle.ix_script.specs.lines.Faults.{text_fault, words_fault, form_fault, command_fault, policy_fault, body_fault, line_fault}
-use Rattle.ix_script.specs.scripts.Canonical.{line_words, line_text, has_one_spelling, may_be_respelled}
-use Rattle.ix_text.specs.Bytes.{is_empty, begins}
-use Rattle.ix_label.specs.declared.form.Form as spelled
+use Rattle.ix_script.{specs.scripts.Canonical.{line_words, line_text, has_one_spelling, may_be_respelled}, proofs.lines.{FirstWords.form_spelled, Faultless.one_kept}}
+use Rattle.ix_text.specs.Bytes.{is_empty}
 use Rattle.ix_label.specs.declared.form.Form.TheVariants.{One, Two}
-use Rattle.ix_script.specs.declared.line.Line.TheVariants as line
 use Rattle.ix_script.proofs.{reader.Told.{either, bound, neither}, lines.Deciding.{version_text, version_is, version_said, first_version, first_faultless}}
-use Rattle.ix_script.proofs.{lines.FirstWords.form_spelled, lines.Faultless.one_kept}
 use Rattle.ix_script.proofs.back.{LineBack.{Back, Respelled, itself, skipped_several}, FormBack.form_spelled_again}
+use Rattle.ix_label.specs.declared.form.Form as spelled
+use Rattle.ix_script.specs.declared.line.Line.TheVariants as line
 
 -- ---- where a line stands
 pub body_sound : (before : List Line) (text : List ℕ) → line_fault before text ≡ None → body_fault before text ≡ None
 unfolding line_fault
-body_sound before text h = (neither (text_fault text) (body_fault before text) h).1
+body_sound before text h = (neither _ _ h).1
 
 -- a line that tells no form stands later
 pub later_of : (before : List Line) (text : List ℕ) → version_of text ≡ None → line_fault before text ≡ None → is_empty before ≡ false
 unfolding body_fault
-later_of [] text other h = let v = first_version text (body_sound [] text h) in absurd (none-some v.0 (sym other ∙ v.1))
+later_of [] text other h = let v = first_version _ (body_sound [] _ h) in absurd (none-some v.0 (sym other ∙ v.1))
 later_of (l ∷ before) text other h = refl
 
 -- a text that looks otherwise than `ix 1` and `ix 2`
 other_than : (look : List ℕ → Bool) → ((form : spelled.Form) → look (version_text form) ≡ false) → (text : List ℕ) → look text ≡ true → version_of text ≡ None
-other_than look not_so text h = go (version_of text) refl
+other_than look not_so text h = go _ refl
   where
     go : (o : Option spelled.Form) → version_of text ≡ o → o ≡ None
     go None is = refl
-    go (Some form) is = absurd (false≢true (sym (not_so form) ∙ ap look (sym (version_is text form is)) ∙ h))
+    go (Some form) is = absurd (false≢true (sym (not_so form) ∙ ap look (sym (version_is _ _ is)) ∙ h))
 
 -- ---- a skipped line
 not_version : (text : List ℕ) → is_skipped text ≡ true → version_of text ≡ None
-not_version = other_than is_skipped seen
+not_version = other_than _ seen
   where
     seen : (form : spelled.Form) → is_skipped (version_text form) ≡ false
     seen One = refl
@@ -65,11 +62,11 @@ unfolding body_fault policy_fault
 policy_stands before text later seen policy h =
     let fault : policy_fault before text ≡ None = rw (later, seen, policy) at h in
     let late = one_kept 8 (in_body before) ((10, is_empty (policy_text text)) ∷ (20, has_policy before) ∷ []) fault in
-    (one_kept 10 (is_empty (policy_text text)) ((20, has_policy before) ∷ []) late.1).0
+    (one_kept 10 _ ((20, has_policy before) ∷ []) late.1).0
 
 policy_no_version : (text : List ℕ) → is_policy_line text ≡ true → version_of text ≡ None
 unfolding is_policy_line
-policy_no_version = other_than is_policy_line seen
+policy_no_version = other_than _ seen
   where
     seen : (form : spelled.Form) → is_policy_line (version_text form) ≡ false
     seen One = refl
@@ -78,16 +75,16 @@ policy_no_version = other_than is_policy_line seen
 policy_spelled : (labels : spelled.Form) (text : List ℕ) → is_policy_line text ≡ true → is_empty (policy_text text) ≡ false → text ≡ line_text labels (line.Policy (policy_text text))
 unfolding is_policy_line line_words
 policy_spelled labels text h some = elim (or_cases (same_bytes text (codes "policy")) (same_bytes (take 7 text) (codes "policy ")) h) [
-  | inl e ↦ absurd (false≢true (sym some ∙ ap (λ t. is_empty (drop 7 t)) (same_text text (codes "policy") (sym e))))
+  | inl e ↦ absurd (false≢true (sym some ∙ ap (λ t. is_empty (drop 7 t)) (same_text text _ (sym e))))
   | inr e ↦
-      let whole : take 7 text ++ drop 7 text ≡ text = take-append-drop 7 text in
-      let front : take 7 text ≡ codes "policy " = same_text (take 7 text) (codes "policy ") (sym e) in
-      sym whole ∙ ap (λ t. t ++ drop 7 text) front ∙ ap (λ t. codes "policy " ++ t) (sym (append-nil (drop 7 text)))
+      let whole = take-append-drop 7 text in
+      let front = same_text _ (codes "policy ") (sym e) in
+      sym whole ∙ ap (λ t. t ++ drop 7 text) front ∙ ap (λ t. codes "policy " ++ t) (sym (append-nil _))
 ]
 
 -- ---- a line of a form
 pub some_text : (text : List ℕ) → is_skipped text ≡ false → is_empty text ≡ false
-some_text text h = (or_parts (is_empty text) (begins 35 text) h).0
+some_text text h = (or_parts _ _ h).0
 
 pub command_sound : (before : List Line) (text : List ℕ) → is_empty before ≡ false → is_skipped text ≡ false → is_policy_line text ≡ false
     → body_fault before text ≡ None → command_fault before (words_of text) ≡ None
@@ -98,7 +95,7 @@ pub command_parts : (before : List Line) (words : List (List ℕ)) (f : Form) �
     → command_fault before words ≡ None → (words_fault words ≡ None) × (form_fault before f words ≡ None)
 unfolding command_fault
 command_parts before words f h sound =
-    let k = neither (words_fault words) (option_map_or (λ g. form_fault before g words) (form_of (word_at words 0)) (Some 7)) sound in
+    let k = neither _ _ sound in
     (k.0, ap (λ o. option_map_or (λ g. form_fault before g words) o (Some 7)) (sym h) ∙ k.1)
 
 formed : (before : List Line) (text : List ℕ) (l : Line) → line_of (form_told before) text ≡ Some l → line_fault before text ≡ None → is_empty before ≡ false

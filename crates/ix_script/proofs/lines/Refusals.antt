@@ -20,9 +20,9 @@ pub other_said : (before : List Line) (x : Line) → ((name : List ℕ) (label c
     → ((what : What) (number : ℕ) → x ≡ line.Limit what number → ⊥) → ((name : List ℕ) (ceiling : Categories) (blocks inodes : ℕ) → x ≡ line.Fs name ceiling blocks inodes → ⊥)
     → said_fault before x ≡ first_of ((26, is_one_too_many before x) ∷ (28, lacks_policy before x) ∷ [])
 unfolding said_fault
-other_said before (line.Proc name label ceiling cap lic) a b c d e = absurd (a name label ceiling cap lic refl)
+other_said before (line.Proc name label ceiling cap lic) a b c d e = absurd (a _ _ _ _ lic refl)
 other_said before (line.Dir path label frozen) a b c d e = absurd (b path label frozen refl)
-other_said before (line.File path label frozen cap lic bytes) a b c d e = absurd (c path label frozen cap lic bytes refl)
+other_said before (line.File path label frozen cap lic bytes) a b c d e = absurd (c _ _ _ cap lic bytes refl)
 other_said before (line.Limit what number) a b c d e = absurd (d what number refl)
 other_said before (line.Fs name ceiling blocks inodes) a b c d e = absurd (e name ceiling blocks inodes refl)
 other_said before _ a b c d e = refl

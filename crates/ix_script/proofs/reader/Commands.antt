@@ -1,27 +1,25 @@
 -- A command that gives no name and is no server's tells nothing but that it is one.
 use Rattle.std.proofs.Common.{◌≡◌, ℕ, ◌+◌, ◌≤◌, nat_le, Bool, true, false, ◌||◌, cond, List, [], ◌∷◌, ◌++◌, length, max, Option, Some, None, option_map, Result}
-use Rattle.std.proofs.Common.{Ok, Err, refl, sym, ap, ◌∙◌, subst, arith}
+use Rattle.std.{proofs.{Common.{Ok, Err, refl, sym, ap, ◌∙◌, subst, arith}, lemmas.{Bool.{le-leb, lt-leb}, List.append-nil}}, specs.{Option.IsSome, Result.OnOk}}
 use mir.Val.{bool_byte}
-use Rattle.std.{specs.{Option.IsSome, Result.OnOk}, proofs.lemmas.{Bool.{le-leb, lt-leb}, List.append-nil}}
-use Rattle.ix_label.specs.declared.form.Form as spelled
-use Rattle.ix_text.specs.{Names.name_of, Bytes.is_empty}
-use Rattle.ix_script.specs.{texts.{Cutting.word_at, Words.{number_of, fd_of}}, lines.Kinds.places_fault, lines.Forms.places, lines.Roles.role_of}
-use Rattle.ix_script.specs.{lines.Said.{both, said, plain_line, fd_line, counted_line}, lines.Faults.said_fault, scripts.{Need.cost_of_line, Scripts.config_of}}
-use Rattle.ix_script.specs.{reader.Placing.is_entry, reader.Indexed.{AreIndexed, AreNames, AreSites}, declared.form.Form.Form, declared.form.Plain.Plain}
-use Rattle.ix_script.specs.{reader.Told.{HeaderTold, BodyTold, MakesMore, NamesMore, phase_lanes_in}, declared.form.OnFd.OnFd, declared.form.Counted.Counted}
-use Rattle.ix_script.specs.{declared.line.FdWord.FdWord, declared.line.KeepWord.KeepWord, declared.header.Header.Header, declared.body.Body.Body}
-use Rattle.ix_script.specs.{declared.index.Given.Given, declared.index.Names.Names, declared.index.Tree.Tree, declared.line.Line.Line}
-use Rattle.ix_script.specs.declared.form.Form.TheVariants as form
-use Rattle.ix_script.specs.declared.form.Plain.TheVariants as plain
-use Rattle.ix_script.specs.declared.form.OnFd.TheVariants as on_fd
-use Rattle.ix_script.specs.declared.form.Counted.TheVariants as counted
+use Rattle.ix_text.specs.Bytes.{is_empty}
+use Rattle.ix_script.specs.{lines.{Kinds.places_fault, Forms.places, Roles.role_of}, declared.{line.{FdWord.FdWord, KeepWord.KeepWord}, header.Header.Header, body.Body.Body}}
+use Rattle.ix_script.specs.{lines.{Said.{both, said, plain_line, fd_line, counted_line}, Faults.said_fault}, scripts.{Need.cost_of_line, Scripts.config_of}}
+use Rattle.ix_script.specs.{reader.{Placing.is_entry, Indexed.{AreIndexed, AreNames, AreSites}}, declared.form.{Form.Form, Plain.Plain}}
+use Rattle.ix_script.specs.{reader.Told.{HeaderTold, BodyTold, MakesMore, NamesMore, phase_lanes_in}, declared.form.{OnFd.OnFd, Counted.Counted}}
+use Rattle.ix_script.specs.declared.{index.{Given.Given, Names.Names, Tree.Tree}, line.Line.Line}
 use Rattle.ix_model.specs.{declared.{call.Mode.Mode, config.{Limits.Limits, ObjSpec.ObjSpec}}, world.Naming.PathOf, opening.Valid.is_valid}
 use Rattle.ix_script.proofs.{lines.{Readings.stand, Follows.follows}, reader.{PhaseLanes.OneMore, Keeping.header_next, Validity.fits_of}}
 use Rattle.ix_script.specs.lines.Before.{form_told, fs_told, limits_after, what_told, proc_name_told, object_told, is_policy, group, is_phase, lane_after}
 use Rattle.ix_script.specs.lines.Before.{phase_lanes_after, lanes_after, new_fds, new_procs, fds_given, procs_given, in_lane, is_command, commands}
+use Rattle.ix_script.proofs.reader.Pushed.{body_push, lane_push, phase_lanes_push, lanes_push, fds_push, procs_given_push, commands_push}
+use Rattle.ix_label.specs.declared.form.Form as spelled
+use Rattle.ix_script.specs.declared.form.Form.TheVariants as form
+use Rattle.ix_script.specs.declared.form.Plain.TheVariants as plain
+use Rattle.ix_script.specs.declared.form.OnFd.TheVariants as on_fd
+use Rattle.ix_script.specs.declared.form.Counted.TheVariants as counted
 use Rattle.ix_script.specs.declared.line.Line.TheVariants as line
 use Rattle.ix_script.specs.declared.role.Role.TheVariants as role
-use Rattle.ix_script.proofs.reader.Pushed.{body_push, lane_push, phase_lanes_push, lanes_push, fds_push, procs_given_push, commands_push}
 
 -- a line that tells nothing of the machine
 pub record Behind (l : Line) : Type 0 where
@@ -79,18 +77,18 @@ quiet _ h =
     }
 
 pub too_many : (before : List Line) (l : Line) → role_of l ≡ role.Command → 200000 ≤ commands before → said_fault before l ≡ Some 26
-too_many before l role many = (quiet l role).fault before ∙ rw (le-leb 200000 (commands before) many) refl
+too_many before l role many = (quiet l role).fault before ∙ rw (le-leb) refl
 
 pub few_enough : (before : List Line) (l : Line) → role_of l ≡ role.Command → commands before + 1 ≤ 200000 → said_fault before l ≡ None
 few_enough before l role few = (quiet l role).fault before ∙ rw (lt-leb 200000 (commands before) (omega arith)) refl
 
 same_names : (names : Names) (more : List (List ℕ)) → more ≡ [] → NamesMore more names names
 same_names names more none =
-    rw none record { names = λ known h. subst (λ (ks : List (List ℕ)). AreNames names ks) (sym (append-nil known)) h; count = omega arith }
+    rw none record { names = λ known h. subst (λ ks. AreNames names ks) (sym (append-nil known)) h; count = omega arith }
 
 same_sites : (made : Tree) (more : List ObjSpec) → more ≡ [] → MakesMore more made made
 same_sites made more none =
-    rw none record { sites = λ known h. subst (λ (os : List ObjSpec). AreSites made.index os) (sym (append-nil known)) h; count = omega arith }
+    rw none record { sites = λ known h. subst (λ os. AreSites made.index os) (sym (append-nil known)) h; count = omega arith }
 
 pub or_true : (b : Bool) → (b || true) ≡ true
 or_true true = refl
@@ -101,22 +99,21 @@ or_false true = refl
 or_false false = refl
 
 pub header_quiet : (h n : Header) (before : List Line) (l : Line) → Behind l → is_empty before ≡ false → HeaderTold h before
-    → is_valid (config_of before) ≡ true → said_fault before l ≡ None
-    → n ≡ record h { latest = max h.latest 5 } → HeaderTold n (before ++ l ∷ [])
+    → is_valid (config_of before) ≡ true → said_fault before l ≡ None → n ≡ record h { latest = max h.latest 5 } → HeaderTold n (before ++ l ∷ [])
 header_quiet h n before l q later was valid fault is =
     let new : Header = record h { latest = max h.latest 5 } in
-    let told : HeaderTold new (before ++ l ∷ []) =
-    header_next h new false before l (sym later) was (fits_of before valid) (follows before l fault) (rw q.fs (omega arith)) (rw q.fs refl)
+    let told =
+    header_next h _ _ _ l (sym later) was (fits_of _ valid) (follows _ l fault) (rw q.fs (omega arith)) (rw q.fs refl)
     (sym (q.limits h.limits)) (rw q.whats (sym (append-nil h.whats)))
-    (same_names h.procs (proc_name_told l) q.names) (same_sites h.made (object_told l) q.objects) (rw q.objects refl) (rw q.group_is refl) (rw q.policy (sym (or_false h.policy))) in
-    subst (λ (m : Header). HeaderTold m (before ++ l ∷ [])) (sym is) told
+    (same_names _ _ q.names) (same_sites _ _ q.objects) (rw q.objects refl) (rw q.group_is refl) (rw q.policy (sym (or_false _))) in
+    subst (λ m. HeaderTold m (before ++ l ∷ [])) (sym is) told
 
 pub no_more : (given : Given) (items more : List (List ℕ × List ℕ)) (at : Option (List ℕ)) (names : List (List ℕ)) → names ≡ []
     → more ≡ items ++ in_lane at names → AreIndexed given items → AreIndexed given more
-no_more given items more None names none is h = subst (λ (xs : List (List ℕ × List ℕ)). AreIndexed given xs) (sym (append-nil items) ∙ sym is) h
+no_more given items more None names none is h = subst (λ xs. AreIndexed given xs) (sym (append-nil items) ∙ sym is) h
 no_more given items more (Some lane) names none is h =
-    let same : more ≡ items = is ∙ ap (λ ns. items ++ in_lane (Some lane) ns) none ∙ append-nil items in
-    subst (λ (xs : List (List ℕ × List ℕ)). AreIndexed given xs) (sym same) h
+    let same = is ∙ ap (λ ns. items ++ in_lane (Some lane) ns) none ∙ append-nil items in
+    subst (λ xs. AreIndexed given xs) (sym same) h
 
 pub on_ok : {X E P Q : Type 0} (r : Result X E) → (P → Q) → OnOk r P → OnOk r Q
 on_ok (Ok x) f h = f h
@@ -147,7 +144,7 @@ pub still : (l : Line) → (l ≡ line.Phase → ⊥) → ((name : List ℕ) →
     ((proc : List ℕ) (fd hand : FdWord) (named : Option (List ℕ)) → l ≡ line.Login proc fd hand named → ⊥) → Still l
 still line.Phase a b c d e f g = absurd (a refl)
 still (line.Lane name) a b c d e f g = absurd (b name refl)
-still (line.Open proc path mode named) a b c d e f g = absurd (c proc path mode named refl)
+still (line.Open proc path mode named) a b c d e f g = absurd (c _ _ _ named refl)
 still (line.Dup proc fd named) a b c d e f g = absurd (d proc fd named refl)
 still (line.Pipe proc named) a b c d e f g = absurd (e proc named refl)
 still (line.Fork proc kept named) a b c d e f g = absurd (f proc kept named refl)
@@ -163,17 +160,16 @@ pub body_next : (b n : Body) (before : List Line) (x : Line) → BodyTold b befo
     → BodyTold n (before ++ x ∷ [])
 body_next b n before x told started lane within phase_lanes_are lanes_are fds procs count =
     record {
-      started = started ∙ ap (λ (s : Bool). s || is_phase x) told.started ∙ sym (body_push before x);
-      lane = lane ∙ ap (λ (at : Option (List ℕ)). lane_after at x) told.lane ∙ sym (lane_push before x);
+      started = started ∙ ap (λ s. s || is_phase x) told.started ∙ sym (body_push _ x);
+      lane = lane ∙ ap (λ at. lane_after at x) told.lane ∙ sym (lane_push _ x);
       within = within;
-      phase_lanes = phase_lanes_are ∙ ap (λ (names : List (List ℕ)). phase_lanes_after names x) told.phase_lanes ∙ sym (phase_lanes_push before x);
-      lanes = lanes_are ∙ ap (λ (names : List (List ℕ)). lanes_after names x) told.lanes ∙ sym (lanes_push before x);
-      fds = subst (λ (items : List (List ℕ × List ℕ)). AreIndexed n.fds items)
-          (ap (λ at. fds_given before ++ in_lane at (new_fds x)) told.lane ∙ sym (fds_push before x)) (fds (fds_given before) told.fds);
-      procs = subst (λ (items : List (List ℕ × List ℕ)). AreIndexed n.procs items)
-          (ap (λ at. procs_given before ++ in_lane at (new_procs x)) told.lane ∙ sym (procs_given_push before x))
+      phase_lanes = phase_lanes_are ∙ ap (λ names. phase_lanes_after names x) told.phase_lanes ∙ sym (phase_lanes_push _ x);
+      lanes = lanes_are ∙ ap (λ names. lanes_after names x) told.lanes ∙ sym (lanes_push _ x);
+      fds = subst (λ items. AreIndexed n.fds items)
+          (ap (λ at. fds_given before ++ in_lane at (new_fds x)) told.lane ∙ sym (fds_push _ x)) (fds (fds_given before) told.fds);
+      procs = subst (λ items. AreIndexed n.procs items) (ap (λ at. procs_given before ++ in_lane at (new_procs x)) told.lane ∙ sym (procs_given_push _ x))
           (procs (procs_given before) told.procs);
-      commands = count ∙ ap (λ (n : ℕ). cond (is_command x) (n + 1) n) told.commands ∙ sym (commands_push before x);
+      commands = count ∙ ap (λ n. cond (is_command x) (n + 1) n) told.commands ∙ sym (commands_push _ x);
     }
 
 -- what is kept of the body, with one lane more
@@ -181,15 +177,15 @@ pub lane_added : (b n : Body) (name : List ℕ) (lines : List Line) → BodyTold
     → n.lanes ≡ lanes_after b.lanes (line.Lane name) → OneMore n.in_order n.lanes n.others (phase_lanes_in b) name → n.fds ≡ b.fds → n.procs ≡ b.procs → n.commands ≡ b.commands
     → BodyTold n (lines ++ line.Lane name ∷ [])
 lane_added b n name lines told started lane lanes more fds procs commands =
-    let at : Option (List ℕ) = option_map (λ s. s.now) b.lane in
-    body_next b n lines (line.Lane name) told (started ∙ sym (or_false b.started)) lane more.within more.lanes lanes
-    (λ items h. no_more n.fds items (items ++ in_lane at []) at [] refl refl (subst (λ (g : Given). AreIndexed g items) (sym fds) h))
-    (λ items h. no_more n.procs items (items ++ in_lane at []) at [] refl refl (subst (λ (g : Given). AreIndexed g items) (sym procs) h)) commands
+    let at = option_map (λ s. s.now) b.lane in
+    body_next b n _ _ told (started ∙ sym (or_false _)) lane more.within more.lanes lanes
+    (λ items h. no_more n.fds _ _ at [] refl refl (subst (λ g. AreIndexed g items) (sym fds) h))
+    (λ items h. no_more n.procs _ _ at [] refl refl (subst (λ g. AreIndexed g items) (sym procs) h)) commands
 
 pub body_quiet : (b n : Body) (before : List Line) (l : Line) → role_of l ≡ role.Command → BodyTold b before → n ≡ record b { commands = b.commands + 1 } → BodyTold n (before ++ l ∷ [])
 body_quiet b n before l role was is =
     let q = quiet l role in
-    let at : Option (List ℕ) = option_map (λ s. s.now) b.lane in
+    let at = option_map (λ s. s.now) b.lane in
     let told : BodyTold (record b { commands = b.commands + 1 }) (before ++ l ∷ []) =
     body_next b (record b { commands = b.commands + 1 }) before l was (rw q.phase (sym (or_false b.started))) (sym (q.lane at)) was.within
     (sym (q.phase_lanes (phase_lanes_in b))) (sym (q.lanes b.lanes))
@@ -238,21 +234,21 @@ both_there h k = λ i. both (h i) (k i)
 
 pub entry_said : (labels : spelled.Form) (f : Form) (words : List (List ℕ)) → is_entry f ≡ true → places_fault (places labels f words) ≡ None → EntrySaid labels f words
 entry_said labels (form.Plain c) words h broken =
-    let s = stand (places labels (form.Plain c) words) broken in
-    let name = there (name_of (word_at words 1)) s.0 in
-    let k = plain_kind c name.0 in
-    record { line = plain_line c name.0; says = ap (λ (o : Option (List ℕ)). option_map (λ x. plain_line c x) o) name.1; is_command = k.0; costs = k.1 }
+    let s = stand _ broken in
+    let name = there _ s.0 in
+    let k = plain_kind c _ in
+    record { line = plain_line c name.0; says = ap (λ o. option_map (λ x. plain_line c x) o) name.1; is_command = k.0; costs = k.1 }
 entry_said labels (form.Counted c) words h broken =
-    let s = stand (places labels (form.Counted c) words) broken in
-    let name = there (name_of (word_at words 1)) s.0 in
-    let fd = there (fd_of (word_at words 2)) s.1.0 in
-    let number = there (number_of 0 4294967295 (word_at words 3)) s.1.1.0 in
-    let k = counted_kind c name.0 fd.0 number.0 in
+    let s = stand _ broken in
+    let name = there _ s.0 in
+    let fd = there _ s.1.0 in
+    let number = there _ s.1.1.0 in
+    let k = counted_kind c _ _ _ in
     record { line = counted_line c name.0 fd.0 number.0; says = ap (option_map (λ x. counted_line c x.0 x.1.0 x.1.1)) (both_there name.1 (both_there fd.1 number.1)); is_command = k.0; costs = k.1 }
 entry_said labels (form.OnFd c) words h broken =
-    let s = stand (places labels (form.OnFd c) words) broken in
-    let name = there (name_of (word_at words 1)) s.0 in
-    let fd = there (fd_of (word_at words 2)) s.1.0 in
-    let k = fd_kind c name.0 fd.0 h in
+    let s = stand _ broken in
+    let name = there _ s.0 in
+    let fd = there _ s.1.0 in
+    let k = fd_kind c _ _ h in
     record { line = fd_line c name.0 fd.0; says = ap (option_map (λ x. fd_line c x.0 x.1)) (both_there name.1 fd.1); is_command = k.0; costs = k.1 }
 entry_said labels _ words h broken = cc

@@ -1,12 +1,12 @@
 -- What lines cost: at most 4,352 for each command, and nothing for another line.
-use Rattle.std.proofs.Common.{◌≡◌, ℕ, ◌+◌, ◌*◌, ◌≤◌, nat_le, Bool, true, false, cond, List, [], ◌∷◌, ◌++◌, length, Option, Some, None, option_map, refl, subst}
-use Rattle.std.proofs.Common.{arith, inl, inr}
+use Rattle.std.proofs.Common.{◌≡◌, ℕ, ◌+◌, ◌*◌, ◌≤◌, nat_le, Bool, true, false, cond, List, [], ◌∷◌, ◌++◌, length, Option, Some, None, option_map, refl, subst, arith, inl, inr}
 use Rattle.std.{specs.Option.option_or, proofs.lemmas.{Bool.leb-true, Option.{none-some, same_Some}, List.Sums.{sum_by-cons, sum_by_push, sum-map}}}
 use Rattle.ix_model.specs.{world.Naming.PathOf, history.Cost.cost_of_path}
 use Rattle.ix_script.specs.texts.{Cutting.{is_skipped, is_policy_line, policy_text, words_of, word_at}, Payloads.payload_of}
 use Rattle.ix_script.specs.{lines.{Forms.form_of, Before.{is_command, commands}}, scripts.Need.{cost_of_line, need}}
 use Rattle.ix_script.specs.declared.{form.{Form.Form, Plain.Plain, OnPath.OnPath, OnFd.OnFd, Counted.Counted}, line.{FdWord.FdWord, Line.Line}}
 use Rattle.ix_script.specs.lines.Said.{payload_within, plain_line, path_line, fd_line, counted_line, said, said_by_words, version_of, line_of}
+use Rattle.ix_script.proofs.{reader.{Told.{mapped, paired, bound, either}, Pushed.commands_push}, texts.Paths.path_cheap}
 use Rattle.ix_label.specs.declared.form.Form as spelled
 use Rattle.ix_script.specs.declared.form.Form.TheVariants as form
 use Rattle.ix_script.specs.declared.form.Plain.TheVariants as plain
@@ -14,7 +14,6 @@ use Rattle.ix_script.specs.declared.form.OnPath.TheVariants as on_path
 use Rattle.ix_script.specs.declared.form.OnFd.TheVariants as on_fd
 use Rattle.ix_script.specs.declared.form.Counted.TheVariants as counted
 use Rattle.ix_script.specs.declared.line.Line.TheVariants as line
-use Rattle.ix_script.proofs.{reader.{Told.{mapped, paired, bound, either}, Pushed.commands_push}, texts.Paths.path_cheap}
 
 -- ---- a line
 abbrev Cheap : Line → Type 0
@@ -58,8 +57,8 @@ counted_cheap counted.Seek proc fd n = omega arith
 
 payload_few : (word bytes : List ℕ) → payload_within 4096 word ≡ Some bytes → length bytes ≤ 4096
 payload_few word bytes h =
-    let b = bound (payload_of word) (λ found. cond (nat_le (length found) 4096) (Some found) None) bytes h in
-    elim (either (nat_le (length b.0) 4096) (Some b.0) None bytes b.2) [
+    let b = bound (payload_of word) _ _ h in
+    elim (either (nat_le (length b.0) 4096) (Some b.0) _ _ b.2) [
       | inl p ↦ subst (λ (f : List ℕ). length f ≤ 4096) (same_Some b.0 bytes p.1) (leb-true (length b.0) 4096 p.0)
       | inr p ↦ absurd (none-some bytes p.1)
     ]
@@ -67,15 +66,15 @@ payload_few word bytes h =
 form_cheap : (labels : spelled.Form) (f : Form) (words : List (List ℕ)) (l : Line) → said labels f words ≡ Some l → Cheap l
 unfolding cost_of_line
 form_cheap labels form.Limit words l h = made_by (λ x. line.Limit x.0 x.1) _ l (λ x e. omega arith) h
-form_cheap labels form.Fs words l h = made_by (λ x. line.Fs x.0 x.1.0 x.1.1.0 x.1.1.1) _ l (λ x e. omega arith) h
-form_cheap labels form.Proc words l h = made_by (λ x. line.Proc x.0 x.1.0 x.1.1.0 x.1.1.1.0 x.1.1.1.1) _ l (λ x e. omega arith) h
-form_cheap labels form.Dir words l h = made_by (λ x. line.Dir x.0 x.1.0 x.1.1) _ l (λ x e. omega arith) h
-form_cheap labels form.File words l h = made_by (λ x. line.File x.0 x.1.0 x.1.1.0 x.1.1.1.0 x.1.1.1.1.0 x.1.1.1.1.1) _ l (λ x e. omega arith) h
+form_cheap labels form.Fs words l h = made_by _ _ l (λ x e. omega arith) h
+form_cheap labels form.Proc words l h = made_by _ _ l (λ x e. omega arith) h
+form_cheap labels form.Dir words l h = made_by _ _ l (λ x e. omega arith) h
+form_cheap labels form.File words l h = made_by _ _ l (λ x e. omega arith) h
 form_cheap labels form.Phase words l h = subst Cheap (same_Some line.Phase l h) (omega arith)
-form_cheap labels form.Lane words l h = made_by (λ x. line.Lane x) _ l (λ x e. omega arith) h
-form_cheap labels (form.Plain c) words l h = made_by (λ x. plain_line c x) _ l (λ x e. plain_cheap c x) h
-form_cheap labels (form.OnPath c) words l h = made_by (λ x. path_line c x.0 x.1) _ l (λ x e. on_path_cheap c x.0 x.1 (path_cheap (word_at words 2) x.1 (paired _ _ x e).1)) h
-form_cheap labels (form.OnFd c) words l h = made_by (λ x. fd_line c x.0 x.1) _ l (λ x e. on_fd_cheap c x.0 x.1) h
+form_cheap labels form.Lane words l h = made_by _ _ l (λ x e. omega arith) h
+form_cheap labels (form.Plain c) words l h = made_by _ _ l (λ x e. plain_cheap c x) h
+form_cheap labels (form.OnPath c) words l h = made_by _ _ l (λ x e. on_path_cheap c _ _ (path_cheap _ _ (paired _ _ x e).1)) h
+form_cheap labels (form.OnFd c) words l h = made_by _ _ l (λ x e. on_fd_cheap c _ _) h
 form_cheap labels (form.Counted c) words l h = made_by (λ x. counted_line c x.0 x.1.0 x.1.1) _ l (λ x e. counted_cheap c x.0 x.1.0 x.1.1) h
 form_cheap labels form.Open words l h =
     made_by (λ x. line.Open x.0 x.1.0 x.1.1.0 x.1.1.1) _ l (λ x e. omega (arith, path_cheap (word_at words 2) x.1.0 (paired _ _ x.1 (paired _ _ x e).1).0)) h
@@ -83,8 +82,7 @@ form_cheap labels form.Write words l h =
     made_by (λ x. line.Write x.0 x.1.0 x.1.1) _ l (λ x e. omega (arith, payload_few (word_at words 3) x.1.1 (paired _ _ x.1 (paired _ _ x e).1).1)) h
 form_cheap labels form.Dup words l h = made_by (λ x. line.Dup x.0 x.1.0 x.1.1) _ l (λ x e. omega arith) h
 form_cheap labels form.Pipe words l h = made_by (λ x. line.Pipe x.0 x.1) _ l (λ x e. omega arith) h
-form_cheap labels form.Link words l h =
-    made_by (λ x. line.Link x.0 x.1.0 x.1.1) _ l
+form_cheap labels form.Link words l h = made_by (λ x. line.Link x.0 x.1.0 x.1.1) _ l
     (λ x e. let p = paired _ _ x.1 (paired _ _ x e).1 in omega (arith, path_cheap (word_at words 2) x.1.0 p.0, path_cheap (word_at words 3) x.1.1 p.1)) h
 form_cheap labels form.List words l h =
     made_by (λ x. line.List x.0 x.1.0 x.1.1) _ l (λ x e. omega (arith, path_cheap (word_at words 2) x.1.0 (paired _ _ x.1 (paired _ _ x e).1).0)) h
@@ -105,8 +103,8 @@ form_cheap labels form.Login words l h = made_by (λ x. line.Login x.0 x.1.0 x.1
 pub line_cheap : (labels : spelled.Form) (text : List ℕ) (l : Line) → line_of labels text ≡ Some l → Cheap l
 unfolding line_of cost_of_line
 line_cheap labels text l h =
-    let rest : Option Line = option_or (option_map (λ form. line.Version form) (version_of text)) (said_by_words labels (words_of text)) in
-    elim (either (is_skipped text) (Some line.Skipped) (cond (is_policy_line text) (Some (line.Policy (policy_text text))) rest) l h) [
+    let rest = option_or (option_map (λ form. line.Version form) _) (said_by_words labels (words_of text)) in
+    elim (either (is_skipped text) (Some line.Skipped) _ l h) [
       | inl p ↦ subst Cheap (same_Some line.Skipped l p.1) (omega arith)
       | inr p ↦ elim (either (is_policy_line text) (Some (line.Policy (policy_text text))) rest l p.1) [
         | inl q ↦ subst Cheap (same_Some (line.Policy (policy_text text)) l q.1) (omega arith)
@@ -141,4 +139,4 @@ cheap_none = omega (arith, need_none)
 
 pub cheap_next : (labels : spelled.Form) (before : List Line) (text : List ℕ) (l : Line) → line_of labels text ≡ Some l → need before ≤ 4352 * commands before
     → need (before ++ l ∷ []) ≤ 4352 * commands (before ++ l ∷ [])
-cheap_next labels before text l m few = rw (need_push before l, commands_push before l) (one_more (is_command l) (cost_of_line l) (need before) (commands before) (line_cheap labels text l m) few)
+cheap_next labels before text l m few = rw (need_push, commands_push) (one_more _ _ _ _ (line_cheap _ _ l m) few)

@@ -7,13 +7,12 @@ use Rattle.ix_model.specs.declared.{config.{FsSpec.FsSpec, Limits.Limits, ObjSpe
 use Rattle.ix_label.specs.{declared.form.Form.{Form, TheVariants.One}, Category.Categories}
 use Rattle.ix_text.{specs.Bytes.is_empty, proofs.Tests.both}
 use Rattle.ix_script.specs.lines.Before.{form_by, form_told, fs_told, or_default, fss_told, fss_of, what_told, limits_after, limits_of, proc_name_told, group}
-use Rattle.ix_script.specs.lines.Before.{proc_names, object_told, objects_of, is_policy}
+use Rattle.ix_script.{specs.lines.Before.{proc_names, object_told, objects_of, is_policy}, proofs.lines.Ordered.{no_objects, latest_push}}
 use Rattle.ix_script.specs.reader.{Indexed.{AreNames, AreSites}, Told.{HeaderTold, MakesMore, NamesMore, TakenOne, Takes, fss_after}}
 use Rattle.ix_script.specs.declared.{header.{Header.Header, Taken.Taken}, index.{Names.Names, Tree.Tree}, line.{What.What, Line.Line}}
-use Rattle.ix_script.specs.declared.line.Line.TheVariants as line
-use Rattle.ix_script.proofs.{lines.Follows.Follows, lines.Lying.{fs_within, few_inodes, few_blocks, count_here, count_else, blocks_here, blocks_else}}
-use Rattle.ix_script.proofs.lines.Ordered.{no_objects, latest_push}
+use Rattle.ix_script.proofs.lines.{Follows.Follows, Lying.{fs_within, few_inodes, few_blocks, count_here, count_else, blocks_here, blocks_else}}
 use Rattle.ix_script.proofs.reader.Pushed.{fss_push, whats_push, limits_push, proc_names_push, objects_push, policy_push}
+use Rattle.ix_script.specs.declared.line.Line.TheVariants as line
 
 -- ---- file systems
 pub some_fs : (form : Form) (fss : List FsSpec) → 0 < length (or_default form fss)
@@ -38,7 +37,7 @@ first_one form fss (fs ∷ f ∷ more) h = absurd (omega arith)
 one_more : (form by : Form) (told : List FsSpec) (more : List FsSpec) → length more ≤ 1 → fss_after false (length told) (or_default form told) by more ≡ or_default form (told ++ more)
 one_more form by told [] h = ap (or_default form) (sym (append-nil told))
 one_more form by [] (fs ∷ []) h = refl
-one_more form by (t ∷ told) (fs ∷ []) h = rw (ne_eqb (suc (length told)) 0 (λ e. let k : suc (length told) ≡ 0 = e in absurd (omega arith))) refl
+one_more form by (t ∷ told) (fs ∷ []) h = rw (ne_eqb (suc (length told)) 0 (λ e. let k = e in absurd (omega arith))) refl
 one_more form by told (fs ∷ f ∷ more) h = absurd (omega arith)
 
 one_told : (x : Line) → length (fs_told x) ≤ 1
@@ -46,16 +45,14 @@ one_told (line.Fs name ceiling blocks inodes) = omega arith
 one_told _ = omega arith
 
 fss_kept : (first : Bool) (n : ℕ) (old new : List FsSpec) (before : List Line) (x : Line) → first ≡ is_empty before → n ≡ length (fss_told before)
-    → old ≡ fss_of before → new ≡ fss_after first n old (form_by x) (fs_told x)
-    → new ≡ or_default (form_told (before ++ x ∷ [])) (fss_told before ++ fs_told x)
+    → old ≡ fss_of before → new ≡ fss_after first n old (form_by x) (fs_told x) → new ≡ or_default (form_told (before ++ x ∷ [])) (fss_told before ++ fs_told x)
 unfolding fss_told
-fss_kept first n old new [] x hf hn ho h = h ∙ (λ i. fss_after (hf i) (hn i) old (form_by x) (fs_told x)) ∙ first_one (form_by x) old (fs_told x) (one_told x)
-fss_kept first n old new (y ∷ before) x hf hn ho h = h ∙ (λ i. fss_after (hf i) (hn i) (ho i) (form_by x) (fs_told x))
-    ∙ one_more (form_by y) (form_by x) (fss_told (y ∷ before)) (fs_told x) (one_told x)
+fss_kept first n old new [] x hf hn ho h = h ∙ (λ i. fss_after (hf i) (hn i) old (form_by x) (fs_told x)) ∙ first_one _ old _ (one_told x)
+fss_kept first n old new (y ∷ before) x hf hn ho h = h ∙ (λ i. fss_after (hf i) (hn i) (ho i) (form_by x) (fs_told x)) ∙ one_more _ (form_by x) _ _ (one_told x)
 
 room_for_fs : (before : List Line) (x : Line) → Follows before x → length (fss_told before) ≤ 16 → length (fss_told before) + length (fs_told x) ≤ 16
 room_for_fs before (line.Fs name ceiling blocks inodes) f few =
-    let many : nat_le 16 (length (fss_told before)) ≡ false = f.many in
+    let many = f.many in
     grind (arith, nat_tests)
 room_for_fs before _ f few = omega arith
 
@@ -76,10 +73,10 @@ counted_one : (fss : List FsSpec) (limits : Limits) (os : List ObjSpec) (o : Obj
     → list_all fs_fits fss ≡ true → has_room fss limits os o ≡ true
     → Counted fss os old → TakenOne fss o.path.names (length o.bytes) old new → Counted fss (os ++ o ∷ []) new
 counted_one fss limits os o old new some few fit room was taken =
-    let here : ℕ = fs_of fss o.path.names in
-    let low : here < 16 = let k : here < length fss = fs_within fss o.path.names some in omega arith in
-    let parts = both (nat_le (length fss + length os) limits.names) (nat_le (length (lying_on fss here os) + 2) (fs_at fss here).inodes) (both _ _ room).0 in
-    let inode : length (lying_on fss here os) + 2 ≤ (fs_at fss here).inodes = leb-true _ _ parts.1 in
+    let here = fs_of fss o.path.names in
+    let low : here < 16 = let k : here < length fss = fs_within _ _ some in omega arith in
+    let parts = both (nat_le _ limits.names) (nat_le _ _) (both _ _ room).0 in
+    let inode = leb-true _ _ parts.1 in
     let block : blocks_taken fss here os + blocks_for (length o.bytes) ≤ (fs_at fss here).blocks = leb-true _ _ (both _ _ room).1 in
     let counts : (j : ℕ) → slice_index new.counts j ≡ cond (j == here) (slice_index old.counts here + 1) (slice_index old.counts j) =
     taken.counts (omega (arith, was.counts here low, few_inodes fss here fit)) in
@@ -103,7 +100,7 @@ nothing_lies fss taken gss was = record { counts = was.counts; blocks = was.bloc
 -- where a line tells no object and no file system
 counted_same : (fss : List FsSpec) (os : List ObjSpec) (old new : Taken) (gss : List FsSpec) (ps : List ObjSpec) → Counted fss os old → new ≡ old → gss ≡ fss → ps ≡ os → Counted gss ps new
 counted_same fss os old new gss ps was e f g =
-    subst (λ (t : Taken). Counted gss ps t) (sym e) (subst (λ (qs : List ObjSpec). Counted gss qs old) (sym g) (subst (λ (hs : List FsSpec). Counted hs os old) (sym f) was))
+    subst (λ t. Counted gss ps t) (sym e) (subst (λ qs. Counted gss qs old) (sym g) (subst (λ hs. Counted hs os old) (sym f) was))
 
 abbrev pub After : List Line → Line → List Line
 After before x = before ++ x ∷ []
@@ -114,52 +111,47 @@ same_form [] x h = h
 same_form (y ∷ before) x h = refl
 
 same_told : (before : List Line) (x : Line) → fs_told x ≡ [] → fss_told (After before x) ≡ fss_told before
-same_told before x h = fss_push before x ∙ ap (λ more. fss_told before ++ more) h ∙ append-nil (fss_told before)
+same_told before x h = fss_push _ x ∙ ap (λ more. fss_told before ++ more) h ∙ append-nil _
 
 pub same_fss : (before : List Line) (x : Line) → fs_told x ≡ [] → form_by x ≡ One → fss_of (After before x) ≡ fss_of before
 same_fss before x h one = λ i. or_default (same_form before x one i) (same_told before x h i)
 
 pub later_fss : (y : Line) (before : List Line) (x : Line) → fs_told x ≡ [] → fss_of (After (y ∷ before) x) ≡ fss_of (y ∷ before)
-later_fss y before x h = ap (or_default (form_by y)) (same_told (y ∷ before) x h)
+later_fss y before x h = ap (or_default (form_by y)) (same_told _ x h)
 
 pub same_objects : (before : List Line) (x : Line) → object_told x ≡ [] → objects_of (After before x) ≡ objects_of before
-same_objects before x h = objects_push before x ∙ ap (λ more. objects_of before ++ more) h ∙ append-nil (objects_of before)
+same_objects before x h = objects_push _ x ∙ ap (λ more. objects_of before ++ more) h ∙ append-nil _
 
 counted_object : (before : List Line) (x : Line) (o : ObjSpec) (old new : Taken) → 0 < length (fss_of before) → length (fss_of before) ≤ 16
     → list_all fs_fits (fss_of before) ≡ true → fs_told x ≡ [] → form_by x ≡ One → object_told x ≡ o ∷ []
     → not (has_room (fss_of before) (limits_of before) (objects_of before) o) ≡ false → Counted (fss_of before) (objects_of before) old
     → TakenOne (fss_of before) o.path.names (length o.bytes) old new → Counted (fss_of (After before x)) (objects_of (After before x)) new
 counted_object before x o old new some few fit no_fs no_form told room was taken =
-    let one : Counted (fss_of before) (objects_of before ++ o ∷ []) new = counted_one (fss_of before) (limits_of before) (objects_of before) o old new some few fit (not_false _ room) was taken in
-    counted_same (fss_of before) (objects_of before ++ o ∷ []) new new (fss_of (After before x)) (objects_of (After before x)) one refl
-    (same_fss before x no_fs no_form) (objects_push before x ∙ ap (λ more. objects_of before ++ more) told)
+    let one = counted_one _ (limits_of before) _ o _ _ some few fit (not_false _ room) was taken in
+    counted_same _ _ _ _ _ _ one refl (same_fss _ x no_fs no_form) (objects_push _ x ∙ ap (λ more. objects_of before ++ more) told)
 
 counted_version : (before : List Line) (form : Form) (old new : Taken) → Counted (fss_of before) (objects_of before) old → new ≡ old
     → Counted (fss_of (After before (line.Version form))) (objects_of (After before (line.Version form))) new
 unfolding objects_of
 counted_version [] form old new was e =
-    let x : Line = line.Version form in
-    counted_same (fss_of (After [] x)) [] old new (fss_of (After [] x)) (objects_of (After [] x)) (nothing_lies (fss_of []) old (fss_of (After [] x)) was) e refl (same_objects [] x refl)
+    let x = line.Version form in
+    counted_same _ [] _ _ _ _ (nothing_lies _ _ _ was) e refl (same_objects [] x refl)
 counted_version (y ∷ before) form old new was e =
-    let x : Line = line.Version form in
-    counted_same (fss_of (y ∷ before)) (objects_of (y ∷ before)) old new (fss_of (After (y ∷ before) x)) (objects_of (After (y ∷ before) x)) was e
-    (later_fss y before x refl) (same_objects (y ∷ before) x refl)
+    let x = line.Version form in
+    counted_same _ _ _ _ _ _ was e (later_fss y _ x refl) (same_objects (y ∷ before) x refl)
 
 counted_next : (before : List Line) (x : Line) (old new : Taken) → 0 < length (fss_of before) → length (fss_of before) ≤ 16 → list_all fs_fits (fss_of before) ≡ true → Follows before x
     → Counted (fss_of before) (objects_of before) old → Takes (fss_of before) (object_told x) old new → Counted (fss_of (After before x)) (objects_of (After before x)) new
-counted_next before (line.Dir path label frozen) old new some few fit f was takes = counted_object before (line.Dir path label frozen) _ old new some few fit refl refl refl f.exceeds_limits was takes
+counted_next before (line.Dir path label frozen) old new some few fit f was takes = counted_object _ _ _ _ _ some few fit refl refl refl f.exceeds_limits was takes
 counted_next before (line.File path label frozen cap lic bytes) old new some few fit f was takes =
-    counted_object before (line.File path label frozen cap lic bytes) _ old new some few fit refl refl refl f.exceeds_limits was takes
+    counted_object _ _ _ _ _ some few fit refl refl refl f.exceeds_limits was takes
 counted_next before (line.Fs name ceiling blocks inodes) old new some few fit f was takes =
-    let x : Line = line.Fs name ceiling blocks inodes in
-    let none : objects_of before ≡ [] = no_objects before f.order in
-    let nothing : Counted (fss_of before) [] old = subst (λ (os : List ObjSpec). Counted (fss_of before) os old) none was in
-    counted_same (fss_of (After before x)) [] old new (fss_of (After before x)) (objects_of (After before x))
-    (nothing_lies (fss_of before) old (fss_of (After before x)) nothing) takes refl (same_objects before x refl ∙ none)
-counted_next before (line.Version form) old new some few fit f was takes = counted_version before form old new was takes
-counted_next before x old new some few fit f was takes =
-    counted_same (fss_of before) (objects_of before) old new (fss_of (After before x)) (objects_of (After before x)) was takes (same_fss before x refl refl)
-    (same_objects before x refl)
+    let x = line.Fs name ceiling blocks inodes in
+    let none = no_objects _ f.order in
+    let nothing = subst (λ os. Counted (fss_of before) os old) none was in
+    counted_same _ [] _ _ _ _ (nothing_lies _ _ _ nothing) takes refl (same_objects _ x refl ∙ none)
+counted_next before (line.Version form) old new some few fit f was takes = counted_version _ _ _ _ was takes
+counted_next before x old new some few fit f was takes = counted_same _ _ _ _ _ _ was takes (same_fss _ x refl refl) (same_objects _ x refl)
 
 -- ---- no line tells more than one object, or one name
 few_told : {A : Type 0} (f : Line → List A) → ((x : Line) → length (f x) ≤ 1) → (lines : List Line) → length (flat_map f lines) ≤ length lines
@@ -177,18 +169,18 @@ one_name _ = omega arith
 
 pub few_objects : (lines : List Line) → length (objects_of lines) ≤ length lines
 unfolding objects_of
-few_objects lines = few_told object_told one_object lines
+few_objects lines = few_told _ one_object _
 
 pub few_names : (lines : List Line) → length (proc_names lines) ≤ length lines
 unfolding proc_names
-few_names lines = few_told proc_name_told one_name lines
+few_names lines = few_told _ one_name _
 
 -- ---- what tells nothing
 pub no_names : (procs : Names) → NamesMore [] procs procs
-no_names procs = record { names = λ names told. subst (λ (ns : List (List ℕ)). AreNames procs ns) (sym (append-nil names)) told; count = omega arith }
+no_names procs = record { names = λ names told. subst (λ ns. AreNames procs ns) (sym (append-nil names)) told; count = omega arith }
 
 pub nothing_made : (made : Tree) → MakesMore [] made made
-nothing_made made = record { sites = λ objects told. subst (λ (os : List ObjSpec). AreSites made.index os) (sym (append-nil objects)) told; count = omega arith }
+nothing_made made = record { sites = λ objects told. subst (λ os. AreSites made.index os) (sym (append-nil objects)) told; count = omega arith }
 
 pub record Quiet (x : Line) : Type 0 where
   pub fss : fs_told x ≡ []
@@ -205,7 +197,7 @@ pub quiet : (x : Line) → ((what : What) (n : ℕ) → x ≡ line.Limit what n 
     → ⊥) → ((text : List ℕ) → x ≡ line.Policy text → ⊥) → Quiet x
 quiet (line.Limit what n) a b c d e f = absurd (a what n refl)
 quiet (line.Fs name ceiling blocks inodes) a b c d e f = absurd (b name ceiling blocks inodes refl)
-quiet (line.Proc name label ceiling cap lic) a b c d e f = absurd (c name label ceiling cap lic refl)
+quiet (line.Proc name label ceiling cap lic) a b c d e f = absurd (c _ _ _ cap lic refl)
 quiet (line.Dir path label frozen) a b c d e f = absurd (d path label frozen refl)
 quiet (line.File path label frozen cap lic bytes) a b c d e f = absurd (e path label frozen cap lic bytes refl)
 quiet (line.Policy text) a b c d e f = absurd (f text refl)
@@ -217,25 +209,25 @@ pub header_next : (h n : Header) (first : Bool) (before : List Line) (x : Line) 
     → n.whats ≡ h.whats ++ what_told x → NamesMore (proc_name_told x) h.procs n.procs
     → MakesMore (object_told x) h.made n.made → Takes h.fss (object_told x) h.taken n.taken → n.latest ≡ max h.latest (group x) → n.policy ≡ (h.policy || is_policy x) → HeaderTold n (After before x)
 header_next h n first before x is_first was fit f told fss limits whats procs made takes latest policy =
-    let told_is : length (fss_told before) ≤ 16 = told_few (form_told before) (fss_told before) (subst (λ (fs : List FsSpec). length fs ≤ 16) was.fss was.few) in
-    let fss_is : n.fss ≡ fss_of (After before x) = fss_kept first h.told h.fss n.fss before x is_first was.told was.fss fss ∙ ap (or_default (form_told (After before x))) (sym (fss_push before x)) in
-    let count : length (fss_told (After before x)) ≡ length (fss_told before) + length (fs_told x) = ap length (fss_push before x) ∙ length-append (fss_told before) (fs_told x) in
-    let few : length (fss_of (After before x)) ≤ 16 = few_after (form_told (After before x)) (fss_told (After before x)) (omega (arith, room_for_fs before x f told_is)) in
-    let counted : Counted (fss_of (After before x)) (objects_of (After before x)) n.taken =
-    counted_next before x h.taken n.taken (some_fs (form_told before) (fss_told before)) (subst (λ (fs : List FsSpec). length fs ≤ 16) was.fss was.few) fit f
-    (record { counts = was.counts; blocks = was.blocks }) (subst (λ (fs : List FsSpec). Takes fs (object_told x) h.taken n.taken) was.fss takes) in
+    let told_is = told_few _ _ (subst (λ fs. length fs ≤ 16) was.fss was.few) in
+    let fss_is = fss_kept _ _ _ _ _ x is_first was.told was.fss fss ∙ ap (or_default (form_told (After before x))) (sym (fss_push _ x)) in
+    let count = ap length (fss_push _ x) ∙ length-append _ _ in
+    let few = few_after _ _ (omega (arith, room_for_fs before x f told_is)) in
+    let counted =
+    counted_next _ x _ _ (some_fs _ _) (subst (λ fs. length fs ≤ 16) was.fss was.few) fit f
+    (record { counts = was.counts; blocks = was.blocks }) (subst (λ fs. Takes fs (object_told x) h.taken n.taken) was.fss takes) in
     record {
       told = told ∙ ap (λ k. k + length (fs_told x)) was.told ∙ sym count;
       fss = fss_is;
-      few = subst (λ (fs : List FsSpec). length fs ≤ 16) (sym fss_is) few;
-      limits = limits ∙ ap (λ l. limits_after l x) was.limits ∙ sym (limits_push before x);
-      whats = whats ∙ ap (λ ws. ws ++ what_told x) was.whats ∙ sym (whats_push before x);
-      procs = subst (λ (names : List (List ℕ)). AreNames n.procs names) (sym (proc_names_push before x)) (procs.names (proc_names before) was.procs);
-      proc_count = procs.count ∙ ap (λ k. k + length (proc_name_told x)) was.proc_count ∙ sym (ap length (proc_names_push before x) ∙ length-append (proc_names before) (proc_name_told x));
-      made = subst (λ (os : List ObjSpec). AreSites n.made.index os) (sym (objects_push before x)) (made.sites (objects_of before) was.made);
-      objects = made.count ∙ ap (λ k. k + length (object_told x)) was.objects ∙ sym (ap length (objects_push before x) ∙ length-append (objects_of before) (object_told x));
+      few = subst (λ fs. length fs ≤ 16) (sym fss_is) few;
+      limits = limits ∙ ap (λ l. limits_after l x) was.limits ∙ sym (limits_push _ x);
+      whats = whats ∙ ap (λ ws. ws ++ what_told x) was.whats ∙ sym (whats_push _ x);
+      procs = subst (λ names. AreNames n.procs names) (sym (proc_names_push _ x)) (procs.names _ was.procs);
+      proc_count = procs.count ∙ ap (λ k. k + length (proc_name_told x)) was.proc_count ∙ sym (ap length (proc_names_push _ x) ∙ length-append _ _);
+      made = subst (λ os. AreSites n.made.index os) (sym (objects_push _ x)) (made.sites _ was.made);
+      objects = made.count ∙ ap (λ k. k + length (object_told x)) was.objects ∙ sym (ap length (objects_push _ x) ∙ length-append _ _);
       counts = counted.counts;
       blocks = counted.blocks;
-      latest = λ g. latest_push g h.latest before x (was.latest g) ∙ ap (nat_lt g) (sym latest);
-      policy = policy ∙ ap (λ p. p || is_policy x) was.policy ∙ sym (policy_push before x);
+      latest = λ g. latest_push g _ _ x (was.latest g) ∙ ap (nat_lt g) (sym latest);
+      policy = policy ∙ ap (λ p. p || is_policy x) was.policy ∙ sym (policy_push _ x);
     }

@@ -1,6 +1,5 @@
 -- The lanes of a phase: the first of the script's in their order, and others.
-use Rattle.std.proofs.Common.{◌≡◌, ℕ, suc, ◌+◌, ◌≤◌, ◌<◌, nat_lt, true, ◌&&◌, List, [], ◌∷◌, ◌++◌, length, get_or, take, inl, inr, refl, sym, ap, ◌∙◌, subst}
-use Rattle.std.proofs.Common.{arith}
+use Rattle.std.proofs.Common.{◌≡◌, ℕ, suc, ◌+◌, ◌≤◌, ◌<◌, nat_lt, true, ◌&&◌, List, [], ◌∷◌, ◌++◌, length, get_or, take, inl, inr, refl, sym, ap, ◌∙◌, subst, arith}
 use Rattle.std.proofs.{lemmas.{Bool.{cases_Bool, ltb-true}, List.{append-nil, append_assoc, length-append, take-append-le}}, Math.Seq.take-suc}
 use Rattle.ix_model.{specs.world.Naming.same_bytes, proofs.tables.Alike.bytes_are}
 use Rattle.ix_text.{specs.Bytes.is_empty, proofs.Tests.both}
@@ -11,7 +10,7 @@ use Rattle.ix_script.specs.declared.line.Line.TheVariants as line
 kept_front : (k : ℕ) (lanes : List (List ℕ)) (name : List ℕ) → k ≤ length lanes → take k (lanes_after lanes (line.Lane name)) ≡ take k lanes
 kept_front k lanes name low = elim (cases_Bool (is_known name lanes)) [
   | inl e ↦ rw e refl
-  | inr e ↦ rw e (take-append-le k lanes (name ∷ []) low)
+  | inr e ↦ rw e (take-append-le k lanes _ low)
 ]
 
 no_fewer : (lanes : List (List ℕ)) (name : List ℕ) → length lanes ≤ length (lanes_after lanes (line.Lane name))
@@ -39,27 +38,27 @@ pub record ComesNext (k : ℕ) (others all : List (List ℕ)) (name : List ℕ) 
 pub comes_next : (k : ℕ) (others all : List (List ℕ)) (name : List ℕ) → (is_empty others && nat_lt k (length all) && same_bytes name (get_or all k [])) ≡ true
     → ComesNext k others all name
 comes_next k others all name h =
-    let p = both (is_empty others && nat_lt k (length all)) (same_bytes name (get_or all k [])) h in
-    let q = both (is_empty others) (nat_lt k (length all)) p.0 in
-    record { no_others = none_of others q.0; low = ltb-true k (length all) q.1; same = p.1; is = bytes_are name (get_or all k []) p.1 }
+    let p = both (is_empty others && nat_lt k _) (same_bytes name (get_or all k [])) h in
+    let q = both (is_empty others) (nat_lt k _) p.0 in
+    record { no_others = none_of _ q.0; low = ltb-true k _ q.1; same = p.1; is = bytes_are _ _ p.1 }
 
 pub next_more : (k : ℕ) (all others lanes : List (List ℕ)) (name : List ℕ) → all ≡ lanes_after lanes (line.Lane name) → k ≤ length lanes
     → ComesNext k others all name → OneMore (k + 1) all others (take k lanes ++ others) name
 next_more k all others lanes name is low n =
-    let front : take k all ≡ take k lanes = ap (take k) is ∙ kept_front k lanes name low in
-    let more : take (suc k) all ≡ take k all ++ (get_or all k [] ∷ []) = take-suc all k [] n.low in
+    let front = ap (take k) is ∙ kept_front k _ _ low in
+    let more = take-suc all k [] n.low in
     let at : k + 1 ≡ suc k = omega arith in
-    let whole : take (k + 1) all ++ [] ≡ (take k lanes ++ []) ++ name ∷ [] =
-    append-nil (take (k + 1) all) ∙ ap (λ (j : ℕ). take j all) at ∙ more ∙ ap (λ (f : List (List ℕ)). f ++ (get_or all k [] ∷ [])) (front ∙ sym (append-nil (take k lanes)))
-    ∙ ap (λ (x : List ℕ). (take k lanes ++ []) ++ x ∷ []) (sym n.is) in
+    let whole =
+    append-nil _ ∙ ap (λ j. take j all) at ∙ more ∙ ap (λ f. f ++ (get_or all k [] ∷ [])) (front ∙ sym (append-nil _))
+    ∙ ap (λ x. (take k lanes ++ []) ++ x ∷ []) (sym n.is) in
     record {
       within = omega (arith, n.low);
-      lanes = subst (λ (os : List (List ℕ)). take (k + 1) all ++ os ≡ (take k lanes ++ os) ++ name ∷ []) (sym n.no_others) whole;
+      lanes = subst (λ os. take (k + 1) all ++ os ≡ (take k lanes ++ os) ++ name ∷ []) (sym n.no_others) whole;
     }
 
 pub other_more : (k : ℕ) (all others lanes : List (List ℕ)) (name : List ℕ) → all ≡ lanes_after lanes (line.Lane name) → k ≤ length lanes
     → OneMore k all (others ++ name ∷ []) (take k lanes ++ others) name
 other_more k all others lanes name is low = record {
   within = omega (arith, low, ap length is, no_fewer lanes name);
-  lanes = ap (λ (f : List (List ℕ)). f ++ (others ++ name ∷ [])) (ap (take k) is ∙ kept_front k lanes name low) ∙ sym (append_assoc (take k lanes) others (name ∷ []));
+  lanes = ap (λ f. f ++ (others ++ name ∷ [])) (ap (take k) is ∙ kept_front k _ _ low) ∙ sym (append_assoc _ others _);
 }

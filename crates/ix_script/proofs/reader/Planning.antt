@@ -1,14 +1,11 @@
 -- A plan of more and more lines.
-use Rattle.std.proofs.Common.{◌≡◌, ℕ, ◌+◌, ◌<◌, ◌≤◌, false, List, [], ◌∷◌, ◌++◌, length, take, get_or, Option, Some, None, refl, sym, ap, ◌∙◌, subst, add-one}
-use Rattle.std.proofs.Common.{inl, inr}
+use Rattle.std.proofs.{Common.{◌≡◌, ℕ, ◌+◌, ◌<◌, ◌≤◌, false, List, [], ◌∷◌, ◌++◌, length, take, get_or, Option, Some, None, refl, sym, ap, ◌∙◌, subst, add-one, inl, inr}, Math.Seq.take-suc}
 use Rattle.std.specs.{List.slice_get, Option.option_map_or}
-use Rattle.std.proofs.Math.Seq.{take-suc}
 use Rattle.std.proofs.lemmas.{Bool.{cases_Bool, false≢true}, List.{append-nil, take_all}, Option.{none-some, slice_get-get_or, get_or_from_slice_get}}
 use Rattle.ix_model.specs.declared.config.Limits.{Limits}
 use Rattle.ix_script.specs.lines.{Before.{fs_told, limits_after, proc_told, object_told, is_policy}, Roles.{role_of, in_header, header_only}}
-use Rattle.ix_script.specs.{scripts.Held.IsPlan, declared.{plan.Plan.Plan, line.Line.Line}}
+use Rattle.ix_script.{specs.{scripts.Held.IsPlan, declared.{plan.Plan.Plan, line.Line.Line}}, proofs.reader.Pushed.{fss_push, limits_push, procs_push, objects_push}}
 use Rattle.ix_script.specs.declared.line.Line.TheVariants as line
-use Rattle.ix_script.proofs.reader.Pushed.{fss_push, limits_push, procs_push, objects_push}
 
 -- ---- lines of the header, and others
 -- a line that tells nothing of the machine that starts
@@ -48,25 +45,24 @@ in_it (Some x) l h = elim (cases_Bool (in_header x)) [
 
 -- ---- line after line
 here : (lines : List Line) (i : ℕ) (x : Line) → i < length lines → slice_get lines i ≡ Some x → take (i + 1) lines ≡ take i lines ++ x ∷ []
-here lines i x low is =
-    ap (λ n. take n lines) (add-one i) ∙ take-suc lines i x low ∙ ap (λ y. take i lines ++ y ∷ []) (get_or_from_slice_get lines i x x is)
+here lines i x low is = ap (λ n. take n lines) (add-one i) ∙ take-suc lines i x low ∙ ap (λ y. take i lines ++ y ∷ []) (get_or_from_slice_get lines i x x is)
 
 pub plan_more : (lines : List Line) (i : ℕ) (x : Line) (p : Plan) → i < length lines → slice_get lines i ≡ Some x → IsPlan p (take i lines ++ x ∷ []) → IsPlan p (take (i + 1) lines)
-plan_more lines i x p low is was = subst (λ (ls : List Line). IsPlan p ls) (sym (here lines i x low is)) was
+plan_more lines i x p low is was = subst (λ ls. IsPlan p ls) (sym (here _ i x low is)) was
 
 same_with : (lines : List Line) (x : Line) (p : Plan) → TellsNothing x → IsPlan p lines → IsPlan p (lines ++ x ∷ [])
 same_with lines x p none was = record {
   fss = was.fss ∙ sym (rw none.fs at (fss_push lines x) ∙ append-nil _);
-  limits = was.limits ∙ sym (limits_push lines x ∙ none.limits _);
+  limits = was.limits ∙ sym (limits_push _ x ∙ none.limits _);
   procs = was.procs ∙ sym (rw none.proc at (procs_push lines x) ∙ append-nil _);
   objects = was.objects ∙ sym (rw none.object at (objects_push lines x) ∙ append-nil _);
 }
 
 pub plan_same : (lines : List Line) (i : ℕ) (p : Plan) → i < length lines → header_only (slice_get lines i) ≡ None → IsPlan p (take i lines) → IsPlan p (take (i + 1) lines)
 plan_same lines i p low none was =
-    let x : Line = get_or lines i line.Skipped in
-    let is : slice_get lines i ≡ Some x = slice_get-get_or lines i line.Skipped low in
-    plan_more lines i x p low is (same_with (take i lines) x p (tells_nothing x (other x (ap header_only (sym is) ∙ none))) was)
+    let x = get_or lines i line.Skipped in
+    let is = slice_get-get_or lines i line.Skipped low in
+    plan_more _ i x p low is (same_with _ x p (tells_nothing x (other x (ap header_only (sym is) ∙ none))) was)
 
 pub plan_all : (lines : List Line) (i : ℕ) (p : Plan) → length lines ≤ i → IsPlan p (take i lines) → IsPlan p lines
-plan_all lines i p past was = subst (λ (ls : List Line). IsPlan p ls) (take_all i lines past) was
+plan_all lines i p past was = subst (λ ls. IsPlan p ls) (take_all i lines past) was

@@ -1,18 +1,15 @@
 -- The schedule of lines, made line after line.
 use Rattle.std.proofs.Common.{◌≡◌, ℕ, zero, suc, ◌+◌, ◌-◌, ◌<◌, ◌≤◌, ◌==◌, Bool, true, false, ◌||◌, cond, List, [], ◌∷◌, ◌++◌, length, drop, set, get_or, max}
 use Rattle.std.proofs.Common.{count_by, Option, Some, None, option_map, refl, sym, ap, ◌∙◌, subst, ◌⊎◌, arith, append_assoc, add-one, inl, inr}
-use Rattle.std.specs.{List.slice_get, Option.option_map_or}
-use Rattle.std.proofs.{Math.{Nat.max_comm, Seq.drop-cons}, lemmas.Bool.{cases_Bool, cases_eq, eq-eqb, ne_eqb, false≢true}, lemmas.List.Sums.sum_by-cons}
-use Rattle.std.proofs.lemmas.List.{append-nil, drop_all, length-drop, get_or-set_same, get_or-set_other}
+use Rattle.std.{specs.{List.slice_get, Option.option_map_or}, proofs.lemmas.List.{append-nil, drop_all, length-drop, get_or-set_same, get_or-set_other}}
+use Rattle.std.proofs.{Math.{Nat.max_comm, Seq.drop-cons}, lemmas.{Bool.{cases_Bool, cases_eq, eq-eqb, ne_eqb, false≢true}, List.Sums.sum_by-cons}}
 use Rattle.std.proofs.lemmas.Option.{none-some, same_Some, slice_get-get_or}
 use Rattle.ix_model.specs.world.Naming.{same_bytes}
-use Rattle.ix_script.specs.{lines.{Before.{is_phase, lanes_of}, Roles.role_of}, scripts.Held.IsSchedule}
+use Rattle.ix_script.{specs.{lines.{Before.{is_phase, lanes_of}, Roles.role_of}, scripts.{Held.IsSchedule, Schedule.stretches_of}}, proofs.reader.Walking.next_line}
 use Rattle.ix_script.specs.declared.{line.Line.Line, role.Role.Role, schedule.{Schedule.Schedule, Stretch.Stretch}}
 use Rattle.ix_script.specs.scripts.Schedule.{phases, seat_from, begins_part, part_len, stretch_by, begun_after, begun_in, stretches_from, stretch_in}
-use Rattle.ix_script.specs.scripts.Schedule.{stretches_of}
 use Rattle.ix_script.specs.declared.line.Line.TheVariants as line
 use Rattle.ix_script.specs.declared.role.Role.TheVariants as role
-use Rattle.ix_script.proofs.reader.Walking.{next_line}
 
 -- ---- seats
 pub seat_here : (lanes : List (List ℕ)) (i : ℕ) (name d : List ℕ) → i < length lanes → same_bytes name (get_or lanes i d) ≡ true → seat_from i name (drop i lanes) ≡ Some i
@@ -72,10 +69,10 @@ no_stretch lanes seat begun i _ later h = refl
 
 part_found : (found : Option Line) (r : Role) → option_map role_of found ≡ Some r → option_map_or begins_part found false ≡ begins_role r
 part_found None r is = absurd (none-some r is)
-part_found (Some l) r is = sym (part_by_role l) ∙ ap begins_role (same_Some (role_of l) r is)
+part_found (Some l) r is = sym (part_by_role l) ∙ ap begins_role (same_Some _ r is)
 
 pub part_at : (found : Option Line) (r : Role) → Some r ≡ option_map role_of found → begins_role r ≡ option_map_or begins_part found false
-part_at found r is = sym (part_found found r (sym is))
+part_at found r is = sym (part_found _ r (sym is))
 
 at_line : (lines : List Line) (i : ℕ) → i < length lines → (l : Line) × (slice_get lines i ≡ Some l)
 at_line lines i low = (get_or lines i line.Skipped, slice_get-get_or lines i line.Skipped low)
@@ -89,8 +86,8 @@ part_here lines i is = elim (slice_get lines i) as (λ found. slice_get lines i 
 pub part_later : (lines : List Line) (i : ℕ) → i < length lines → option_map_or begins_part (slice_get lines i) false ≡ false
     → i + part_len (drop i lines) ≡ (i + 1) + part_len (drop (i + 1) lines)
 part_later lines i low none =
-    let at = at_line lines i low in
-    let no : begins_part at.0 ≡ false = ap (λ found. option_map_or begins_part found false) (sym at.1) ∙ none in
+    let at = at_line _ i low in
+    let no = ap (λ found. option_map_or begins_part found false) (sym at.1) ∙ none in
     rw (next_line lines i at.0 at.1, no) (omega arith)
 
 pub part_none : (lines : List Line) (i : ℕ) → length lines ≤ i → part_len (drop i lines) ≡ 0
@@ -108,22 +105,22 @@ part_within lines i low = omega (arith, part_few (drop i lines), length-drop i l
 
 -- ---- no stretches
 pub none_yet : (items : List (List Stretch)) → items ≡ [] → (seat : ℕ) → get_or items seat [] ≡ []
-none_yet items none seat = ap (λ (xs : List (List Stretch)). get_or xs seat []) none
+none_yet items none seat = ap (λ xs. get_or xs seat []) none
 
 one_none : (items : List (List Stretch)) (seat : ℕ) → get_or (items ++ [] ∷ []) seat [] ≡ get_or items seat []
 one_none [] zero = refl
 one_none [] (suc seat) = refl
 one_none (x ∷ items) zero = refl
-one_none (x ∷ items) (suc seat) = one_none items seat
+one_none (x ∷ items) (suc seat) = one_none items _
 
 pub none_more : (items more : List (List Stretch)) (own : List Stretch) → own ≡ [] → more ≡ items ++ own ∷ [] → ((seat : ℕ) → get_or items seat [] ≡ []) → (seat : ℕ) → get_or more seat [] ≡ []
-none_more items more own none is before seat = ap (λ (xs : List (List Stretch)). get_or xs seat []) (is ∙ ap (λ o. items ++ o ∷ []) none) ∙ one_none items seat ∙ before seat
+none_more items more own none is before seat = ap (λ xs. get_or xs seat []) (is ∙ ap (λ o. items ++ o ∷ []) none) ∙ one_none items seat ∙ before seat
 
 -- ---- line after line
 pub added : (items : List (List Stretch)) (at seat : ℕ) (t : Stretch) (own : List Stretch) → at < length items → own ≡ get_or items at [] ++ t ∷ []
     → get_or (set items at own) seat [] ≡ get_or items seat [] ++ cond (at == seat) (t ∷ []) []
 added items at seat t own low is = elim (cases_eq seat at) [
-  | inl e ↦ rw (e, eq-eqb at at refl) (get_or-set_same items at own [] low ∙ is)
+  | inl e ↦ rw (e, eq-eqb) (get_or-set_same items at own [] low ∙ is)
   | inr ne ↦ rw (ne_eqb at seat (λ e. ne (sym e))) (get_or-set_other items at seat own [] ne ∙ sym (append-nil _))
 ]
 
@@ -139,11 +136,11 @@ unseated lanes seat begun i lines name old is none = rw (is, none) (sym (append-
 pub stretches_next : (lanes : List (List ℕ)) (seat begun i : ℕ) (lines : List Line) → i < length lines
     → stretches_from lanes seat begun i (drop i lines) ≡ stretch_in lanes seat begun i lines ++ stretches_from lanes seat (begun_in begun i lines) (i + 1) (drop (i + 1) lines)
 stretches_next lanes seat begun i lines low =
-    let at = at_line lines i low in
+    let at = at_line _ i low in
     rw (next_line lines i at.0 at.1, at.1) refl
 
 count_cons : (l : Line) (lines : List Line) → count_by is_phase (l ∷ lines) ≡ cond (is_phase l) 1 0 + count_by is_phase lines
-count_cons l lines = sum_by-cons (λ (x : Line). cond (is_phase x) 1 0) l lines
+count_cons l lines = sum_by-cons (λ x. cond _ 1 0) l lines
 
 one_begun : (begun : ℕ) (l : Line) (lines : List Line) → begun + count_by is_phase (l ∷ lines) ≡ begun_after begun l + count_by is_phase lines
 one_begun begun l lines = ap (λ n. begun + n) (count_cons l lines) ∙ elim (cases_Bool (is_phase l)) [
@@ -153,8 +150,8 @@ one_begun begun l lines = ap (λ n. begun + n) (count_cons l lines) ∙ elim (ca
 
 pub phases_next : (begun i : ℕ) (lines : List Line) → i < length lines → begun + count_by is_phase (drop i lines) ≡ begun_in begun i lines + count_by is_phase (drop (i + 1) lines)
 phases_next begun i lines low =
-    let at = at_line lines i low in
-    rw (next_line lines i at.0 at.1, at.1) (one_begun begun at.0 (drop (i + 1) lines))
+    let at = at_line _ i low in
+    rw (next_line lines i at.0 at.1, at.1) (one_begun _ at.0 (drop _ lines))
 
 -- what is made of the first lines, where the rest is still to be made
 pub record Made (names : List (List ℕ)) (lines : List Line) (made : List (List Stretch)) (begun i : ℕ) : Type 0 where
@@ -177,30 +174,30 @@ pub made_next : (lanes : List (List ℕ)) (lines : List Line) (old new : List (L
 made_next lanes lines old new begun after i low is long more was =
     let next : Made lanes lines new (begun_in begun i lines) (i + 1) =
     record {
-      stretches = λ seat. rw (more seat) (append_assoc (get_or old seat []) (stretch_in lanes seat begun i lines) _)
-          ∙ ap (λ ts. get_or old seat [] ++ ts) (sym (stretches_next lanes seat begun i lines low)) ∙ was.stretches seat;
-      phases = sym (phases_next begun i lines low) ∙ was.phases;
+      stretches = λ seat. rw (more) (append_assoc (get_or old seat []) (stretch_in lanes seat begun i lines) _)
+          ∙ ap (λ ts. get_or old seat [] ++ ts) (sym (stretches_next _ _ _ i _ low)) ∙ was.stretches seat;
+      phases = sym (phases_next _ i _ low) ∙ was.phases;
       lanes = long ∙ was.lanes;
-      few = begun_few begun i lines was.few;
+      few = begun_few _ i _ was.few;
     } in
-    subst (λ (n : ℕ). Made lanes lines new n (i + 1)) (sym is) next
+    subst (λ n. Made lanes lines new n (i + 1)) (sym is) next
 
 -- what a line does by its role
 begun_by : (begun : ℕ) (found : Option Line) (r : Role) → Some r ≡ option_map role_of found → option_map_or (begun_after begun) found begun ≡ cond (phase_role r) (begun + 1) begun
 begun_by begun None r is = absurd (none-some r (sym is))
-begun_by begun (Some l) r is = ap (λ b. cond b (begun + 1) begun) (sym (phase_by_role l) ∙ ap phase_role (same_Some (role_of l) r (sym is)))
+begun_by begun (Some l) r is = ap (λ b. cond b (begun + 1) begun) (sym (phase_by_role l) ∙ ap phase_role (same_Some _ r (sym is)))
 
 pub begun_here : (begun i : ℕ) (lines : List Line) (r : Role) → Some r ≡ option_map role_of (slice_get lines i) → begun_in begun i lines ≡ cond (phase_role r) (begun + 1) begun
-begun_here begun i lines r is = begun_by begun (slice_get lines i) r is
+begun_here begun i lines r is = begun_by _ _ r is
 
 none_by : (lanes : List (List ℕ)) (seat begun i : ℕ) (lines : List Line) (found : Option Line) (r : Role) → Some r ≡ option_map role_of found → lane_role r ≡ false
     → option_map_or (λ l. stretch_by lanes seat begun (i + 1) l (drop (i + 1) lines)) found [] ≡ []
 none_by lanes seat begun i lines None r is other = refl
-none_by lanes seat begun i lines (Some l) r is other = no_stretch lanes seat begun (i + 1) l (drop (i + 1) lines) (ap lane_role (same_Some (role_of l) r (sym is)) ∙ other)
+none_by lanes seat begun i lines (Some l) r is other = no_stretch _ _ _ _ l _ (ap lane_role (same_Some _ r (sym is)) ∙ other)
 
 pub none_here : (lanes : List (List ℕ)) (seat begun i : ℕ) (lines : List Line) (r : Role) (old : List Stretch) → Some r ≡ option_map role_of (slice_get lines i) → lane_role r ≡ false
     → old ≡ old ++ stretch_in lanes seat begun i lines
-none_here lanes seat begun i lines r old is other = sym (append-nil old) ∙ ap (λ ts. old ++ ts) (sym (none_by lanes seat begun i lines (slice_get lines i) r is other))
+none_here lanes seat begun i lines r old is other = sym (append-nil old) ∙ ap (λ ts. old ++ ts) (sym (none_by _ _ _ i _ _ r is other))
 
 pub other_phase : (r : Role) → (r ≡ role.Phase → ⊥) → phase_role r ≡ false
 other_phase role.Phase h = absurd (h refl)
@@ -222,7 +219,7 @@ pub all_made : (names : List (List ℕ)) (lines : List Line) (s : Schedule) (beg
     → IsSchedule s lines names
 unfolding phases
 all_made names lines s begun i past count m =
-    let none : drop i lines ≡ [] = drop_all i lines past in
+    let none = drop_all i lines past in
     let all : begun ≡ count_by is_phase lines = let e : begun + count_by is_phase [] ≡ count_by is_phase lines = rw none at m.phases in omega (arith, e) in
     record {
       phases = count ∙ max_comm begun 1 ∙ ap (max 1) all;
@@ -233,4 +230,4 @@ pub stretch_at : (names : List (List ℕ)) (lines whole : List Line) (s : Schedu
     → slice_get (get_or s.stretches.items seat []) n ≡ slice_get (stretches_of whole seat) n
 unfolding stretches_of
 stretch_at names lines whole s seat n is lanes m =
-    ap (λ ts. slice_get ts n) (m.stretches seat ∙ ap (λ ns. stretches_from ns seat 0 0 lines) lanes) ∙ ap (λ (ls : List Line). slice_get (stretches_from (lanes_of ls) seat 0 0 ls) n) is
+    ap (λ ts. slice_get ts n) (m.stretches seat ∙ ap (λ ns. stretches_from ns seat 0 0 lines) lanes) ∙ ap (λ ls. slice_get (stretches_from (lanes_of ls) seat 0 0 ls) n) is

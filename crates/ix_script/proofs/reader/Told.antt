@@ -1,18 +1,18 @@
 -- What a value that is there tells of the options that it was made from.
 use Rattle.std.proofs.Common.{◌≡◌, Bool, true, false, cond, List, [], ◌∷◌, Option, Some, None, ◌⊎◌, inl, inr, refl, sym, ap, ◌∙◌, option_map, find}
 use Rattle.std.{specs.Option.option_or, proofs.lemmas.Option.{same_Some, none-some}}
-use Rattle.ix_script.specs.{texts.Payloads.{◌>>=◌}, lines.Said.both}
+use Rattle.ix_script.specs.{texts.Payloads.◌>>=◌, lines.Said.both}
 
 pub mapped : {A B : Type 0} (f : A → B) (o : Option A) (y : B) → option_map f o ≡ Some y → (x : A) × (o ≡ Some x) × (f x ≡ y)
 mapped f None y h = absurd (none-some y h)
-mapped f (Some x) y h = (x, refl, same_Some (f x) y h)
+mapped f (Some x) y h = (x, refl, same_Some _ y h)
 
 pub paired : {A B : Type 0} (a : Option A) (b : Option B) (p : A × B) → both a b ≡ Some p → (a ≡ Some p.0) × (b ≡ Some p.1)
 paired None b p h = absurd (none-some p h)
 paired (Some x) None p h = absurd (none-some p h)
 paired {A} {B} (Some x) (Some y) p h =
-    let e : (x, y) ≡ p = same_Some (x, y) p h in
-    (ap (λ (q : A × B). Some q.0) e, ap (λ (q : A × B). Some q.1) e)
+    let e = same_Some _ p h in
+    (ap (λ q. Some q.0) e, ap (λ q. Some q.1) e)
 
 pub bound : {A B : Type 0} (o : Option A) (f : A → Option B) (y : B) → (o >>= f) ≡ Some y → (x : A) × (o ≡ Some x) × (f x ≡ Some y)
 bound None f y h = absurd (none-some y h)
@@ -45,7 +45,7 @@ neither_from (Some x) b p q = absurd (none-some x (sym p))
 -- what is found passes the test
 pub found : {A : Type 0} (test : A → Bool) (xs : List A) (x : A) → find test xs ≡ Some x → test x ≡ true
 found test [] x h = absurd (none-some x h)
-found {A} test (y ∷ xs) x h = elim (chosen (test y) y (find test xs) x h) [
+found {A} test (y ∷ xs) x h = elim (chosen _ y (find test xs) x h) [
   | inl p ↦ ap test (sym p.1) ∙ p.0
-  | inr p ↦ found test xs x p
+  | inr p ↦ found _ xs x p
 ]

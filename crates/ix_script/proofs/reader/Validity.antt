@@ -21,11 +21,11 @@ parts_of lines h =
 
 pub valid_by : (lines : List Line) → Parts lines → need lines ≤ 870400000 → is_valid (config_of lines) ≡ true
 unfolding is_valid config_of
-valid_by lines p few = rw (p.fss, p.limits, p.procs, p.objects, le-leb (need lines) 870400000 few) refl
+valid_by lines p few = rw (p.fss, p.limits, p.procs, p.objects, le-leb) refl
 
 pub each_fits : (fss : List FsSpec) → fss_fit fss ≡ true → list_all fs_fits fss ≡ true
 unfolding fss_fit
 each_fits fss h = (both _ _ (both (is_within 1 16 (length fss) && list_all fs_fits fss) (all_differ (map (λ s. s.name) fss)) h).0).1
 
 pub fits_of : (lines : List Line) → is_valid (config_of lines) ≡ true → list_all fs_fits (fss_of lines) ≡ true
-fits_of lines h = each_fits (fss_of lines) (parts_of lines h).fss
+fits_of lines h = each_fits _ (parts_of _ h).fss

@@ -17,7 +17,7 @@ cut_by bytes feed = option_map_or (λ k. take k bytes ∷ cut (drop (k + 1) byte
 
 later : (b : ℕ) (bytes : List ℕ) (feed : Option ℕ) → with_front b (cut_by bytes feed) ≡ cut_by (b ∷ bytes) (option_map suc feed)
 later b bytes None = refl
-later b bytes (Some k) = rw (add-one k, add-one (suc k)) refl
+later b bytes (Some k) = rw (add-one, add-one) refl
 
 cut_feed : (b : ℕ) (bytes : List ℕ) → cut (b ∷ bytes) ≡ cut_by (b ∷ bytes) (feed_in (b ∷ bytes))
 unfolding cut
@@ -25,12 +25,12 @@ cut_feed b [] = elim (b == 10) as (λ t. cond t ([] ∷ []) ((b ∷ []) ∷ []) 
 cut_feed b (c ∷ bytes) =
     elim (b == 10) as (λ t. cond t ([] ∷ cut (c ∷ bytes)) (with_front b (cut (c ∷ bytes))) ≡ cut_by (b ∷ c ∷ bytes) (cond t (Some 0) (option_map suc (feed_in (c ∷ bytes))))) [
       | true ↦ refl
-      | false ↦ ap (with_front b) (cut_feed c bytes) ∙ later b (c ∷ bytes) (feed_in (c ∷ bytes))
+      | false ↦ ap (with_front b) (cut_feed c bytes) ∙ later b _ _
     ]
 
 shifted : (i : ℕ) (feed : Option ℕ) → option_map (λ k. (i + 1) + k) feed ≡ option_map (λ k. i + k) (option_map suc feed)
 shifted i None = refl
-shifted i (Some k) = ap (λ (n : ℕ). Some n) (omega arith)
+shifted i (Some k) = ap (λ n. Some n) (omega arith)
 
 occurs_past : (bytes : List ℕ) (i : ℕ) → i ≡ length bytes → occurs_at bytes (10 ∷ []) i ≡ false
 occurs_past bytes i e = let past : nat_le (i + 1) (length bytes) ≡ false = grind (arith, nat_tests) in rw past refl
@@ -40,41 +40,41 @@ and_true true = refl
 and_true false = refl
 
 occurs_here : (bytes rest : List ℕ) (b i : ℕ) → drop i bytes ≡ b ∷ rest → i + 1 ≤ length bytes → occurs_at bytes (10 ∷ []) i ≡ (b == 10)
-occurs_here bytes rest b i e low = rw (le-leb (i + 1) (length bytes) low, e) (and_true (b == 10))
+occurs_here bytes rest b i e low = rw (le-leb, e) (and_true _)
 
 next_drop : (bytes rest : List ℕ) (b i : ℕ) → drop i bytes ≡ b ∷ rest → drop (i + 1) bytes ≡ rest
 next_drop [] rest b zero e = cc
 next_drop [] rest b (suc i) e = cc
 next_drop (c ∷ bytes) rest b zero e = let same : bytes ≡ rest = cc in same
-next_drop (c ∷ bytes) rest b (suc i) e = rw (add-one (suc i)) (let k : drop (i + 1) bytes ≡ rest = next_drop bytes rest b i e in rw (add-one i) at k)
+next_drop (c ∷ bytes) rest b (suc i) e = rw (add-one) (let k = next_drop _ _ b i e in rw (add-one) at k)
 
 found_from : (bytes rest : List ℕ) (i : ℕ) → drop i bytes ≡ rest → i + length rest ≡ length bytes
     → first_of (matches_from bytes (10 ∷ []) 0 i (suc (length rest))) ≡ option_map (λ k. i + k) (feed_in rest)
 unfolding matches_from first_of
 found_from bytes [] i e long = rw (occurs_past bytes i (omega arith)) refl
 found_from bytes (b ∷ rest) i e long =
-    let here : occurs_at bytes (10 ∷ []) i ≡ (b == 10) = occurs_here bytes rest b i e (omega arith) in
+    let here = occurs_here _ _ b i e (omega arith) in
     elim (cases_eq b 10) [
-      | inl t ↦ rw (here, eq-eqb b 10 t) (ap (λ (n : ℕ). Some n) (sym (add-zero i)))
-      | inr ne ↦ rw (here, ne_eqb b 10 ne) (found_from bytes rest (i + 1) (next_drop bytes rest b i e) (omega arith) ∙ shifted i (feed_in rest))
+      | inl t ↦ rw (here, eq-eqb) (ap (λ n. Some n) (sym (add-zero i)))
+      | inr ne ↦ rw (here, ne_eqb) (found_from _ rest _ (next_drop _ _ b i e) (omega arith) ∙ shifted i _)
     ]
 
 from_start : (feed : Option ℕ) → option_map (λ k. 0 + k) feed ≡ feed
 from_start None = refl
-from_start (Some k) = ap (λ (n : ℕ). Some n) (omega arith)
+from_start (Some k) = ap (λ n. Some n) (omega arith)
 
 found : (bytes : List ℕ) → first_of (matches bytes (10 ∷ []) 0) ≡ feed_in bytes
 found bytes =
     let long : length bytes + 1 ≡ suc (length bytes) = omega arith in
-    ap (λ n. first_of (matches_from bytes (10 ∷ []) 0 0 n)) (omega arith) ∙ found_from bytes bytes 0 refl (omega arith) ∙ from_start (feed_in bytes)
+    ap (λ n. first_of (matches_from bytes (10 ∷ []) 0 0 n)) (omega arith) ∙ found_from _ _ 0 refl (omega arith) ∙ from_start _
 
 pub feed_at : (bytes : List ℕ) (k : ℕ) → 0 < length bytes → first_of (matches bytes (10 ∷ []) 0) ≡ Some k → cut bytes ≡ take k bytes ∷ cut (drop (k + 1) bytes)
 feed_at [] k some h = absurd (omega arith)
-feed_at (b ∷ bytes) k some h = cut_feed b bytes ∙ ap (cut_by (b ∷ bytes)) (sym (found (b ∷ bytes)) ∙ h)
+feed_at (b ∷ bytes) k some h = cut_feed b _ ∙ ap (cut_by (b ∷ bytes)) (sym (found _) ∙ h)
 
 pub no_feed : (bytes : List ℕ) → 0 < length bytes → first_of (matches bytes (10 ∷ []) 0) ≡ None → cut bytes ≡ bytes ∷ []
 no_feed [] some h = absurd (omega arith)
-no_feed (b ∷ bytes) some h = cut_feed b bytes ∙ ap (cut_by (b ∷ bytes)) (sym (found (b ∷ bytes)) ∙ h)
+no_feed (b ∷ bytes) some h = cut_feed b _ ∙ ap (cut_by (b ∷ bytes)) (sym (found _) ∙ h)
 
 -- ---- inputs whose lines are printable
 printable_front : (b : ℕ) (lines : List (List ℕ)) → is_within 32 126 b ≡ true → list_all (list_all (is_within 32 126)) lines ≡ true → list_all (list_all (is_within 32 126)) (with_front b lines) ≡ true
@@ -86,10 +86,10 @@ unfolding cut
 cut_printable [] h = refl
 cut_printable (b ∷ bytes) h =
     let parts = both (in_printable_lines b) (list_all in_printable_lines bytes) h in
-    let later : list_all (list_all (is_within 32 126)) (cut bytes) ≡ true = cut_printable bytes parts.1 in
+    let later = cut_printable bytes parts.1 in
     elim (b == 10) as (λ t. (is_within 32 126 b || t) ≡ true → list_all (list_all (is_within 32 126)) (cond t ([] ∷ cut bytes) (with_front b (cut bytes))) ≡ true) [
       | true ↦ λ q. later
-      | false ↦ λ q. printable_front b (cut bytes) (or_false (is_within 32 126 b) q) later
+      | false ↦ λ q. printable_front b (cut bytes) (or_false _ q) later
     ] parts.0
   where
     or_false : (t : Bool) → (t || false) ≡ true → t ≡ true
@@ -98,4 +98,4 @@ cut_printable (b ∷ bytes) h =
 
 pub first_printable : (rest text : List ℕ) (lines : List (List ℕ)) → cut rest ≡ text ∷ lines → list_all (list_all (is_within 32 126))
     (cut rest) ≡ true → (list_all (is_within 32 126) text ≡ true) × (list_all (list_all (is_within 32 126)) lines ≡ true)
-first_printable rest text lines first h = both (list_all (is_within 32 126) text) (list_all (list_all (is_within 32 126)) lines) (rw first at h)
+first_printable rest text lines first h = both (list_all _ text) (list_all _ lines) (rw first at h)

@@ -25,10 +25,10 @@ cut_end at (b ∷ text) =
     ]
 
 pub cut_within : (at : Spot) (text : List ℕ) (k : ℕ) → k ≡ end_from at text → k < length text → pieces at text ≡ take k text ∷ pieces spot.Front (drop (k + 1) text)
-cut_within at text k is low = cut_end at text ∙ rw (← is, drop-cons text k 0, add-one) refl
+cut_within at text k is low = cut_end at _ ∙ rw (← is, drop-cons text k 0, add-one) refl
 
 pub cut_whole : (at : Spot) (text : List ℕ) (k : ℕ) → k ≡ end_from at text → length text ≤ k → pieces at text ≡ text ∷ []
-cut_whole at text k is high = cut_end at text ∙ rw (← is, drop_all k text high, take_all k text high) refl
+cut_whole at text k is high = cut_end at _ ∙ rw (← is, drop_all, take_all) refl
 
 end_low : (at : Spot) (text : List ℕ) → end_from at text ≤ length text
 end_low at [] = omega arith
@@ -48,21 +48,21 @@ false_of false h = refl
 no_space : (text : List ℕ) → ((k : ℕ) → 0 ≤ k → k < length text → (slice_index text k == 32) ≡ true → ⊥) → end_from spot.Plain text ≡ length text
 no_space [] h = refl
 no_space (b ∷ text) h =
-    let here : (b == 32) ≡ false = false_of (b == 32) (h 0 (omega arith) (omega arith)) in
-    let more : end_from spot.Plain text ≡ length text = no_space text (λ k low high. h (suc k) (omega arith) (omega arith)) in
+    let here = false_of _ (h 0 (omega arith) (omega arith)) in
+    let more = no_space text (λ k low high. h (suc k) (omega arith) (omega arith)) in
     rw (here, more) refl
 
 first_space : (text : List ℕ) (i : ℕ) → i < length text → (slice_index text i == 32) ≡ true → ((k : ℕ) → 0 ≤ k → k < i → (slice_index text k == 32) ≡ true → ⊥) → end_from spot.Plain text ≡ i
 first_space [] i low t before = absurd (omega arith)
 first_space (b ∷ text) zero low t before = rw t refl
 first_space (b ∷ text) (suc i) low t before =
-    let here : (b == 32) ≡ false = false_of (b == 32) (before 0 (omega arith) (omega arith)) in
-    let more : end_from spot.Plain text ≡ i = first_space text i (omega arith) t (λ k least high. before (suc k) (omega arith) (omega arith)) in
+    let here = false_of _ (before 0 (omega arith) (omega arith)) in
+    let more = first_space text i (omega arith) t (λ k least high. before (suc k) (omega arith) (omega arith)) in
     rw (here, more) refl
 
 pub by_search : (text : List ℕ) (found : Option ℕ) → IsFirstByte (is_byte 32) text found → option_map_or (λ k. k) found (length text) ≡ end_from spot.Plain text
-by_search text None h = sym (no_space text h)
-by_search text (Some i) h = sym (first_space text i h.0.high h.1 h.0.before)
+by_search text None h = sym (no_space _ h)
+by_search text (Some i) h = sym (first_space _ i h.0.high h.1 h.0.before)
 
 -- where no quote begins a text its first word is plain
 pub plain_end : (text : List ℕ) → begins 34 text ≡ false → end_from spot.Front text ≡ end_from spot.Plain text
@@ -79,19 +79,19 @@ shifted i k = omega arith
 
 pub end_next : (all : ℕ) (at : Spot) (text : List ℕ) (i : ℕ) → i < length text → parts_words at (get_or text i 0) ≡ false → all ≡ i + end_from at (drop i text)
     → all ≡ (i + 1) + end_from (after_byte at (get_or text i 0)) (drop (i + 1) text)
-end_next all at text i h t so_far = so_far ∙ rw (drop-cons text i 0, t, add-one) (shifted i (end_from (after_byte at (get_or text i 0)) (drop (suc i) text)))
+end_next all at text i h t so_far = so_far ∙ rw (drop-cons text i 0, t, add-one) (shifted i _)
 
 pub end_none : (all : ℕ) (at : Spot) (text : List ℕ) (i : ℕ) → length text ≤ i → all ≡ i + end_from at (drop i text) → i ≡ all
-end_none all at text i h so_far = sym (so_far ∙ rw (drop_all i text h) (add-zero i))
+end_none all at text i h so_far = sym (so_far ∙ rw (drop_all) (add-zero i))
 
 -- ---- the quote that closes a word
 pub last_place : (rest : List ℕ) (i n : ℕ) → length rest + suc i ≡ n → (i + 1 == n) ≡ is_empty rest
-last_place [] i n h = eq-eqb (i + 1) n (omega arith)
-last_place (b ∷ rest) i n h = ne_eqb (i + 1) n (λ e. let k : i + 1 ≡ n = e in absurd (omega arith))
+last_place [] i n h = eq-eqb _ n (omega arith)
+last_place (b ∷ rest) i n h = ne_eqb _ n (λ e. let k = e in absurd (omega arith))
 
 pub closed_here : (at : Spot) (word : List ℕ) (i : ℕ) → i < length word → closes at (get_or word i 0) ≡ true → (i + 1 == length word) ≡ is_closed at (drop i word)
 unfolding is_closed
-closed_here at word i h t = rw (drop-cons word i 0, t) (last_place (drop (suc i) word) i (length word) (omega (arith, length-drop (suc i) word)))
+closed_here at word i h t = rw (drop-cons word i 0, t) (last_place _ i _ (omega (arith, length-drop (suc i) word)))
 
 pub closed_next : (at : Spot) (word : List ℕ) (i : ℕ) → i < length word → closes at (get_or word i 0) ≡ false
     → is_closed (after_byte at (get_or word i 0)) (drop (i + 1) word) ≡ is_closed at (drop i word)
@@ -100,4 +100,4 @@ closed_next at word i h t = rw (drop-cons word i 0, t, add-one) refl
 
 pub never_closed : (at : Spot) (word : List ℕ) (i : ℕ) → length word ≤ i → is_closed at (drop i word) ≡ false
 unfolding is_closed
-never_closed at word i h = rw (drop_all i word h) refl
+never_closed at word i h = rw (drop_all) refl

@@ -3,8 +3,8 @@ use Rattle.std.proofs.Common.{◌≡◌, ◌≢◌, ℕ, zero, suc, ◌+◌, ◌
 use Rattle.std.proofs.Common.{inr, refl, sym, ap, ◌∙◌, append_assoc, length-append, arith}
 use Rattle.std.{specs.List.list_any, proofs.lemmas.{List.{append-nil, length-set, get_or-set_same, get_or-set_other}, Bool.{cases_eq, ltb-true, ltb-false}}}
 use Rattle.ix_model.specs.world.Texts.{with_front}
-use Rattle.ix_script.{specs.texts.Cutting.{is_open, word_at, pieces, parts_words, after_byte, words_of}, specs.lines.Rules.{has_empty_word, has_open_quote}}
-use Rattle.ix_script.{specs.declared.words.Spot.Spot, specs.reader.Cut.AreWords, proofs.reader.Pushed.any_push}
+use Rattle.ix_script.specs.{texts.Cutting.{is_open, word_at, pieces, parts_words, after_byte, words_of}, lines.Rules.{has_empty_word, has_open_quote}}
+use Rattle.ix_script.{specs.{declared.words.Spot.Spot, reader.Cut.AreWords}, proofs.reader.Pushed.any_push}
 use Rattle.ix_text.specs.Bytes.{is_empty}
 use Rattle.ix_script.specs.declared.words.Spot.TheVariants as spot
 
@@ -37,8 +37,7 @@ begin words kept rest none h = record {
   done = [];
   whole = sym h;
   eight = ap length none;
-  first = λ i low. ap (λ ws. word_at ws i) none
-      ∙ none_kept 8 i;
+  first = λ i low. ap (λ ws. word_at ws i) none ∙ none_kept 8 i;
   count = refl;
   has_empty = refl;
   has_open = refl;
@@ -49,11 +48,11 @@ place_pushed : (done : List (List ℕ)) (word : List ℕ) (i : ℕ) → i ≢ le
 place_pushed [] word zero ne = absurd (ne refl)
 place_pushed [] word (suc i) ne = refl
 place_pushed (d ∷ done) word zero ne = refl
-place_pushed (d ∷ done) word (suc i) ne = place_pushed done word i (λ e. ne (ap suc e))
+place_pushed (d ∷ done) word (suc i) ne = place_pushed done _ i (λ e. ne (ap suc e))
 
 place_new : (done : List (List ℕ)) (word : List ℕ) → word_at (done ++ word ∷ []) (length done) ≡ word
 place_new [] word = refl
-place_new (d ∷ done) word = place_new done word
+place_new (d ∷ done) word = place_new done _
 
 kept_next : (kept new done : List (List ℕ)) (n : ℕ) (word : List ℕ) (b : Bool) → nat_lt n 8 ≡ b → n ≡ length done → length kept ≡ 8
     → new ≡ cond b (set kept n word) kept → ((i : ℕ) → i < 8 → word_at kept i ≡ word_at done i)
@@ -61,23 +60,23 @@ kept_next : (kept new done : List (List ℕ)) (n : ℕ) (word : List ℕ) (b : B
 kept_next kept new done n word true small is long k h = (
   ap length k ∙ length-set kept n word ∙ long,
   λ i low. ap (λ ws. word_at ws i) k ∙ elim (cases_eq i n) [
-    | inl e ↦ ap (word_at (set kept n word)) e ∙ get_or-set_same kept n word [] (omega (arith, ltb-true n 8 small, long)) ∙ sym (place_new done word) ∙ ap (word_at (done ++ word ∷ [])) (sym (e ∙ is))
-    | inr ne ↦ get_or-set_other kept n i word [] ne ∙ h i low ∙ sym (place_pushed done word i (λ e. ne (e ∙ sym is)))
+    | inl e ↦ ap (word_at (set kept n word)) e ∙ get_or-set_same kept n word [] (omega (arith, ltb-true n 8 small, long)) ∙ sym (place_new done _) ∙ ap (word_at (done ++ word ∷ [])) (sym (e ∙ is))
+    | inr ne ↦ get_or-set_other kept n i word [] ne ∙ h i low ∙ sym (place_pushed _ _ i (λ e. ne (e ∙ sym is)))
   ],
 )
 kept_next kept new done n word false large is long k h = (
   ap length k ∙ long,
-  λ i low. ap (λ ws. word_at ws i) k ∙ h i low ∙ sym (place_pushed done word i (λ e. absurd (omega (arith, ltb-false n 8 large, is, e)))),
+  λ i low. ap (λ ws. word_at ws i) k ∙ h i low ∙ sym (place_pushed _ _ i (λ e. absurd (omega (arith, ltb-false n 8 large, is, e)))),
 )
 
 pub next : (words kept new : List (List ℕ)) (n : ℕ) (some_empty some_open : Bool) (rest : List (List ℕ)) (word : List ℕ) (more : List (List ℕ))
     → rest ≡ word ∷ more → new ≡ cond (nat_lt n 8) (set kept n word) kept
     → Cutting words kept n some_empty some_open rest → Cutting words new (n + 1) (some_empty || is_empty word) (some_open || is_open word) more
 next words kept new n some_empty some_open rest word more h k c =
-    let kept_is = kept_next kept new c.done n word (nat_lt n 8) refl c.count c.eight k c.first in
+    let kept_is = kept_next _ _ _ n _ _ refl c.count c.eight k c.first in
     record {
       done = c.done ++ word ∷ [];
-      whole = append_assoc c.done (word ∷ []) more ∙ ap (λ ws. c.done ++ ws) (sym h) ∙ c.whole;
+      whole = append_assoc c.done _ more ∙ ap (λ ws. c.done ++ ws) (sym h) ∙ c.whole;
       eight = kept_is.0;
       first = kept_is.1;
       count = omega (arith, length-append c.done (word ∷ []), c.count);
@@ -89,7 +88,7 @@ pub ended : (words kept : List (List ℕ)) (n : ℕ) (some_empty some_open : Boo
     → Cutting words kept n some_empty some_open rest → AreWords words kept n some_empty some_open
 unfolding has_empty_word has_open_quote
 ended words kept n some_empty some_open rest h c =
-    let all : c.done ≡ words = sym (append-nil c.done) ∙ ap (λ ws. c.done ++ ws) (sym h) ∙ c.whole in
+    let all = sym (append-nil c.done) ∙ ap (λ ws. c.done ++ ws) (sym h) ∙ c.whole in
     record {
       eight = c.eight;
       first = λ i low. c.first i low ∙ ap (λ ws. word_at ws i) all;
@@ -109,15 +108,14 @@ few_pieces at [] = omega arith
 few_pieces at (b ∷ text) =
     elim (parts_words at b) as (λ t. length (cond t ([] ∷ pieces spot.Front text) (with_front b (pieces (after_byte at b) text))) ≤ suc (suc (length text))) [
       | true ↦ omega (arith, few_pieces spot.Front text)
-      | false ↦ longer_front b (pieces (after_byte at b) text) (length text) (few_pieces (after_byte at b) text)
+      | false ↦ longer_front b _ _ (few_pieces _ text)
     ]
 
 few_words : (text : List ℕ) → length (words_of text) ≤ suc (length text)
 unfolding words_of
 few_words [] = omega arith
-few_words (b ∷ text) = few_pieces spot.Front (b ∷ text)
+few_words (b ∷ text) = few_pieces _ _
 
 pub room : (text : List ℕ) (kept : List (List ℕ)) (n : ℕ) (some_empty some_open : Bool) (rest : List (List ℕ)) (word : List ℕ) (more : List (List ℕ)) → rest ≡ word ∷ more
     → Cutting (words_of text) kept n some_empty some_open rest → n ≤ length text
-room text kept n some_empty some_open rest word more h c =
-    omega (arith, few_words text, c.count, length-append c.done rest, ap length c.whole, ap length h)
+room text kept n some_empty some_open rest word more h c = omega (arith, few_words text, c.count, length-append c.done rest, ap length c.whole, ap length h)

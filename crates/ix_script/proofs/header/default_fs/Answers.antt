@@ -5,4 +5,4 @@ use Rattle.ix_script.proofs.header.default_fs.Goals as goal
 
 pub unwrap-requires : goal.unwrap-requires
 unfolding is_name
-unwrap-requires c = some_of _ _ c.read.result c.read.ensures (λ none. none refl)
+unwrap-requires c = some_of _ _ _ c.read.ensures (λ none. none refl)

@@ -4,7 +4,7 @@ use Rattle.ix_script.proofs.payload.decode_pairs.Goals as goal
 
 pub bytes-init : goal.bytes-init
 bytes-init c =
-    let d = begin c.args.text.now c.args.buf.now c.args.count c.requires.spelled c.requires.count in
+    let d = begin _ _ _ c.requires.spelled c.requires.count in
     record { twice = d.twice; some = d.some; front = d.front; len = d.len }
 
 pub unwrap-requires : goal.unwrap-requires
@@ -17,7 +17,6 @@ pub bytes-preserved : goal.bytes-preserved
 bytes-preserved c =
     let h = c.bytes.invariant in
     let byte = sym (rw c.as_chunks.ensures.front at c.pair.ensures
-    ∙ chunk_pair c.args.text.now (length c.args.text.now / 2) c.bytes.i (omega (arith, h.twice, c.bytes-test.true))) ∙ c.unwrap.ensures in
-    let d = more c.args.text.now c.bytes.buf c.bytes.i c.args.count (length c.args.buf.now) c.unwrap.result c.bytes-test.true c.requires.room byte
-    (record { twice = h.twice; some = h.some; front = h.front; len = h.len }) in
+    ∙ chunk_pair c.args.text.now (length _ / 2) c.bytes.i (omega (arith, h.twice, c.bytes-test.true))) ∙ c.unwrap.ensures in
+    let d = more _ _ _ _ _ _ c.bytes-test.true c.requires.room byte (record { twice = h.twice; some = h.some; front = h.front; len = h.len }) in
     record { twice = d.twice; some = d.some; front = d.front; len = d.len }

@@ -4,7 +4,7 @@ use Rattle.ix_script.proofs.places.fault_from.Goals as goal
 
 pub kinds-preserved : goal.kinds-preserved
 kinds-preserved c =
-    let more = along c.args.labels c.args.words.now c.args.from c.kinds.i c.args.kinds.now c.kinds.broken c.place_fault.result c.kinds-test.true c.place_fault.ensures in
+    let more = along c.args.labels c.args.words.now c.args.from _ _ _ _ c.kinds-test.true c.place_fault.ensures in
     rw c.least-broken.ensures (sym more ∙ c.kinds.invariant)
 
 pub returns : goal.returns

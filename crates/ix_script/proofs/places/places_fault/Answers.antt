@@ -1,9 +1,8 @@
-use Rattle.std.proofs.{Common.{◌≡◌, ◌++◌, ℕ, List, Option, None, ◌+◌, length, map, take, drop, nat_le, true, false, sym, ap, ◌∙◌, subst, arith}, lemmas.{List.{append-nil, drop-map}, Bool.{le-leb, lt-leb}}}
+use Rattle.std.proofs.{Common.{◌≡◌, ℕ, List, Option, None, ◌+◌, length, map, take, drop, sym, ap, ◌∙◌, subst, arith}, lemmas.{List.{append-nil, drop-map}, Bool.{le-leb, lt-leb}}}
+use Rattle.ix_script.{specs.{declared.{fail.Rule.Rule, form.Form.Form}, reader.{Placing.kind_in, Readers.IsFault}}, proofs.lines.Readings.{both_faults, known_first, no_tail, tail_there}}
+use Rattle.ix_script.specs.lines.{Forms.{arity, kinds, own_places, places_from, tail_of}, Kinds.places_fault}
 use Rattle.ix_label.specs.declared.form.Form as spelled
-use Rattle.ix_script.specs.{declared.{fail.Rule.Rule, form.Form.Form}, reader.{Placing.kind_in, Readers.IsFault}}
-use Rattle.ix_script.specs.lines.{Forms.{arity, kinds, own_places, places_from, tail_of}, Kinds.{Kind, places_fault}}
 use Rattle.ix_script.specs.declared.form.Kind as made
-use Rattle.ix_script.proofs.lines.Readings.{both_faults, known_first, no_tail, tail_there}
 use Rattle.ix_script.proofs.places.places_fault.Goals as goal
 
 -- the fault at the places that are left is that of all own ones
@@ -11,8 +10,8 @@ of_all : (labels : spelled.Form) (f : Form) (words : List (List ℕ)) (ks left :
     → left ≡ drop n ks → places_fault (places_from 1 (take n (kinds labels f words)) words) ≡ None → IsFault r (places_from (1 + n) (map (kind_in labels words) left) words)
     → IsFault r (own_places labels f words)
 of_all labels f words ks left n r are rest known fault =
-    let same = ap (drop n) (sym are) ∙ drop-map (kind_in labels words) n ks ∙ ap (map (kind_in labels words)) (sym rest) in
-    known_first (kinds labels f words) 1 n words known ∙ ap (λ js. places_fault (places_from (1 + n) js words)) same ∙ fault
+    let same = ap (drop n) (sym are) ∙ drop-map _ n ks ∙ ap (map _) (sym rest) in
+    known_first _ 1 n _ known ∙ ap (λ js. places_fault (places_from (1 + n) js words)) same ∙ fault
 
 pub split_at-requires : goal.split_at-requires
 split_at-requires c = omega (arith, c.requires.few, c.kinds-kinds.ensures.count c.args.words.now)
@@ -25,10 +24,9 @@ returns-then-len-kinds c =
     let words = c.args.words.now in
     let labels = c.args.labels in
     let f = c.args.form in
-    let own = of_all labels f words c.kinds-kinds.result.now _ c.args.known _ (c.kinds-kinds.ensures.kinds labels words) c.split_at.ensures.back c.requires.right c.fault_from-own.ensures in
-    let short : nat_le (length words) (1 + arity f words) ≡ true = le-leb (length words) (1 + arity f words)
-    (omega (arith, c.kinds-kinds.ensures.count words, c.if-len-kinds.true, c.len.ensures)) in
-    rw (no_tail (tail_of f) (1 + arity f words) words short) (ap places_fault (append-nil (own_places labels f words)) ∙ own)
+    let own = of_all _ f _ _ _ _ _ (c.kinds-kinds.ensures.kinds labels words) c.split_at.ensures.back c.requires.right c.fault_from-own.ensures in
+    let short = le-leb _ _ (omega (arith, c.kinds-kinds.ensures.count words, c.if-len-kinds.true, c.len.ensures)) in
+    rw (no_tail (tail_of f) (1 + arity f words) words short) (ap places_fault (append-nil _) ∙ own)
 
 pub returns : goal.returns
 returns c =
@@ -36,13 +34,10 @@ returns c =
     let labels = c.args.labels in
     let f = c.args.form in
     let count = c.kinds-kinds.ensures.count words in
-    let long : nat_le (length words) (1 + arity f words) ≡ false = lt-leb (length words) (1 + arity f words) (omega (arith, count, c.if-len-kinds.false, c.len.ensures)) in
+    let long = lt-leb _ _ (omega (arith, count, c.if-len-kinds.false, c.len.ensures)) in
     let at : 2 + length c.kinds-kinds.result.now ≡ 1 + arity f words + 1 = omega (arith, count) in
-    let own = of_all labels f words c.kinds-kinds.result.now _ c.args.known _ (c.kinds-kinds.ensures.kinds labels words) c.split_at.ensures.back c.requires.right c.fault_from-own.ensures in
-    let more : IsFault c.fault_from.result (places_from (1 + arity f words + 1) (tail_of f) words) = subst
-    (λ (n : ℕ). IsFault c.fault_from.result (places_from n (tail_of f) words)) at
-    (subst (λ (ks : List Kind). IsFault c.fault_from.result (places_from (2 + length c.kinds-kinds.result.now) ks words))
+    let own = of_all _ f _ _ _ _ _ (c.kinds-kinds.ensures.kinds labels words) c.split_at.ensures.back c.requires.right c.fault_from-own.ensures in
+    let more = subst (λ n. IsFault c.fault_from.result (places_from n (tail_of f) words)) at
+    (subst (λ ks. IsFault c.fault_from.result (places_from (2 + length c.kinds-kinds.result.now) ks words))
     (c.tail.ensures.tail labels words) c.fault_from.ensures) in
-    rw (c.least.ensures, tail_there (tail_of f) (1 + arity f words) words long)
-    (both_faults c.fault_from-own.result c.fault_from.result (own_places labels f words)
-    (places_from (1 + arity f words + 1) (tail_of f) words) own more)
+    rw (c.least.ensures, tail_there (tail_of f) (1 + arity f words) words long) (both_faults _ _ _ _ own more)

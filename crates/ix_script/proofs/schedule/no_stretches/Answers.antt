@@ -3,10 +3,10 @@ use Rattle.ix_script.proofs.reader.Scheduling.{none_yet, none_more}
 use Rattle.ix_script.proofs.schedule.no_stretches.Goals as goal
 
 pub lists-init : goal.lists-init
-lists-init c = (ap length c.new-lists.ensures.items, none_yet c.new-lists.result.items c.new-lists.ensures.items)
+lists-init c = (ap length c.new-lists.ensures.items, none_yet _ c.new-lists.ensures.items)
 
 pub lists-preserved : goal.lists-preserved
 lists-preserved c = (
   omega (arith, ap length c.in_ok-push.ensures.items, length-append c.lists.lists.items (c.new.result ∷ []), c.lists.invariant.0),
-  none_more c.lists.lists.items c.push.new.self.items c.new.result c.new.ensures c.in_ok-push.ensures.items c.lists.invariant.1,
+  none_more _ _ _ c.new.ensures c.in_ok-push.ensures.items c.lists.invariant.1,
 )

@@ -1,5 +1,4 @@
-use Rattle.std.proofs.Common.{◌≡◌, ◌∷◌, ◌+◌, [], List, ℕ, take, sym, ap, ◌∙◌}
-use Rattle.std.proofs.lemmas.List.{take_all, take_rest}
+use Rattle.std.proofs.{Common.{◌≡◌, ◌∷◌, ◌+◌, [], take, sym, ap, ◌∙◌}, lemmas.List.{take_all, take_rest}}
 use Rattle.ix_script.specs.{reader.Cut.end_from, texts.Cutting.pieces}
 use Rattle.ix_script.proofs.{texts.Pieces.{cut_within, cut_whole, ends_within, plain_end}, words.first_word.Goals.{then-quoted, else-quoted}}
 use Rattle.ix_script.specs.declared.words.Spot.TheVariants as spot
@@ -8,7 +7,7 @@ use Rattle.ix_script.proofs.words.first_word.Goals as goal
 pub slice_bounds-word-end : goal.slice_bounds-word-end
 slice_bounds-word-end c =
     let text = c.args.text.now in
-    ends_within text c.if-quoted.end (elim c.if-quoted.branch [
+    ends_within _ _ (elim c.if-quoted.branch [
       | then-quoted w ↦ w.end-is ∙ w.end_of_quoted-end.ensures
       | else-quoted w ↦ w.end-is ∙ w.end_of_plain-end.ensures ∙ sym (plain_end text (sym c.begins-quoted.ensures ∙ w.if-quoted.false))
     ])
@@ -21,7 +20,7 @@ returns-then-end-text-clause-pieces c =
       | then-quoted w ↦ w.end-is ∙ w.end_of_quoted-end.ensures
       | else-quoted w ↦ w.end-is ∙ w.end_of_plain-end.ensures ∙ sym (plain_end text (sym c.begins-quoted.ensures ∙ w.if-quoted.false))
     ] in
-    cut_within spot.Front text end is c.if-end-text.true ∙ ap (λ more. take end text ∷ pieces spot.Front more) (sym (take_rest text (end + 1)))
+    cut_within _ _ _ is c.if-end-text.true ∙ ap (λ more. take end text ∷ pieces spot.Front more) (sym (take_rest text (end + 1)))
 
 pub returns-else-end-text-clause-pieces : goal.returns-else-end-text-clause-pieces
 returns-else-end-text-clause-pieces c =
@@ -31,4 +30,4 @@ returns-else-end-text-clause-pieces c =
       | then-quoted w ↦ w.end-is ∙ w.end_of_quoted-end.ensures
       | else-quoted w ↦ w.end-is ∙ w.end_of_plain-end.ensures ∙ sym (plain_end text (sym c.begins-quoted.ensures ∙ w.if-quoted.false))
     ] in
-    cut_whole spot.Front text end is c.if-end-text.false ∙ ap (λ (word : List ℕ). word ∷ []) (sym (take_all end text c.if-end-text.false))
+    cut_whole _ _ _ is c.if-end-text.false ∙ ap (λ word. word ∷ []) (sym (take_all end text c.if-end-text.false))

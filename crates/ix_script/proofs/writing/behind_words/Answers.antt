@@ -1,13 +1,10 @@
-use Rattle.std.proofs.Common.{◌+◌, length, length-drop, sym, ◌∙◌, ap, arith}
-use Rattle.std.proofs.lemmas.List.{take_rest}
-use Rattle.ix_script.specs.texts.Cutting.{pieces}
-use Rattle.ix_script.proofs.back.Respelling.{gap_at, behind_at}
+use Rattle.std.proofs.{Common.{◌+◌, length, length-drop, sym, ◌∙◌, ap, arith}, lemmas.List.take_rest}
+use Rattle.ix_script.{specs.texts.Cutting.pieces, proofs.back.Respelling.{gap_at, behind_at}}
 use Rattle.ix_script.specs.declared.words.Spot.TheVariants as spot
 use Rattle.ix_script.proofs.writing.behind_words.Goals as goal
 
 pub unwrap-end-requires : goal.unwrap-end-requires
-unwrap-end-requires c =
-    rw c.place_of.ensures.place
+unwrap-end-requires c = rw c.place_of.ensures.place
     (gap_at c.words.rest.now (pieces spot.Front c.args.text.now) c.words.counter c.words.invariant.words (omega (arith, c.requires.more)) (c.requires.plain c.words.counter c.words-test.true))
 
 pub overflow_add-rest : goal.overflow_add-rest

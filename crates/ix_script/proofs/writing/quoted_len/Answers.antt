@@ -4,5 +4,5 @@ use Rattle.ix_script.proofs.writing.quoted_len.Goals as goal
 
 pub loop-byte-preserved : goal.loop-byte-preserved
 loop-byte-preserved c =
-    let more = quoted_more c.args.bytes.now c.loop-byte.byte-index c.loop-byte-test.true in
+    let more = quoted_more _ _ c.loop-byte-test.true in
     record { so_far = omega arith; small = omega arith }

@@ -1,5 +1,4 @@
-use Rattle.std.proofs.Common.{◌<◌, ◌≤◌, ◌++◌, length, ap, sym, ◌∙◌, arith}
-use Rattle.std.proofs.lemmas.List.{append-nil, drop_all}
+use Rattle.std.proofs.{Common.{◌<◌, ◌≤◌, ◌++◌, length, ap, sym, ◌∙◌, arith}, lemmas.List.{append-nil, drop_all}}
 use Rattle.ix_script.specs.{lines.Before.form_told, scripts.Canonical.canonical_in}
 use Rattle.ix_script.proofs.writing.write.Goals as goal
 
@@ -18,4 +17,4 @@ pub returns : goal.returns
 returns c =
     let end : length c.args.script.now ≤ c.parts.first = omega (arith, c.parts-test.false, c.len.ensures, ap length c.lines-in-parts.ensures) in
     let none = ap (canonical_in (form_told c.args.script.now)) (drop_all c.parts.first c.args.script.now end) in
-    sym (append-nil c.parts.text.items) ∙ ap (λ t. c.parts.text.items ++ t) (sym none) ∙ c.parts.invariant.1
+    sym (append-nil _) ∙ ap (λ t. c.parts.text.items ++ t) (sym none) ∙ c.parts.invariant.1

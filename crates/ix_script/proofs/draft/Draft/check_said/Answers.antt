@@ -1,6 +1,5 @@
 use Rattle.std.proofs.Common.{◌∙◌, [], ◌∷◌, refl, sym}
-use Rattle.ix_script.specs.lines.{Before.{dir_spec, file_spec}, Faults.said_fault, Rules.{is_one_too_many, lacks_policy}}
-use Rattle.ix_script.proofs.lines.Refusals.{broken, kept, other_said}
+use Rattle.ix_script.{specs.lines.{Before.{dir_spec, file_spec}, Faults.said_fault, Rules.lacks_policy}, proofs.lines.Refusals.{broken, kept, other_said}}
 use Rattle.ix_script.proofs.draft.Draft.check_said.Goals as goal
 
 pub returns-in-Dir : goal.returns-in-Dir
@@ -16,21 +15,21 @@ pub returns-then-is_one_too_many : goal.returns-then-is_one_too_many
 returns-then-is_one_too_many g c =
     let before = c.args.self.now.lines.said in
     let l = c.args.line.now in
-    let other = other_said before l c.in_default.not-Proc c.in_default.not-Dir c.in_default.not-File c.in_default.not-Limit c.in_default.not-Fs in
-    other ∙ broken 26 (is_one_too_many before l) ((28, lacks_policy before l) ∷ []) (sym c.is_one_too_many.ensures ∙ c.if-is_one_too_many.true)
+    let other = other_said _ l c.in_default.not-Proc c.in_default.not-Dir c.in_default.not-File c.in_default.not-Limit c.in_default.not-Fs in
+    other ∙ broken 26 _ ((28, lacks_policy before l) ∷ []) (sym c.is_one_too_many.ensures ∙ c.if-is_one_too_many.true)
 
 pub returns-then-lacks_policy : goal.returns-then-lacks_policy
 returns-then-lacks_policy g c =
     let before = c.args.self.now.lines.said in
     let l = c.args.line.now in
-    let other = other_said before l c.in_default.not-Proc c.in_default.not-Dir c.in_default.not-File c.in_default.not-Limit c.in_default.not-Fs in
-    let few = kept 26 (is_one_too_many before l) ((28, lacks_policy before l) ∷ []) (sym c.is_one_too_many.ensures ∙ c.if-is_one_too_many.false) in
-    other ∙ few ∙ broken 28 (lacks_policy before l) [] (sym c.lacks_policy.ensures ∙ c.if-lacks_policy.true)
+    let other = other_said _ l c.in_default.not-Proc c.in_default.not-Dir c.in_default.not-File c.in_default.not-Limit c.in_default.not-Fs in
+    let few = kept 26 _ ((28, lacks_policy before l) ∷ []) (sym c.is_one_too_many.ensures ∙ c.if-is_one_too_many.false) in
+    other ∙ few ∙ broken 28 _ [] (sym c.lacks_policy.ensures ∙ c.if-lacks_policy.true)
 
 pub returns-else-lacks_policy : goal.returns-else-lacks_policy
 returns-else-lacks_policy g c =
     let before = c.args.self.now.lines.said in
     let l = c.args.line.now in
-    let other = other_said before l c.in_default.not-Proc c.in_default.not-Dir c.in_default.not-File c.in_default.not-Limit c.in_default.not-Fs in
-    let few = kept 26 (is_one_too_many before l) ((28, lacks_policy before l) ∷ []) (sym c.is_one_too_many.ensures ∙ c.if-is_one_too_many.false) in
-    other ∙ few ∙ kept 28 (lacks_policy before l) [] (sym c.lacks_policy.ensures ∙ c.if-lacks_policy.false)
+    let other = other_said _ l c.in_default.not-Proc c.in_default.not-Dir c.in_default.not-File c.in_default.not-Limit c.in_default.not-Fs in
+    let few = kept 26 _ ((28, lacks_policy before l) ∷ []) (sym c.is_one_too_many.ensures ∙ c.if-is_one_too_many.false) in
+    other ∙ few ∙ kept 28 _ [] (sym c.lacks_policy.ensures ∙ c.if-lacks_policy.false)

@@ -1,73 +1,59 @@
-use Rattle.std.proofs.{Common.{ℕ, List, [], ◌∷◌, ◌++◌, refl, sym, ap, subst, arith}, lemmas.List.append-nil}
-use Rattle.ix_model.specs.world.Naming.{PathOf}
-use Rattle.ix_script.specs.reader.Indexed.{AreNames}
-use Rattle.ix_script.proofs.lines.Follows.{follows}
-use Rattle.ix_script.proofs.reader.{Commands.{on_ok, on_both, or_true, or_false}, Keeping.{header_next, no_names, nothing_made, quiet}, Validity.fits_of}
+use Rattle.std.proofs.{Common.{refl, sym, ap, arith}, lemmas.List.append-nil}
+use Rattle.ix_script.proofs.{lines.Follows.follows, reader.{Commands.{on_ok, on_both, or_true, or_false}, Keeping.{header_next, no_names, nothing_made, quiet}, Validity.fits_of}}
 use Rattle.ix_script.proofs.header.Header.add.Goals as goal
 
 pub returns-in-Limit : goal.returns-in-Limit
-returns-in-Limit c =
-    on_ok c.push.result (λ pushed lines first told valid fault.
-    header_next c.args.self.now _ c.args.first lines c.args.line.now first told (fits_of lines valid) (follows lines c.args.line.now fault)
-    (rw c.in-Limit.is (omega arith)) c.in_ok-add_fs.ensures c.limits_after-self.ensures (rw c.in-Limit.is pushed)
-    (rw c.in-Limit.is (no_names c.args.self.now.procs))
-    (rw c.in-Limit.is (nothing_made c.args.self.now.made)) (rw c.as_slice.ensures at c.take.ensures) (rw c.group.ensures at c.max-self.ensures)
-    (rw c.in-Limit.is (sym (or_false c.args.self.now.policy)))) c.push.ensures.ok
+returns-in-Limit c = on_ok c.push.result (λ pushed lines first told valid fault.
+    header_next _ _ _ _ _ first told (fits_of _ valid) (follows _ _ fault)
+    (rw c.in-Limit.is (omega arith)) c.in_ok-add_fs.ensures c.limits_after-self.ensures (rw c.in-Limit.is pushed) (rw c.in-Limit.is (no_names _))
+    (rw c.in-Limit.is (nothing_made _)) (rw c.as_slice.ensures at c.take.ensures) (rw c.group.ensures at c.max-self.ensures)
+    (rw c.in-Limit.is (sym (or_false _)))) c.push.ensures.ok
 
 pub returns-in-Fs : goal.returns-in-Fs
 returns-in-Fs c =
     λ lines first told valid fault.
-    header_next c.args.self.now _ c.args.first lines c.args.line.now first told (fits_of lines valid) (follows lines c.args.line.now fault)
-    (rw c.in-Fs.is refl) c.in_ok-add_fs.ensures c.limits_after-self.ensures (rw c.in-Fs.is (sym (append-nil c.args.self.now.whats)))
-    (rw c.in-Fs.is (no_names c.args.self.now.procs))
-    (rw c.in-Fs.is (nothing_made c.args.self.now.made)) (rw c.as_slice.ensures at c.take.ensures) (rw c.group.ensures at c.max-self.ensures) (rw c.in-Fs.is (sym (or_false c.args.self.now.policy)))
+    header_next _ _ _ _ _ first told (fits_of _ valid) (follows _ _ fault)
+    (rw c.in-Fs.is refl) c.in_ok-add_fs.ensures c.limits_after-self.ensures (rw c.in-Fs.is (sym (append-nil _))) (rw c.in-Fs.is (no_names _))
+    (rw c.in-Fs.is (nothing_made _)) (rw c.as_slice.ensures at c.take.ensures) (rw c.group.ensures at c.max-self.ensures) (rw c.in-Fs.is (sym (or_false _)))
 
 pub returns-in-Proc : goal.returns-in-Proc
-returns-in-Proc c =
-    on_both c.push-in-Proc.result (λ names count lines first told valid fault.
-    header_next c.args.self.now _ c.args.first lines c.args.line.now first told (fits_of lines valid) (follows lines c.args.line.now fault)
-    (rw c.in-Proc.is (omega arith)) c.in_ok-add_fs.ensures c.limits_after-self.ensures (rw c.in-Proc.is (sym (append-nil c.args.self.now.whats)))
+returns-in-Proc c = on_both c.push-in-Proc.result (λ names count lines first told valid fault.
+    header_next _ _ _ _ _ first told (fits_of _ valid) (follows _ _ fault)
+    (rw c.in-Proc.is (omega arith)) c.in_ok-add_fs.ensures c.limits_after-self.ensures (rw c.in-Proc.is (sym (append-nil _)))
     (rw c.in-Proc.is (record { names = names; count = count }))
-    (rw c.in-Proc.is (nothing_made c.args.self.now.made)) (rw c.as_slice.ensures at c.take.ensures) (rw c.group.ensures at c.max-self.ensures)
-    (rw c.in-Proc.is (sym (or_false c.args.self.now.policy)))) c.push-in-Proc.ensures.names c.push-in-Proc.ensures.count
+    (rw c.in-Proc.is (nothing_made _)) (rw c.as_slice.ensures at c.take.ensures) (rw c.group.ensures at c.max-self.ensures)
+    (rw c.in-Proc.is (sym (or_false _)))) c.push-in-Proc.ensures.names c.push-in-Proc.ensures.count
 
 pub returns-in-Dir : goal.returns-in-Dir
-returns-in-Dir c =
-    on_both c.push-in-Dir.result (λ sites count lines first told valid fault.
-    header_next c.args.self.now _ c.args.first lines c.args.line.now first told (fits_of lines valid) (follows lines c.args.line.now fault)
-    (rw c.in-Dir.is (omega arith)) c.in_ok-add_fs.ensures c.limits_after-self.ensures (rw c.in-Dir.is (sym (append-nil c.args.self.now.whats)))
-    (rw c.in-Dir.is (no_names c.args.self.now.procs))
-    (rw c.in-Dir.is (record { sites = λ os told. sites os _ (ap (λ (p : PathOf). p.names) (sym c.path.ensures)) refl told; count = count }))
+returns-in-Dir c = on_both c.push-in-Dir.result (λ sites count lines first told valid fault.
+    header_next _ _ _ _ _ first told (fits_of _ valid) (follows _ _ fault)
+    (rw c.in-Dir.is (omega arith)) c.in_ok-add_fs.ensures c.limits_after-self.ensures (rw c.in-Dir.is (sym (append-nil _))) (rw c.in-Dir.is (no_names _))
+    (rw c.in-Dir.is (record { sites = λ os told. sites os _ (ap (λ p. p.names) (sym c.path.ensures)) refl told; count = count }))
     (rw c.as_slice.ensures at c.take.ensures) (rw c.group.ensures at c.max-self.ensures)
-    (rw c.in-Dir.is (sym (or_false c.args.self.now.policy)))) c.push-in-Dir.ensures.sites c.push-in-Dir.ensures.count
+    (rw c.in-Dir.is (sym (or_false _)))) c.push-in-Dir.ensures.sites c.push-in-Dir.ensures.count
 
 pub returns-in-File : goal.returns-in-File
-returns-in-File c =
-    on_both c.push-in-File.result (λ sites count lines first told valid fault.
-    header_next c.args.self.now _ c.args.first lines c.args.line.now first told (fits_of lines valid) (follows lines c.args.line.now fault)
-    (rw c.in-File.is (omega arith)) c.in_ok-add_fs.ensures c.limits_after-self.ensures (rw c.in-File.is (sym (append-nil c.args.self.now.whats)))
-    (rw c.in-File.is (no_names c.args.self.now.procs))
+returns-in-File c = on_both c.push-in-File.result (λ sites count lines first told valid fault.
+    header_next _ _ _ _ _ first told (fits_of _ valid) (follows _ _ fault)
+    (rw c.in-File.is (omega arith)) c.in_ok-add_fs.ensures c.limits_after-self.ensures (rw c.in-File.is (sym (append-nil _))) (rw c.in-File.is (no_names _))
     (rw c.in-File.is (record {
-      sites = λ os told. sites os _ (ap (λ (p : PathOf). p.names) (sym c.path-in-File.ensures))
-          refl told;
+      sites = λ os told. sites os _ (ap (λ p. p.names) (sym c.path-in-File.ensures)) refl told;
       count = count;
     })) (rw c.as_slice.ensures at c.take.ensures) (rw c.group.ensures at c.max-self.ensures)
-    (rw c.in-File.is (sym (or_false c.args.self.now.policy)))) c.push-in-File.ensures.sites c.push-in-File.ensures.count
+    (rw c.in-File.is (sym (or_false _)))) c.push-in-File.ensures.sites c.push-in-File.ensures.count
 
 pub returns-in-Policy : goal.returns-in-Policy
 returns-in-Policy c =
     λ lines first told valid fault.
-    header_next c.args.self.now _ c.args.first lines c.args.line.now first told (fits_of lines valid) (follows lines c.args.line.now fault)
-    (rw c.in-Policy.is (omega arith)) c.in_ok-add_fs.ensures c.limits_after-self.ensures
-    (rw c.in-Policy.is (sym (append-nil c.args.self.now.whats))) (rw c.in-Policy.is (no_names c.args.self.now.procs))
-    (rw c.in-Policy.is (nothing_made c.args.self.now.made)) (rw c.as_slice.ensures at c.take.ensures) (rw c.group.ensures at c.max-self.ensures)
-    (rw c.in-Policy.is (sym (or_true c.args.self.now.policy)))
+    header_next _ _ _ _ _ first told (fits_of _ valid) (follows _ _ fault) (rw c.in-Policy.is (omega arith)) c.in_ok-add_fs.ensures c.limits_after-self.ensures
+    (rw c.in-Policy.is (sym (append-nil _))) (rw c.in-Policy.is (no_names _))
+    (rw c.in-Policy.is (nothing_made _)) (rw c.as_slice.ensures at c.take.ensures) (rw c.group.ensures at c.max-self.ensures)
+    (rw c.in-Policy.is (sym (or_true _)))
 
 pub returns-in_default : goal.returns-in_default
 returns-in_default c =
     λ lines first told valid fault.
-    let q = quiet c.args.line.now c.in_default.not-Limit c.in_default.not-Fs c.in_default.not-Proc c.in_default.not-Dir c.in_default.not-File c.in_default.not-Policy in
-    header_next c.args.self.now _ c.args.first lines c.args.line.now first told (fits_of lines valid) (follows lines c.args.line.now fault)
-    (rw q.fss (omega arith)) c.in_ok-add_fs.ensures c.limits_after-self.ensures (rw q.whats (sym (append-nil c.args.self.now.whats)))
-    (rw q.procs (no_names c.args.self.now.procs))
-    (rw q.made (nothing_made c.args.self.now.made)) (rw c.as_slice.ensures at c.take.ensures) (rw c.group.ensures at c.max-self.ensures) (rw q.policy (sym (or_false c.args.self.now.policy)))
+    let q = quiet _ c.in_default.not-Limit c.in_default.not-Fs c.in_default.not-Proc c.in_default.not-Dir c.in_default.not-File c.in_default.not-Policy in
+    header_next _ _ _ _ _ first told (fits_of _ valid) (follows _ _ fault)
+    (rw q.fss (omega arith)) c.in_ok-add_fs.ensures c.limits_after-self.ensures (rw q.whats (sym (append-nil _))) (rw q.procs (no_names _))
+    (rw q.made (nothing_made _)) (rw c.as_slice.ensures at c.take.ensures) (rw c.group.ensures at c.max-self.ensures) (rw q.policy (sym (or_false _)))

@@ -4,4 +4,4 @@ use Rattle.ix_script.proofs.index.Given.add.Goals as goal
 pub returns : goal.returns
 returns c = λ items are.
     rw (c.in-Some.is, ← c.word.ensures.bytes, ← c.place_of-place.ensures.lane, ← c.place_of-place.ensures.name)
-    (place_indexed c.place_of-place.result c.args.self.now.near.items c.args.self.now.index c.insert.new.self items c.in_ok-insert.ensures.updates are.0, are.1)
+    (place_indexed c.place_of-place.result _ c.args.self.now.index c.insert.new.self _ c.in_ok-insert.ensures.updates are.0, are.1)

@@ -8,14 +8,14 @@ returns c = λ lines was.
     let x = c.args.line.now in
     let fss : c.match-fs_spec.self.fss ≡ c.args.self.now.fss ++ fs_told x = elim c.match-fs_spec.branch [
       | in-Some+in_ok-push w ↦ rw (w.self-is, c.fs_spec.ensures, w.in-Some.is) w.in_ok-push.ensures.ok
-      | in_default w ↦ rw (w.self-is, c.fs_spec.ensures, w.in_default.is) (sym (append-nil c.args.self.now.fss))
+      | in_default w ↦ rw (w.self-is, c.fs_spec.ensures, w.in_default.is) (sym (append-nil _))
     ] in
     let limits : c.match-fs_spec.self.limits ≡ c.args.self.now.limits = elim c.match-fs_spec.branch [ in-Some+in_ok-push w ↦ rw w.self-is refl | in_default w ↦ rw w.self-is refl ] in
     let procs : c.match-fs_spec.self.procs ≡ c.args.self.now.procs = elim c.match-fs_spec.branch [ in-Some+in_ok-push w ↦ rw w.self-is refl | in_default w ↦ rw w.self-is refl ] in
     let objects : c.match-fs_spec.self.objects ≡ c.args.self.now.objects = elim c.match-fs_spec.branch [ in-Some+in_ok-push w ↦ rw w.self-is refl | in_default w ↦ rw w.self-is refl ] in
     record {
-      fss = fss ∙ ap (λ fs. fs ++ fs_told x) was.fss ∙ sym (fss_push lines x);
-      limits = c.limits_after-self.ensures ∙ ap (λ l. limits_after l x) (limits ∙ was.limits) ∙ sym (limits_push lines x);
-      procs = c.in_ok-add_proc.ensures ∙ ap (λ ps. ps ++ proc_told x) (procs ∙ was.procs) ∙ sym (procs_push lines x);
-      objects = c.in_ok-add_object.ensures ∙ ap (λ os. os ++ object_told x) (objects ∙ was.objects) ∙ sym (objects_push lines x);
+      fss = fss ∙ ap (λ fs. fs ++ fs_told x) was.fss ∙ sym (fss_push _ x);
+      limits = c.limits_after-self.ensures ∙ ap (λ l. limits_after l x) (limits ∙ was.limits) ∙ sym (limits_push _ x);
+      procs = c.in_ok-add_proc.ensures ∙ ap (λ ps. ps ++ proc_told x) (procs ∙ was.procs) ∙ sym (procs_push _ x);
+      objects = c.in_ok-add_object.ensures ∙ ap (λ os. os ++ object_told x) (objects ∙ was.objects) ∙ sym (objects_push _ x);
     }

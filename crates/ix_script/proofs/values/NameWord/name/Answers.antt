@@ -3,4 +3,4 @@ use Rattle.ix_script.proofs.reader.Verdicts.{some_of}
 use Rattle.ix_script.proofs.values.NameWord.name.Goals as goal
 
 pub unwrap-requires : goal.unwrap-requires
-unwrap-requires c = some_of _ _ c.read.result c.read.ensures (λ no. no (script_name_is_name c.self.inside.word.now c.self.invariant))
+unwrap-requires c = some_of _ _ _ c.read.ensures (λ no. no (script_name_is_name _ c.self.invariant))
