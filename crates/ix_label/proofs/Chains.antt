@@ -1,9 +1,7 @@
 -- The longest runs of a label stand in ascending order, with a gap between each two.
-use Rattle.std.proofs.Common.{◌≡◌, ℕ, zero, suc, ◌+◌, ◌<◌, ◌≤◌, true, false, true≢false, List, [], ◌∷◌, refl, sym, ◌∙◌, arith, add-one, Option, None, Some, inl}
-use Rattle.std.proofs.Common.{inr}
+use Rattle.std.proofs.Common.{◌≡◌, ℕ, zero, suc, ◌+◌, ◌≤◌, true, false, true≢false, List, [], ◌∷◌, refl, sym, ◌∙◌, arith, add-one, Option, None, Some, inl, inr}
 use Rattle.std.{specs.List.{range_with_len, zip, filter}, proofs.{lemmas.Bool.{cases_Bool, cases_order, false_from_ne_true}, Math.Bool.and-false}}
-use Rattle.ix_label.specs.{declared.form.Form.Form, Category.{Categories, has}, Forms.{greatest, IsWithin}, Reading.IsAbove}
-use Rattle.ix_label.specs.Spelling.{categories, has_before, begins, ends, runs}
+use Rattle.ix_label.specs.{declared.form.Form.Form, Category.{Categories, has}, Forms.{greatest, IsWithin}, Reading.IsAbove, Spelling.{has_before, begins, ends, runs}}
 use Rattle.ix_label.proofs.{Runs.are_below, Numbers.greatest-below}
 
 -- a run that may follow a run which ends at the last number
@@ -13,7 +11,7 @@ pub record IsLink (form : Form) (last : Option ℕ) (a b : ℕ) : Type 0 where
   pub small : b ≤ greatest form
 
 abbrev pub Chain : Form → Option ℕ → List (ℕ × ℕ) → Type 0
-Chain form last [] = Unit {0}
+Chain form last [] = Unit
 Chain form last ((a, b) ∷ rs) = IsLink form last a b × Chain form (Some b) rs
 
 module _ (s : Categories) (k : ℕ) where
@@ -27,7 +25,7 @@ module _ (s : Categories) (k : ℕ) where
 
   begins_old : has_before s k ≡ true → begins s k ≡ false
   unfolding begins
-  begins_old old = rw old (and-false (has s k))
+  begins_old old = rw old (and-false _)
 
   ends_last : has s k ≡ true → has s (k + 1) ≡ false → ends s k ≡ true
   unfolding ends
@@ -39,7 +37,7 @@ module _ (s : Categories) (k : ℕ) where
 
   ends_more : has s (k + 1) ≡ true → ends s k ≡ false
   unfolding ends
-  ends_more more = rw more (and-false (has s k))
+  ends_more more = rw more (and-false _)
 
   before_next : has_before s (k + 1) ≡ has s k
   unfolding has_before
@@ -63,7 +61,7 @@ abbrev Open : Form → Categories → ℕ → ℕ → Type 0
 Open form s n end = (last : Option ℕ) (a k : ℕ) → k + n ≡ end → a ≤ k → has s k ≡ true → has_before s k ≡ true → IsAbove last a → Chain form last (zip (a ∷ starts_from s k n) (stops_from s k n))
 
 gap_after : (s : Categories) (k : ℕ) → has s (k + 1) ≡ false → HasGap s (Some k) (k + 1)
-gap_after s k none a le one = elim (cases_order (k + 1) a) [
+gap_after s k none a le one = elim (cases_order _ a) [
   | inl e ↦ absurd (true≢false (sym one ∙ (λ i. has s (sym e i)) ∙ none))
   | inr (inl lt) ↦ lt
   | inr (inr gt) ↦ absurd (omega arith)
@@ -112,4 +110,4 @@ chain_below form s n below within e none = rw e ((chains form s n within none n)
 
 pub runs-Chain : (form : Form) (s : Categories) → IsWithin form s → Chain form None (runs s)
 unfolding runs
-runs-Chain form s h = chain_below form s 512 categories h are_below (false_from_ne_true _ (λ one. let low : 512 ≤ greatest form = h.below 512 one in absurd (omega (arith, greatest-below form))))
+runs-Chain form s h = chain_below _ s _ _ h are_below (false_from_ne_true _ (λ one. let low = h.below 512 one in absurd (omega (arith, greatest-below form))))

@@ -2,32 +2,31 @@
 use Rattle.std.proofs.Common.{◌≡◌, ℕ, ◌+◌, ◌<◌, ◌≤◌, false, true≢false, List, [], ◌∷◌, ◌++◌, length, drop, refl, sym, ◌∙◌, ap, subst, arith, append_assoc, None}
 use Rattle.std.proofs.Common.{length-append, length-drop, Option, Some, inl, inr}
 use Rattle.std.{specs.{List.slice_get, Fmt.decimal}, proofs.lemmas.{Bool.cases_lt, List.{drop-drop, drop_at}, Option.slice_get_within}}
-use Rattle.ix_label.specs.{declared.form.Form.Form, Forms.{greatest, whole_run}, Spelling.{item, items, comma, dash}}
+use Rattle.ix_label.{specs.{declared.form.Form.Form, Forms.{greatest, whole_run}, Spelling.{item, items, comma, dash}}, proofs.Unique.{after_item, items_are, Stops, after_item_Stops}}
 use Rattle.ix_label.specs.{Faults.{at_digit, at_dash, at_comma, last_number, is_text}, Reading.{fault_from, IsNumberAt, BeginsItem, IsItemAt}}
 use Rattle.ix_label.proofs.{Chains.{Chain, IsLink}, Reading.{drop-next, drop-past, back-next, item_single, item_range, item_one, item_more, order_above}}
-use Rattle.ix_label.proofs.Unique.{after_item, items_are, Stops, after_item_Stops}
 
 -- ---- what stands at a place
 
 drop-more : (text x q : List ℕ) (at : ℕ) → drop at text ≡ x ++ q → drop (at + length x) text ≡ q
-drop-more text x q at h = sym (drop-drop (length x) at text) ∙ ap (drop (length x)) h ∙ drop_at x q (length x) refl
+drop-more text x q at h = sym (drop-drop _ at text) ∙ ap (drop _) h ∙ drop_at x q _ refl
 
 within-more : (text x q : List ℕ) (at : ℕ) → at ≤ length text → drop at text ≡ x ++ q → at + length x ≤ length text
 within-more text x q at low h = omega (arith, ap length h, length-drop at text, length-append x q)
 
 at_next : (text q : List ℕ) (at b : ℕ) → drop at text ≡ b ∷ q → (slice_get text at ≡ Some b) × (drop (at + 1) text ≡ q)
-at_next text q at b h = go (slice_get text at) refl
+at_next text q at b h = go _ refl
   where
     go : (o : Option ℕ) → slice_get text at ≡ o → (slice_get text at ≡ Some b) × (drop (at + 1) text ≡ q)
-    go None e = let none : drop at text ≡ [] = drop-past text at e in cc
-    go (Some c) e = let next : drop at text ≡ c ∷ drop (at + 1) text = drop-next text at c e in (let same : c ≡ b = cc in e ∙ ap Some same, cc)
+    go None e = cc (drop-past text at e)
+    go (Some c) e = let next = drop-next _ at c e in (let same : c ≡ b = cc in e ∙ ap Some same, cc)
 
 at_end : (text : List ℕ) (at : ℕ) → drop at text ≡ [] → slice_get text at ≡ None
-at_end text at h = go (slice_get text at) refl
+at_end text at h = go _ refl
   where
     go : (o : Option ℕ) → slice_get text at ≡ o → slice_get text at ≡ None
     go None e = e
-    go (Some c) e = let next : drop at text ≡ c ∷ drop (at + 1) text = drop-next text at c e in cc
+    go (Some c) e = cc (drop-next text at c e)
 
 no_digit_dash : (q : List ℕ) → at_digit (dash ∷ q) ≡ false
 unfolding at_digit
@@ -35,7 +34,7 @@ no_digit_dash q = refl
 
 no_dash_next : (text q : List ℕ) (at : ℕ) → drop at text ≡ q → Stops q → slice_get text at ≡ Some dash → ⊥
 unfolding at_dash
-no_dash_next text q at h stops next = true≢false (ap at_dash (sym (drop-next text at dash next) ∙ h) ∙ stops.dash)
+no_dash_next text q at h stops next = true≢false (ap at_dash (sym (drop-next _ at _ next) ∙ h) ∙ stops.dash)
 
 -- ---- a number or an item
 
@@ -44,10 +43,10 @@ module _ (form : Form) where
   number_written : (text q : List ℕ) (at value : ℕ) → at ≤ length text → value ≤ greatest form → drop at text ≡ decimal value ++ q → at_digit q ≡ false
       → IsNumberAt form text at value (at + length (decimal value))
   number_written text q at value low small h ended =
-      let after : drop (at + length (decimal value)) text ≡ q = drop-more text (decimal value) q at h in
+      let after = drop-more _ _ q at h in
       record {
         small = small;
-        within = within-more text (decimal value) q at low h;
+        within = within-more _ _ q at low h;
         written = rw after h;
         ended = rw after ended;
       }
@@ -81,7 +80,7 @@ module _ (form : Form) where
 
     item_written : (a b : ℕ) → IsLink form last a b → drop at text ≡ item (a, b) ++ q → IsItemThen text at last a b q
     item_written a b link h =
-        let order : a ≤ b = link.order in
+        let order = link.order in
         elim (cases_lt a b) [
           | inl up ↦ range_written a b up link h
           | inr down ↦
@@ -93,7 +92,7 @@ module _ (form : Form) where
   begins_next : (text : List ℕ) (at : ℕ) (last : Option ℕ) (a b end : ℕ) → IsItemAt form text at last a b end → slice_get text end ≡ Some comma → BeginsItem text (end + 1) (Some b)
   unfolding at_comma last_number
   begins_next text at last a b end i next =
-      let low : end < length text = slice_get_within text end comma next in
+      let low = slice_get_within text end comma next in
       record { within = omega arith; after = rw (back-next text end comma next) (refl, i.number) }
 
   -- a chain of items, from the place where its first stands

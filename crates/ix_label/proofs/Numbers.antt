@@ -1,13 +1,11 @@
 -- The decimal digits of a category, as they are written and as they are read.
-use Rattle.std.proofs.Common.{◌≡◌, ℕ, ◌+◌, ◌*◌, ◌-◌, take, ◌<◌, ◌≤◌, ◌==◌, nat_lt, zero, suc, true, false, ◌&&◌, List, ◌++◌, length, get_or, refl, sym, arith}
-use Rattle.std.proofs.Common.{rules, None, Some, inl, inr}
+use Rattle.std.proofs.Common.{◌≡◌, ℕ, ◌+◌, ◌*◌, ◌-◌, take, ◌<◌, ◌≤◌, ◌==◌, nat_lt, zero, suc, true, false, ◌&&◌, List, ◌++◌, length, get_or, refl, sym, arith, rules, None, Some, inl, inr}
 use Rattle.std.specs.{List.list_all, Char.{is_ascii_digit, digit_value}, Fmt.decimal, Str.Parse.digits_value, Int.IsInRange}
 use Rattle.std.proofs.lemmas.Bool.{le-ltb, lt-ltb, eqb-false, ltb-false, ne_eqb, cases_lt, or_parts, or_from, and_cases, and_left, and_right}
 use Rattle.std.proofs.lemmas.Fmt.{decimal_digit, first_decimal, digits_decimal, digits_value-decimal, decimal-digits_value}
-use Rattle.std.proofs.{lemmas.Str.Parse.{IsNumeralModel, numerals_by_value, digits_value-take-le, digit_at}, lemmas.Int.Digits.digits_value_more}
+use Rattle.std.proofs.lemmas.{Str.Parse.{IsNumeralModel, numerals_by_value, digits_value-take-le, digit_at}, Int.Digits.digits_value_more}
 use Rattle.ix_label.specs.{declared.{form.Form.{Form, TheVariants.{One, Two}}, fault.LabelFault.TheVariants.{NotAscending, NotLongest}}, Forms.greatest}
-use Rattle.ix_label.specs.Faults.{digits, number_ahead, at_digit, is_bad, is_not_ascending, is_not_longest, number_fault}
-use Rattle.ix_label.proofs.{Texts.decimal_some, Places.digits-append}
+use Rattle.ix_label.{specs.Faults.{digits, number_ahead, at_digit, is_bad, is_not_ascending, is_not_longest, number_fault}, proofs.{Texts.decimal_some, Places.digits-append}}
 
 -- each form's numbers are categories
 pub greatest-below : (form : Form) → greatest form < 512
@@ -33,7 +31,7 @@ sound_from ds some alone = or_from _ _ (ne_eqb (length ds) 0 (λ e. omega arith)
 
 sound_some : (ds : List ℕ) → is_bad ds ≡ false → 0 < length ds
 unfolding is_bad
-sound_some ds h = let parts : ((length ds == 0) ≡ false) × ((nat_lt 1 (length ds) && get_or ds 0 0 == 48) ≡ false) = or_parts _ _ h in elim (cases_lt 0 (length ds)) [
+sound_some ds h = let parts : ((length ds == 0) ≡ false) × ((nat_lt 1 (length ds) && get_or ds 0 0 == 48) ≡ false) = or_parts _ _ h in elim (cases_lt 0 _) [
   | inl some ↦ some
   | inr none ↦ absurd (eqb-false _ _ parts.0 (omega arith))
 ]
@@ -50,10 +48,10 @@ sound_zero ds h e =
 
 decimal-zero : (n : ℕ) → n < 512 → get_or (decimal n) 0 0 ≡ 48 → length (decimal n) ≡ 1
 decimal-zero zero h e = rw (decimal_digit 0 (omega arith)) refl
-decimal-zero (suc n) h e = let lt : 48 < get_or (decimal (suc n)) 0 0 = first_decimal (suc n) (omega arith) (omega arith) in absurd (omega arith)
+decimal-zero (suc n) h e = let lt : 48 < get_or (decimal (suc n)) 0 0 = first_decimal _ (omega arith) (omega arith) in absurd (omega arith)
 
 pub decimal-sound : (n : ℕ) → n < 512 → is_bad (decimal n) ≡ false
-decimal-sound n h = sound_from (decimal n) (decimal_some n) (decimal-zero n h)
+decimal-sound n h = sound_from _ (decimal_some n) (decimal-zero n h)
 
 -- digits that are no bad number are written so
 pub sound-decimal : (ds : List ℕ) → list_all is_ascii_digit ds ≡ true → is_bad ds ≡ false → digits_value 10 ds < 512 → decimal (digits_value 10 ds) ≡ ds
@@ -66,25 +64,25 @@ module _ (form : Form) (value : ℕ) (rest : List ℕ) (small : value ≤ greate
   below = omega (arith, greatest-below form)
 
   pub digits-decimal : digits (decimal value ++ rest) ≡ decimal value
-  digits-decimal = digits-append (decimal value) rest (decimal-digits value below) ended
+  digits-decimal = digits-append _ _ (decimal-digits _ below) ended
 
   pub number_ahead-decimal : number_ahead (decimal value ++ rest) ≡ value
   unfolding number_ahead
-  number_ahead-decimal = rw digits-decimal (decimal-value value below)
+  number_ahead-decimal = rw digits-decimal (decimal-value _ below)
 
   pub in_order : (back : List ℕ) → is_not_ascending back (decimal value ++ rest) ≡ false → is_not_longest form back (decimal value ++ rest) ≡ false
       → number_fault form back (decimal value ++ rest) ≡ None
   unfolding number_fault
-  in_order back up apart = rw (digits-decimal, decimal-sound value below, number_ahead-decimal, le-ltb (greatest form) value small, up, apart) refl
+  in_order back up apart = rw (digits-decimal, decimal-sound value below, number_ahead-decimal, le-ltb, up, apart) refl
 
   pub not_ascending : (back : List ℕ) → is_not_ascending back (decimal value ++ rest) ≡ true → number_fault form back (decimal value ++ rest) ≡ Some (NotAscending (length back))
   unfolding number_fault
-  not_ascending back down = rw (digits-decimal, decimal-sound value below, number_ahead-decimal, le-ltb (greatest form) value small, down) refl
+  not_ascending back down = rw (digits-decimal, decimal-sound value below, number_ahead-decimal, le-ltb, down) refl
 
   pub not_longest : (back : List ℕ) → is_not_ascending back (decimal value ++ rest) ≡ false → is_not_longest form back (decimal value ++ rest) ≡ true
       → number_fault form back (decimal value ++ rest) ≡ Some (NotLongest (length back))
   unfolding number_fault
-  not_longest back up next = rw (digits-decimal, decimal-sound value below, number_ahead-decimal, le-ltb (greatest form) value small, up, next) refl
+  not_longest back up next = rw (digits-decimal, decimal-sound value below, number_ahead-decimal, le-ltb, up, next) refl
 
 -- ---- the value of digits, one after another
 

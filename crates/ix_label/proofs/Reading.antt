@@ -1,20 +1,17 @@
 -- What the numbers and items that stand at a place say of the text's first fault.
-use Rattle.std.proofs.Common.{◌≡◌, ℕ, ◌+◌, ◌-◌, ◌<◌, ◌≤◌, ◌==◌, nat_le, Bool, true, false, true≢false, not, ◌&&◌, List, [], ◌∷◌, ◌++◌, length, get_or, take, ap}
+use Rattle.std.proofs.Common.{◌≡◌, ℕ, ◌+◌, ◌<◌, ◌≤◌, ◌==◌, nat_le, Bool, true, false, true≢false, not, ◌&&◌, List, [], ◌∷◌, ◌++◌, length, take, ap}
 use Rattle.std.proofs.Common.{drop, reverse, if◌then◌else◌, ◌⊎◌, refl, sym, ◌∙◌, arith, append_assoc, length-append, length-drop, Option, None, Some, inl, inr}
-use Rattle.std.proofs.Common.{codes}
 use Rattle.std.specs.{List.{slice_get, list_all, prefix_len}, Char.is_ascii_digit, Fmt.decimal, Str.Parse.digits_value}
 use Rattle.std.proofs.lemmas.Bool.{lt-ltb, cases_lt, cases_Bool, cases_order, eqb-true, eqb-false, eq-eqb, ne_eqb, le-leb, lt-leb, leb-false, and_left}
 use Rattle.std.proofs.lemmas.List.{take-append-drop, take_at, drop_more, drop-drop, drop_all, length-take, length-reverse, reverse-append}
-use Rattle.std.proofs.{lemmas.List.Folds.length-prefix_len, lemmas.List.Sums.prefix_len-le-length, Math.Bool.{and-false, or-false}}
+use Rattle.std.proofs.{lemmas.List.{Folds.length-prefix_len, Sums.prefix_len-le-length}, Math.Bool.{and-false, or-false}}
 use Rattle.std.proofs.lemmas.Option.{slice_get_within, get_or_from_slice_get, slice_get-get_or}
-use Rattle.ix_label.specs.declared.{form.Form.Form, fault.LabelFault.{LabelFault, TheVariants.{BadNumber, OutOfRange, NotAscending, NotLongest}}}
-use Rattle.ix_label.specs.{Forms.{greatest, whole_run}, Spelling.{item, comma, dash}}
+use Rattle.ix_label.{specs.declared.{form.Form.Form, fault.LabelFault.{LabelFault, TheVariants.{BadNumber, OutOfRange, NotAscending, NotLongest}}}, proofs.Texts.decimal_some}
+use Rattle.ix_label.specs.{Forms.{greatest, whole_run}, Spelling.{item, comma, dash}, Faults.{last_number, number_back, number_fault}}
 use Rattle.ix_label.specs.Faults.{digits, after_digits, number_ahead, is_bad, at_comma, at_dash, at_digit, is_due, is_not_ascending, is_not_longest, is_text}
-use Rattle.ix_label.specs.Faults.{last_number, number_back, number_fault}
 use Rattle.ix_label.specs.Reading.{back_from, fault_from, IsValueOf, IsNumberAt, AfterLast, BeginsItem, IsAbove, order_fault, fault_after_item, IsItemAt}
 use Rattle.ix_label.proofs.Places.{are_digits, digits-and_after, no_digit_after, fault_due, first_fault-some, over_number, number_back-number, end_follows}
 use Rattle.ix_label.proofs.Places.{comma_follows, dash_follows, other_follows}
-use Rattle.ix_label.proofs.Texts.{decimal_some}
 use Rattle.ix_label.proofs.Numbers.{greatest-below, sound-decimal, decimal-digits, decimal-value, number_ahead-decimal, in_order, not_ascending, not_longest}
 
 -- ---- places of a text
@@ -27,9 +24,9 @@ length-back text at h = rw (length-reverse, length-take) (omega arith)
 pub take-written : (text x : List ℕ) (at end : ℕ) → at ≤ length text → end ≤ length text → drop at text ≡ x ++ drop end text → take end text ≡ take at text ++ x
 take-written text x at end low high h =
     let whole : (take at text ++ x) ++ drop end text ≡ text = rw (append_assoc, ← h) (take-append-drop at text) in
-    let parts : length text - at ≡ length x + (length text - end) = sym (length-drop at text) ∙ ap length h ∙ length-append x (drop end text) ∙ (λ i. length x + length-drop end text i) in
+    let parts = sym (length-drop at text) ∙ ap length h ∙ length-append x _ ∙ (λ i. length x + length-drop end text i) in
     let long : length (take at text ++ x) ≡ end = rw (length-append, length-take) (omega arith) in
-    ap (take end) (sym whole) ∙ take_at (take at text ++ x) (drop end text) end long
+    ap (take _) (sym whole) ∙ take_at _ _ end long
 
 back-written : (text x : List ℕ) (at end : ℕ) → at ≤ length text → end ≤ length text → drop at text ≡ x ++ drop end text → back_from text end ≡ reverse x ++ back_from text at
 unfolding back_from
@@ -37,17 +34,17 @@ back-written text x at end low high h = rw (take-written text x at end low high 
 
 pub drop-next : (text : List ℕ) (at b : ℕ) → slice_get text at ≡ Some b → drop at text ≡ b ∷ drop (at + 1) text
 drop-next text at b h =
-    let low : at < length text = slice_get_within text at b h in
+    let low = slice_get_within text at b h in
     drop_more text at b low ∙ (λ i. get_or_from_slice_get text at b b h i ∷ drop (at + 1) text)
 
 pub back-next : (text : List ℕ) (at b : ℕ) → slice_get text at ≡ Some b → back_from text (at + 1) ≡ b ∷ back_from text at
 back-next text at b h =
-    let low : at < length text = slice_get_within text at b h in
-    back-written text (b ∷ []) at (at + 1) (omega arith) (omega arith) (drop-next text at b h)
+    let low = slice_get_within text at b h in
+    back-written _ (b ∷ []) at _ (omega arith) (omega arith) (drop-next _ at b h)
 
 pub drop-past : (text : List ℕ) (at : ℕ) → slice_get text at ≡ None → drop at text ≡ []
-drop-past text at h = elim (cases_lt at (length text)) [
-  | inl low ↦ let found : slice_get text at ≡ Some (get_or text at 0) = slice_get-get_or text at 0 low in cc
+drop-past text at h = elim (cases_lt at _) [
+  | inl low ↦ cc (slice_get-get_or text at 0 low)
   | inr past ↦ drop_all at text past
 ]
 
@@ -92,10 +89,10 @@ order_none last first at h = choice_none _ _ _ _ h
 above_last : (last : Option ℕ) (first at : ℕ) → order_fault last first at ≡ None → IsAbove last first
 above_last None first at h = tt
 above_last (Some last) first at h =
-    let tests : (nat_le first last ≡ false) × ((first == last + 1) ≡ false) = order_none last first at h in
-    let up : last < first = leb-false first last tests.0 in
-    elim (cases_order (last + 1) first) [
-      | inl e ↦ absurd (eqb-false first (last + 1) tests.1 (sym e))
+    let tests = order_none _ _ at h in
+    let up = leb-false first last tests.0 in
+    elim (cases_order _ first) [
+      | inl e ↦ absurd (eqb-false first _ tests.1 (sym e))
       | inr (inl lt) ↦ lt
       | inr (inr gt) ↦ absurd (omega arith)
     ]
@@ -106,7 +103,7 @@ order_above None first at h = refl
 order_above (Some last) first at h = rw (lt-leb first last (omega arith), ne_eqb first (last + 1) (λ e. omega arith)) refl
 
 not_start : (back : List ℕ) → 0 < length back → (length back == 0) ≡ false
-not_start back h = ne_eqb (length back) 0 (λ e. omega arith)
+not_start back h = ne_eqb _ 0 (λ e. omega arith)
 
 comma_some : (back : List ℕ) → at_comma back ≡ true → (0 < length back) × (at_dash back ≡ false)
 unfolding at_comma at_dash
@@ -119,7 +116,7 @@ start_ascending ahead = refl
 
 start_is_text : (text : List ℕ) (at : ℕ) → at ≤ length text → back_from text at ≡ [] → drop at text ≡ text
 start_is_text text at low h =
-    let e : at ≡ 0 = sym (length-back text at low) ∙ ap length h in
+    let e = sym (length-back _ at low) ∙ ap length h in
     rw e refl
 
 no_order : (value at : ℕ) (f : LabelFault) → order_fault None value at ≡ Some f → ⊥
@@ -130,7 +127,7 @@ no_order value at f h = cc
 
 pub item_one : (a : ℕ) → item (a, a) ≡ decimal a
 unfolding item
-item_one a = rw (eq-eqb a a refl) refl
+item_one a = rw eq-eqb refl
 
 pub item_more : (a b : ℕ) → a < b → item (a, b) ≡ decimal a ++ dash ∷ decimal b
 unfolding item
@@ -150,7 +147,7 @@ module _ (form : Form) where
 
     pub number_great : is_bad ds ≡ false → greatest form < digits_value 10 ds → (back : List ℕ) → length back ≡ at → number_fault form back (drop at text) ≡ Some (OutOfRange at)
     unfolding number_fault number_ahead
-    number_great sound great back e = rw (← are, sound, lt-ltb (greatest form) (digits_value 10 ds) great, e) refl
+    number_great sound great back e = rw (← are, sound, lt-ltb, e) refl
 
     pub number_at : (value : ℕ) → at ≤ length text → is_bad ds ≡ false → IsValueOf form ds value → IsNumberAt form text at value (at + length ds)
     number_at value low sound h =
@@ -170,14 +167,14 @@ module _ (form : Form) where
 
   module _ (text : List ℕ) (at value end : ℕ) (low : at ≤ length text) (n : IsNumberAt form text at value end) where
     back_end : back_from text end ≡ reverse (decimal value) ++ back_from text at
-    back_end = back-written text (decimal value) at end low n.within n.written
+    back_end = back-written _ _ at _ low n.within n.written
 
     number_ends : is_due (back_from text at) ≡ true → number_back (back_from text end) ≡ value
-    number_ends due = rw back_end (number_back-number form (back_from text at) (decimal value) due (decimal_some value) (decimal-digits value (number_below n)) ∙ decimal-value value (number_below n))
+    number_ends due = rw back_end (number_back-number form _ _ due (decimal_some _) (decimal-digits _ (number_below n)) ∙ decimal-value _ (number_below n))
 
     passes : is_due (back_from text at) ≡ true → number_fault form (back_from text at) (decimal value ++ drop end text) ≡ None → fault_from form text at ≡ fault_from form text end
     unfolding fault_from
-    passes due none = rw (n.written, back_end) (over_number form (back_from text at) (decimal value) (drop end text) due (decimal_some value) (decimal-digits value (number_below n)) none)
+    passes due none = rw (n.written, back_end) (over_number _ _ _ _ due (decimal_some _) (decimal-digits _ (number_below n)) none)
 
     dash_passes : is_due (back_from text at) ≡ true → at_dash (back_from text at) ≡ false → slice_get text end ≡ Some dash → fault_from form text end ≡ fault_from form text (end + 1)
     unfolding fault_from
@@ -185,8 +182,8 @@ module _ (form : Form) where
         (dash_follows form (back_from text at) (decimal value) due (decimal_some value) (decimal-digits value (number_below n)) (drop (end + 1) text) first)
 
     no_dash : (b : ℕ) → slice_get text end ≡ Some b → (slice_get text end ≡ Some dash → at_dash (back_from text at) ≡ true) → (b == dash && not (at_dash (back_from text at))) ≡ false
-    no_dash b next second = elim (cases_Bool (b == dash)) [
-      | inl is ↦ let found : slice_get text end ≡ Some dash = next ∙ ap Some (eqb-true b dash is) in rw (second found) (and-false (b == dash))
+    no_dash b next second = elim (cases_Bool _) [
+      | inl is ↦ let found = next ∙ ap Some (eqb-true b dash is) in rw second (and-false _)
       | inr other ↦ and_left _ _ other
     ]
 
@@ -214,21 +211,21 @@ module _ (form : Form) where
     ]
 
     stops : is_due (back_from text at) ≡ true → (slice_get text end ≡ Some dash → at_dash (back_from text at) ≡ true) → fault_from form text end ≡ fault_after_item form text end (slice_get text end)
-    stops due second = stops_at (slice_get text end) refl due second
+    stops due second = stops_at _ refl due second
 
   -- the fault of a number that is due
   fault_due_from : (text : List ℕ) (at : ℕ) (f : LabelFault) → is_due (back_from text at) ≡ true → number_fault form (back_from text at) (drop at text) ≡ Some f → fault_from form text at ≡ Some f
   unfolding fault_from
-  fault_due_from text at f due h = first_fault-some form _ _ f (fault_due form _ _ due ∙ h)
+  fault_due_from text at f due h = first_fault-some _ _ _ f (fault_due _ _ _ due ∙ h)
 
   -- ---- the first number of an item
 
   module _ (text : List ℕ) (at : ℕ) (last : Option ℕ) (begins : BeginsItem text at last) where
     due : is_due (back_from text at) ≡ true
-    due = after_due _ last begins.after
+    due = after_due _ _ begins.after
 
     pub first_bad : (f : LabelFault) → ((back : List ℕ) → length back ≡ at → number_fault form back (drop at text) ≡ Some f) → fault_from form text at ≡ Some f
-    first_bad f h = fault_due_from text at f due (h (back_from text at) (length-back text at begins.within))
+    first_bad f h = fault_due_from _ at f due (h _ (length-back _ at begins.within))
 
   -- ---- the order of a number after a comma or a dash
 
@@ -270,31 +267,31 @@ module _ (form : Form) where
       → order_fault last value at ≡ o → number_fault form (back_from text at) (decimal value ++ drop end text) ≡ o
   first_order text at value end None None not_all begins n h =
       let whole : is_text (drop at text) (whole_run form) ≡ false = rw (start_is_text text at begins.within begins.after) not_all in
-      rw begins.after (in_order form value (drop end text) n.small n.ended [] (start_ascending _) (start_longest _ (rw n.written at whole)))
-  first_order text at value end None (Some f) not_all begins n h = absurd (no_order value at f h)
+      rw begins.after (in_order _ _ _ n.small n.ended [] (start_ascending _) (start_longest _ (rw n.written at whole)))
+  first_order text at value end None (Some f) not_all begins n h = absurd (no_order _ at f h)
   first_order text at value end (Some last) o not_all begins n h =
-      comma_order value (drop end text) (back_from text at) n.small n.ended at begins.after.0 (length-back text at begins.within) o
+      comma_order _ (drop end text) (back_from text at) n.small n.ended at begins.after.0 (length-back _ at begins.within) o
       (rw begins.after.1 h)
 
   pub first_disordered : (text : List ℕ) (at value end : ℕ) (last : Option ℕ) (f : LabelFault) → is_text text (whole_run form) ≡ false → BeginsItem text at last → IsNumberAt form text at value end
       → order_fault last value at ≡ Some f → fault_from form text at ≡ Some f
   first_disordered text at value end last f not_all begins n h =
-      fault_due_from text at f (due text at last begins) (rw n.written (first_order text at value end last (Some f) not_all begins n h))
+      fault_due_from _ at f (due text at last begins) (rw n.written (first_order _ at _ _ _ _ not_all begins n h))
 
   -- ---- an item
 
   pub item_single : (text : List ℕ) (at value end : ℕ) (last : Option ℕ) → is_text text (whole_run form) ≡ false → BeginsItem text at last → IsNumberAt form text at value end
       → order_fault last value at ≡ None → (slice_get text end ≡ Some dash → ⊥) → IsItemAt form text at last value value end
   item_single text at value end last not_all begins n order no_dash =
-      let begun : is_due (back_from text at) ≡ true = due text at last begins in
+      let begun = due text at last begins in
       record {
         order = omega arith;
         small = n.small;
-        above = above_last last value at order;
+        above = above_last _ _ at order;
         within = n.within;
-        written = rw (item_one value) n.written;
+        written = rw item_one n.written;
         number = number_ends text at value end begins.within n begun;
-        passed = passes text at value end begins.within n begun (first_order text at value end last None not_all begins n order)
+        passed = passes text at value end begins.within n begun (first_order _ at _ _ _ _ not_all begins n order)
             ∙ stops text at value end begins.within n begun (λ is. absurd (no_dash is));
       }
 
@@ -306,18 +303,18 @@ module _ (form : Form) where
     begun = due text at last begins
 
     second_place : back_from text (end + 1) ≡ dash ∷ back_from text end
-    second_place = back-next text end dash next
+    second_place = back-next _ _ _ next
 
     pub second_within : end + 1 ≤ length text
-    second_within = let low : end < length text = slice_get_within text end dash next in omega arith
+    second_within = let low = slice_get_within text end dash next in omega arith
 
     second_due : is_due (back_from text (end + 1)) ≡ true
-    second_due = rw second_place (dash_due (back_from text end))
+    second_due = rw second_place (dash_due _)
 
     to_second : fault_from form text at ≡ fault_from form text (end + 1)
     to_second =
-        passes text at first end begins.within n begun (first_order text at first end last None not_all begins n order)
-        ∙ dash_passes text at first end begins.within n begun (after_first _ last begins.after) next
+        passes text at first end begins.within n begun (first_order _ at _ _ _ _ not_all begins n order)
+        ∙ dash_passes text at first end begins.within n begun (after_first _ _ begins.after) next
 
     -- its own fault is the text's
     pub second_bad : (f : LabelFault) → ((back : List ℕ) → length back ≡ end + 1 → number_fault form back (drop (end + 1) text) ≡ Some f) → fault_from form text at ≡ Some f
@@ -338,18 +335,18 @@ module _ (form : Form) where
 
       second_order : first < second → number_fault form (back_from text (end + 1)) (decimal second ++ drop stop text) ≡ None
       second_order up =
-          let test : is_not_ascending (dash ∷ back_from text end) (decimal second ++ drop stop text) ≡ false = dash_ascending second (drop stop text) (back_from text end) n2.small n2.ended
+          let test = dash_ascending second (drop stop text) (back_from text end) n2.small n2.ended
           ∙ rw second_last (lt-leb second first up) in
-          rw second_place (in_order form second (drop stop text) n2.small n2.ended (dash ∷ back_from text end) test (dash_longest second (drop stop text) (back_from text end) n2.small n2.ended))
+          rw second_place (in_order _ _ _ n2.small n2.ended _ test (dash_longest second (drop stop text) (back_from text end) n2.small n2.ended))
 
       pub item_range : first < second → IsItemAt form text at last first second stop
       item_range up = record {
         order = omega arith;
         small = n2.small;
-        above = above_last last first at order;
+        above = above_last _ _ at order;
         within = n2.within;
-        written = rw (n.written, drop-next text end dash next, n2.written, item_more first second up, append_assoc) refl;
+        written = rw (n.written, drop-next text end dash next, n2.written, item_more, append_assoc) refl;
         number = number_ends text (end + 1) second stop second_within n2 second_due;
         passed = to_second ∙ passes text (end + 1) second stop second_within n2 second_due (second_order up)
-            ∙ stops text (end + 1) second stop second_within n2 second_due (λ _. rw second_place (dash_behind (back_from text end)));
+            ∙ stops text (end + 1) second stop second_within n2 second_due (λ _. rw second_place (dash_behind _));
       }

@@ -1,7 +1,6 @@
 -- The longest runs of a label that gains one run above all that it has.
 use Rattle.std.proofs.Common.{◌≡◌, ℕ, zero, suc, ◌+◌, ◌<◌, ◌≤◌, nat_le, Bool, true, false, not, ◌&&◌, ◌||◌, cond, add-zero, zero-add, add-one, List, [], ◌∷◌}
-use Rattle.std.proofs.Common.{◌++◌, length, refl, ◌∙◌, ap, arith, inl, inr}
-use Rattle.std.specs.List.{range_with_len, zip, filter}
+use Rattle.std.{proofs.Common.{◌++◌, length, refl, ◌∙◌, ap, arith, inl, inr}, specs.List.{range_with_len, zip, filter}}
 use Rattle.std.proofs.{lemmas.Bool.{cases_lt, cases_Bool, false_from_ne_true, le-leb, lt-leb}, Math.Bool.{and-false, or-false}}
 use Rattle.ix_label.specs.{Category.{Categories, has, bottom}, Members.has-bottom, Spelling.{categories, has_before, begins, ends, runs}}
 
@@ -72,7 +71,7 @@ stops s k = rw add-one (ended_or_open _ _)
 
 closed_first : (s : Categories) → count (open_at s 0) ≡ 0
 unfolding count open_at has_before
-closed_first s = rw (and-false (has s 0)) refl
+closed_first s = rw and-false refl
 
 closed_at : (s : Categories) (n : ℕ) → has s n ≡ false → count (open_at s n) ≡ 0
 unfolding count open_at
@@ -101,7 +100,7 @@ unfolding categories
 are_below = refl
 
 pub as_many_begin_as_end : (s : Categories) → has s 512 ≡ false → length (filter (begins s) categories) ≡ length (filter (ends s) categories)
-as_many_begin_as_end s none = balanced_below s 512 categories are_below none
+as_many_begin_as_end s none = balanced_below s _ _ are_below none
 
 -- ---- one run more
 
@@ -114,16 +113,16 @@ pub record AddsRun (s t : Categories) (a b : ℕ) : Type 0 where
 
 module _ {s t : Categories} {a b : ℕ} (h : AddsRun s t a b) where
   absent : (q : ℕ) → a ≤ q + 1 → has s q ≡ false
-  absent q le = false_from_ne_true _ (λ one. let lt : q + 1 < a = h.apart q one in absurd (omega arith))
+  absent q le = false_from_ne_true _ (λ one. let lt = h.apart q one in absurd (omega arith))
 
   as_before : (q : ℕ) → q < a → has t q ≡ has s q
-  as_before q lt = rw (h.members q, lt-leb a q lt) (or-false (has s q))
+  as_before q lt = rw (h.members, lt-leb) (or-false _)
 
   in_run : (q : ℕ) → a ≤ q → q ≤ b → has t q ≡ true
-  in_run q le ge = rw (h.members q, le-leb a q le, le-leb q b ge, absent q (omega arith)) refl
+  in_run q le ge = rw (h.members, le-leb, le-leb q b ge, absent q (omega arith)) refl
 
   past : (q : ℕ) → b < q → has t q ≡ false
-  past q lt = let le : a ≤ b = h.order in rw (h.members q, lt-leb q b lt, absent q (omega arith), and-false (nat_le a q)) refl
+  past q lt = let le = h.order in rw (h.members q, lt-leb q b lt, absent q (omega arith), and-false (nat_le a q)) refl
 
   before_as : (q : ℕ) → q < a → has_before t q ≡ has_before s q
   unfolding has_before
@@ -140,7 +139,7 @@ module _ {s t : Categories} {a b : ℕ} (h : AddsRun s t a b) where
   no_later_begin zero lt = absurd (omega arith)
   no_later_begin (suc q) lt = elim (cases_lt b (suc q)) [
     | inl beyond ↦ rw past refl
-    | inr inside ↦ let before : has t q ≡ true = in_run q (omega arith) (omega arith) in rw before (and-false (has t (suc q)))
+    | inr inside ↦ let before = in_run q (omega arith) (omega arith) in rw before (and-false _)
   ]
 
   same_end : (q : ℕ) → q < b → ends t q ≡ ends s q
@@ -172,7 +171,7 @@ module _ {s t : Categories} {a b : ℕ} (h : AddsRun s t a b) where
   }
 
 filter_categories : (p r : ℕ → Bool) (c : ℕ) → Marks p r c → c < 512 → filter p categories ≡ filter r categories ++ c ∷ []
-filter_categories p r c m low = go 512 categories are_below low
+filter_categories p r c m low = go _ _ are_below low
   where
     go : (n : ℕ) (below : List ℕ) → below ≡ range_with_len 0 n → c < n → filter p below ≡ filter r below ++ c ∷ []
     go n below e low = rw e (filter_marks p r c 0 n m (omega arith) (omega arith))
@@ -188,14 +187,14 @@ runs-AddsRun s t a b h =
     (zip_push _ _ a b (as_many_begin_as_end s none))
 
 filter_none : (p : ℕ → Bool) → ((q : ℕ) → p q ≡ false) → filter p categories ≡ []
-filter_none p h = go 512 categories are_below
+filter_none p h = go 512 _ are_below
   where
     go : (n : ℕ) (below : List ℕ) → below ≡ range_with_len 0 n → filter p below ≡ []
     go n below e = rw e (none_pass p 0 n (λ q le. h q))
 
 no_begin : (q : ℕ) → begins bottom q ≡ false
 unfolding begins
-no_begin q = rw (has-bottom q) refl
+no_begin q = rw has-bottom refl
 
 pub runs-bottom : runs bottom ≡ []
 unfolding runs

@@ -1,17 +1,15 @@
 -- A text is a label's spelling exactly where it has no fault, and then of that label alone.
-use Rattle.std.proofs.Common.{◌≡◌, ℕ, ◌+◌, ◌<◌, ◌≤◌, ◌==◌, true, false, true≢false, ◌&&◌, ◌||◌, List, [], ◌∷◌, length, refl, sym, ◌∙◌, ap, arith, None, Some}
-use Rattle.std.proofs.Common.{Result, Ok, Err, inl, inr, codes, nat_le}
-use Rattle.std.specs.{Bool.Decides, Fmt.{decimal, digits as radix_digits}, Result.{result_err, IfOk}, Cmp.Lexicographic.bytes_decides}
+use Rattle.std.proofs.Common.{◌≡◌, ℕ, ◌<◌, ◌≤◌, ◌==◌, true, false, true≢false, ◌&&◌, ◌||◌, List, [], ◌∷◌, length, refl, sym, ◌∙◌, ap, arith, None, Some}
+use Rattle.std.{proofs.Common.{Result, Ok, Err, inl, inr, codes, nat_le}, specs.{Bool.Decides, Fmt.digits as radix_digits, Result.{result_err, IfOk}, Cmp.Lexicographic.bytes_decides}}
 use Rattle.std.proofs.lemmas.Bool.{cases_Bool, cases_lt, eqb-true, eqb-false, false_from_ne_true, le-leb, lt-leb}
 use Rattle.ix_label.specs.declared.{fault.LabelFault.{LabelFault, TheVariants.{Empty, NotLongest}}, form.Form.{Form, TheVariants.{One, Two}}}
-use Rattle.ix_label.specs.{Category.{Categories, IsLabel, has, bottom, same}, Forms.{greatest, all_of, whole_run, Fits, IsWithin}}
+use Rattle.ix_label.specs.{Category.{Categories, IsLabel, has, bottom, same}, Forms.{greatest, all_of, whole_run, Fits, IsWithin}, Faults.{is_not_longest, at_dash, at_comma, at_digit}}
 use Rattle.ix_label.specs.{Members.{has-bottom, has-all_below, has-all_below_past}, Lattice.{same-decides, IsLabel-bottom}}
 use Rattle.ix_label.specs.{Spelling.{spelling, items, item, runs}, Reading.{back_from, fault_from, ItemsRead, BeginsItem}}
-use Rattle.ix_label.specs.Faults.{is_text, fault_of, first_fault, fault_here, is_due, number_fault, is_bad, number_ahead, number_back, is_not_ascending}
-use Rattle.ix_label.specs.Faults.{is_not_longest, at_dash, at_comma, at_digit, last_number, follower_fault, may_follow}
+use Rattle.ix_label.specs.Faults.{is_text, fault_of, first_fault, fault_here, is_due, number_fault, is_bad, number_ahead, is_not_ascending}
 use Rattle.ix_label.proofs.{Runs.{runs-AddsRun, runs-bottom}, Chains.{Chain, runs-Chain}, Places.begins_with_digit, Numbers.{decimal-digits, greatest-below}}
 use Rattle.ix_label.proofs.{Fitting.{fits-within, within-fits, within-label, within-bottom, within-all_of}, Texts.{items_some, decimal_some}}
-use Rattle.ix_label.proofs.{Unique.{items_injective, runs_injective, items_are, after_item, after_first, item_parts}, Faultless.chain_faultless}
+use Rattle.ix_label.proofs.{Unique.{items_injective, runs_injective, items_are, item_parts}, Faultless.chain_faultless}
 
 -- ---- sets and texts that are compared
 
@@ -22,18 +20,18 @@ differs : (a b : Categories) → same a b ≡ false → a ≡ b → ⊥
 differs a b h e = true≢false (sym ((same-decides a b).1 e) ∙ h)
 
 is_text-decides : (text wanted : List ℕ) → Decides (is_text text wanted) (text ≡ wanted)
-is_text-decides text wanted = bytes_decides text wanted
+is_text-decides text wanted = bytes_decides _ _
 
 begins_text : (text : List ℕ) → BeginsItem text 0 None
 unfolding back_from
 begins_text text = record { within = omega arith; after = refl }
 
 no_runs : (s : Categories) → IsLabel s → runs s ≡ [] → s ≡ bottom
-no_runs s h e = runs_injective s bottom h IsLabel-bottom (e ∙ sym runs-bottom)
+no_runs s h e = runs_injective s _ h IsLabel-bottom (e ∙ sym runs-bottom)
 
 -- each label is within form Two
 within-two : (s : Categories) → IsLabel s → IsWithin Two s
-within-two s h = fits-within Two s h tt
+within-two s h = fits-within _ s h tt
 
 -- the three shapes of a label, of which one is spelled `*`
 data Shape (all s : Categories) : Type 0 where
@@ -42,11 +40,11 @@ data Shape (all s : Categories) : Type 0 where
   is_else : (s ≡ bottom → ⊥) → (s ≡ all → ⊥) → Shape all s
 
 shape_of : (all s : Categories) → Shape all s
-shape_of all s = elim (cases_Bool (same s bottom)) [
-  | inl none ↦ is_bottom ((same-decides s bottom).0 none)
-  | inr some ↦ elim (cases_Bool (same s all)) [
-    | inl is ↦ is_all ((same-decides s all).0 is)
-    | inr lacks ↦ is_else (differs s bottom some) (differs s all lacks)
+shape_of all s = elim (cases_Bool _) [
+  | inl none ↦ is_bottom ((same-decides s _).0 none)
+  | inr some ↦ elim (cases_Bool _) [
+    | inl is ↦ is_all ((same-decides s _).0 is)
+    | inr lacks ↦ is_else (differs s _ some) (differs s _ lacks)
   ]
 ]
 
@@ -67,11 +65,11 @@ pub record Reads (form : Form) (text : List ℕ) (r : Result Categories LabelFau
 module _ (form : Form) where
   has-all : (q : ℕ) → q ≤ greatest form → has (all_of form) q ≡ true
   unfolding all_of
-  has-all q h = has-all_below (greatest form + 1) q (omega arith)
+  has-all q h = has-all_below _ q (omega arith)
 
   has-all_past : (q : ℕ) → greatest form < q → has (all_of form) q ≡ false
   unfolding all_of
-  has-all_past q h = has-all_below_past (greatest form + 1) q (omega arith)
+  has-all_past q h = has-all_below_past _ q (omega arith)
 
   has-all_run : (q : ℕ) → has (all_of form) q ≡ (has bottom q || (nat_le 0 q && nat_le q (greatest form)))
   has-all_run q = elim (cases_lt (greatest form) q) [
@@ -105,16 +103,16 @@ module _ (form : Form) where
 
   pub spelling-items : (s : Categories) → (s ≡ bottom → ⊥) → (s ≡ all_of form → ⊥) → spelling form s ≡ items (runs s)
   unfolding spelling
-  spelling-items s some lacks = rw (not_same s bottom some, not_same s (all_of form) lacks) refl
+  spelling-items s some lacks = rw (not_same, not_same) refl
 
   -- ---- all numbers as one run are no spelling
 
   runs-all : runs (all_of form) ≡ (0, greatest form) ∷ []
-  runs-all = runs-AddsRun bottom (all_of form) 0 (greatest form) (record {
+  runs-all = runs-AddsRun _ _ 0 _ (record {
     order = omega arith;
-    small = greatest-below form;
+    small = greatest-below _;
     apart = λ q one. absurd (true≢false (sym one ∙ has-bottom q));
-    members = has-all_run form;
+    members = has-all_run _;
   }) ∙ rw runs-bottom refl
 
   -- ---- bytes that are no items
@@ -157,7 +155,7 @@ module _ (form : Form) where
   runs_faultless : (rs : List (ℕ × ℕ)) → (rs ≡ [] → ⊥) → Chain form None rs → is_text (items rs) (whole_run form) ≡ false → fault_of form (items rs) ≡ None
   runs_faultless [] some chain not_all = absurd (some refl)
   runs_faultless ((a, b) ∷ rs) some chain not_all =
-      fault_of-clean _ (items_some (a, b) rs) (chain_faultless form rs a b _ 0 None not_all (begins_text _) chain (items_are (a, b) rs))
+      fault_of-clean _ (items_some _ rs) (chain_faultless _ rs a b _ 0 _ not_all (begins_text _) chain (items_are _ rs))
 
   pub spelling_faultless : (s : Categories) → IsWithin form s → fault_of form (spelling form s) ≡ None
   spelling_faultless s h = elim (cases_Bool (same s bottom)) [
@@ -175,9 +173,9 @@ module _ (form : Form) where
   items_at_digit : (rs : List (ℕ × ℕ)) → (rs ≡ [] → ⊥) → Chain Two None rs → at_digit (items rs) ≡ true
   items_at_digit [] some chain = absurd (some refl)
   items_at_digit ((a, b) ∷ rs) some chain =
-      let order : a ≤ b = chain.0.order in
-      let small : b ≤ greatest Two = chain.0.small in
-      rw (items_are (a, b) rs, item_parts a b (after_item rs)) (begins_with_digit (decimal a) (after_first a b (after_item rs)) (decimal_some a)
+      let order = chain.0.order in
+      let small = chain.0.small in
+      rw (items_are, item_parts) (begins_with_digit _ _ (decimal_some a)
       (decimal-digits a (omega (arith, greatest-below Two)))).0
 
   -- each shape has a first byte of its own
@@ -190,10 +188,10 @@ module _ (form : Form) where
   no_digit_all = rw spelling-all refl
 
   digit_items : (s : Categories) → IsLabel s → (s ≡ bottom → ⊥) → (s ≡ all_of form → ⊥) → at_digit (spelling form s) ≡ true
-  digit_items s h some lacks = rw (spelling-items s some lacks) (items_at_digit (runs s) (λ e. some (no_runs s h e)) (runs-Chain Two s (within-two s h)))
+  digit_items s h some lacks = rw spelling-items (items_at_digit _ (λ e. some (no_runs s h e)) (runs-Chain _ s (within-two s h)))
 
   bottom_not_all : spelling form bottom ≡ spelling form (all_of form) → ⊥
-  bottom_not_all e = let bytes : codes "-" ≡ codes "*" = sym spelling-bottom ∙ e ∙ spelling-all in cc
+  bottom_not_all e = cc (sym spelling-bottom ∙ e ∙ spelling-all)
 
   same_shape : (s t : Categories) → Shape (all_of form) s → Shape (all_of form) t → IsLabel s → IsLabel t → spelling form s ≡ spelling form t → s ≡ t
   same_shape s t (is_bottom e) (is_bottom f) h k same = e ∙ sym f
@@ -205,11 +203,11 @@ module _ (form : Form) where
   same_shape s t (is_else some lacks) (is_bottom f) h k same = absurd (true≢false (sym (digit_items s h some lacks) ∙ ap at_digit (same ∙ ap (spelling form) f) ∙ no_digit_bottom))
   same_shape s t (is_else some lacks) (is_all f) h k same = absurd (true≢false (sym (digit_items s h some lacks) ∙ ap at_digit (same ∙ ap (spelling form) f) ∙ no_digit_all))
   same_shape s t (is_else some lacks) (is_else some2 lacks2) h k same =
-      let texts : items (runs s) ≡ items (runs t) = sym (spelling-items s some lacks) ∙ same ∙ spelling-items t some2 lacks2 in
-      runs_injective s t h k (items_injective Two None None _ _ (runs-Chain Two s (within-two s h)) (runs-Chain Two t (within-two t k)) texts)
+      let texts = sym (spelling-items s some lacks) ∙ same ∙ spelling-items t some2 lacks2 in
+      runs_injective s t h k (items_injective _ _ _ _ _ (runs-Chain _ s (within-two s h)) (runs-Chain _ t (within-two t k)) texts)
 
   pub spelling_injective : (s t : Categories) → IsLabel s → IsLabel t → spelling form s ≡ spelling form t → s ≡ t
-  spelling_injective s t h k same = same_shape s t (shape_of (all_of form) s) (shape_of (all_of form) t) h k same
+  spelling_injective s t h k same = same_shape s t (shape_of _ s) (shape_of _ t) h k same
 
   -- ---- what the reading of a text gives
 
@@ -228,28 +226,28 @@ module _ (form : Form) where
   }
 
   pub Reads-none : (text : List ℕ) → (length text == 0) ≡ true → Reads form text (Err Empty)
-  Reads-none [] is = reads [] (Err Empty) fault_of-none
-  Reads-none (b ∷ text) is = let none : length (b ∷ text) ≡ 0 = eqb-true _ _ is in absurd (omega arith)
+  Reads-none [] is = reads [] _ fault_of-none
+  Reads-none (b ∷ text) is = let none = eqb-true _ _ is in absurd (omega arith)
 
   pub Reads-bottom : (text : List ℕ) → is_text text (codes "-") ≡ true → Reads form text (Ok bottom)
-  Reads-bottom text is = reads text (Ok bottom) (within-bottom form, (is_text-decides text _).0 is ∙ sym spelling-bottom)
+  Reads-bottom text is = reads _ _ (within-bottom _, (is_text-decides _ _).0 is ∙ sym spelling-bottom)
 
   pub Reads-star : (text : List ℕ) → is_text text (codes "*") ≡ true → Reads form text (Ok (all_of form))
-  Reads-star text is = reads text (Ok (all_of form)) (within-all_of form, (is_text-decides text _).0 is ∙ sym spelling-all)
+  Reads-star text is = reads _ _ (within-all_of _, (is_text-decides _ _).0 is ∙ sym spelling-all)
 
   pub Reads-all : (text : List ℕ) → is_text text (whole_run form) ≡ true → Reads form text (Err (NotLongest 0))
-  Reads-all text is = reads text (Err (NotLongest 0)) (rw ((is_text-decides text _).0 is) (fault_of-all form))
+  Reads-all text is = reads _ _ (rw ((is_text-decides text _).0 is) (fault_of-all _))
 
   not_all_of : (text : List ℕ) (s : Categories) → is_text text (whole_run form) ≡ false → text ≡ items (runs s) → s ≡ all_of form → ⊥
-  not_all_of text s not_all written e = true≢false (sym ((is_text-decides text _).1 (written ∙ ap (λ l. items (runs l)) e ∙ ap items runs-all ∙ items_of_all form)) ∙ not_all)
+  not_all_of text s not_all written e = true≢false (sym ((is_text-decides _ _).1 (written ∙ ap (λ l. items (runs l)) e ∙ ap items runs-all ∙ items_of_all _)) ∙ not_all)
 
   pub Reads-items : (text : List ℕ) (r : Result Categories LabelFault) → (length text == 0) ≡ false → is_text text (codes "-") ≡ false → is_text text (codes "*") ≡ false
       → is_text text (whole_run form) ≡ false → ItemsRead form text r → Reads form text r
   Reads-items text (Ok s) some no_dash no_star not_all h =
-      reads text (Ok s) (h.within, h.written ∙ sym (spelling-items s h.some (not_all_of text s not_all h.written)))
+      reads _ _ (h.within, h.written ∙ sym (spelling-items s h.some (not_all_of _ s not_all h.written)))
   Reads-items text (Err f) some no_dash no_star not_all h =
-      let bytes : 0 < length text = elim (cases_lt 0 (length text)) [
+      let bytes : 0 < length text = elim (cases_lt 0 _) [
         | inl low ↦ low
         | inr none ↦ absurd (eqb-false _ _ some (omega arith))
       ] in
-      reads text (Err f) (fault_of-items text bytes no_dash no_star ∙ h)
+      reads _ _ (fault_of-items _ bytes no_dash no_star ∙ h)

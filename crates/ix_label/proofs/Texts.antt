@@ -1,8 +1,6 @@
 -- The items of runs, as they are written one after another.
-use Rattle.std.proofs.Common.{◌≡◌, ℕ, zero, suc, ◌+◌, ◌*◌, ◌/◌, ◌%◌, ◌<◌, ◌≤◌, ◌==◌, nat_eq, Bool, true, false, cond, List, [], ◌∷◌, ◌++◌, length, map, refl}
-use Rattle.std.proofs.Common.{sym, ◌∙◌, ap, arith, append_assoc, length-append, ◌-◌, inl, inr}
-use Rattle.std.specs.{List.join_with_byte, Fmt.{decimal, digits, digits_onto, digit_glyph}}
-use Rattle.std.proofs.lemmas.{Fmt.{length-decimal-le, decimal_digit, decimal_step}, Bool.Decides.eqb_tells}
+use Rattle.std.proofs.Common.{◌≡◌, ℕ, zero, suc, ◌+◌, ◌*◌, ◌/◌, ◌<◌, ◌≤◌, ◌==◌, Bool, true, false, cond, List, [], ◌∷◌, ◌++◌, length, refl, arith, append_assoc, length-append, ◌-◌, inl, inr}
+use Rattle.std.{specs.{List.join_with_byte, Fmt.{decimal, digits, digits_onto, digit_glyph}}, proofs.lemmas.{Fmt.{length-decimal-le, decimal_digit, decimal_step}, Bool.Decides.eqb_tells}}
 use Rattle.ix_label.specs.{Spelling.{item, items, comma, dash}, Scanning.comma_after}
 
 either_some : (b : Bool) (xs ys : List ℕ) → 0 < length xs → 0 < length ys → 0 < length (cond b xs ys)
@@ -12,8 +10,8 @@ either_some false xs ys h k = k
 onto_some : (k n : ℕ) (acc : List ℕ) → 0 < k + length acc → 0 < length (digits_onto k 10 false n acc)
 onto_some zero n acc h = omega arith
 onto_some (suc k) n acc h =
-    let more : List ℕ = digit_glyph false (n % 10) ∷ acc in
-    either_some (n / 10 == 0) more (digits_onto k 10 false (n / 10) more) (omega arith) (onto_some k (n / 10) more (omega arith))
+    let more = digit_glyph false _ ∷ acc in
+    either_some (n / 10 == 0) more (digits_onto k 10 false (n / 10) more) (omega arith) (onto_some k _ _ (omega arith))
 
 -- each number has a digit
 pub decimal_some : (n : ℕ) → 0 < length (decimal n)
@@ -22,7 +20,7 @@ decimal_some n = onto_some 64 n [] (omega arith)
 
 pub item_some : (r : ℕ × ℕ) → 0 < length (item r)
 unfolding item
-item_some (a, b) = either_some (a == b) (decimal a) (decimal a ++ dash ∷ decimal b) (decimal_some a) (omega (arith, length-append (decimal a) (dash ∷ decimal b), decimal_some a))
+item_some (a, b) = either_some (a == b) (decimal a) _ (decimal_some a) (omega (arith, length-append (decimal a) (dash ∷ decimal b), decimal_some a))
 
 pub comma_after_none : comma_after [] ≡ []
 unfolding comma_after
@@ -51,12 +49,12 @@ items_one r = refl
 
 pub items_some : (r : ℕ × ℕ) (rs : List (ℕ × ℕ)) → 0 < length (items (r ∷ rs))
 unfolding items
-items_some r rs = joined_some (item r) (map item rs) (item_some r)
+items_some r rs = joined_some _ _ (item_some r)
 
 after_comma : (x y z : List ℕ) → 0 < length y → x ++ comma ∷ (comma_after y ++ z) ≡ comma_after (x ++ comma ∷ y) ++ z
 after_comma x y z h =
     let some : 0 < length (x ++ comma ∷ y) = omega (arith, length-append x (comma ∷ y)) in
-    rw (comma_after_some y h, comma_after_some (x ++ comma ∷ y) some) (simp append_assoc)
+    rw (comma_after_some, comma_after_some) (simp append_assoc)
 
 -- one item more
 pub items-push : (rs : List (ℕ × ℕ)) (r : ℕ × ℕ) → items (rs ++ r ∷ []) ≡ comma_after (items rs) ++ item r

@@ -1,10 +1,9 @@
 -- No two labels have one spelling.
 use Rattle.std.proofs.Common.{◌≡◌, ℕ, zero, suc, ◌+◌, ◌<◌, ◌≤◌, ◌==◌, nat_eq, Bool, true, false, true≢false, not, ◌&&◌, ◌||◌, List, [], ◌∷◌, ◌++◌, length, refl}
-use Rattle.std.proofs.Common.{sym, ◌∙◌, ap, arith, add-one, append_assoc, append-nil, cond, Option, Some, inl, inr}
-use Rattle.std.specs.{List.{range_with_len, zip, filter, list_any}, Fmt.decimal}
+use Rattle.std.{proofs.Common.{sym, ◌∙◌, ap, arith, add-one, append_assoc, append-nil, cond, Option, inl, inr}, specs.{List.{range_with_len, zip, filter, list_any}, Fmt.decimal}}
 use Rattle.std.proofs.{lemmas.{Fmt.decimal_injective, Bool.{cases_Bool, cases_lt, eqb-true, eq-eqb, ne_eqb, false_from_ne_true}}, Math.Bool.and-true}
 use Rattle.ix_label.specs.{declared.form.Form.Form, Forms.greatest, Category.{Categories, IsLabel, has}, Members.same_members}
-use Rattle.ix_label.specs.{Spelling.{categories, has_before, begins, ends, runs, item, items, comma, dash}, Faults.{digits, after_digits, at_digit, at_dash}}
+use Rattle.ix_label.specs.{Spelling.{has_before, begins, ends, runs, item, items, comma, dash}, Faults.{digits, after_digits, at_digit, at_dash}}
 use Rattle.ix_label.proofs.{Runs.{are_below, as_many_begin_as_end}, Chains.Chain, Numbers.{decimal-digits, greatest-below}}
 use Rattle.ix_label.proofs.{Places.{digits-append, after_digits-append}, Texts.{items_none, items_one, items_more, items_some}}
 
@@ -17,14 +16,14 @@ after_item (r ∷ rs) = comma ∷ items (r ∷ rs)
 
 pub items_are : (r : ℕ × ℕ) (rs : List (ℕ × ℕ)) → items (r ∷ rs) ≡ item r ++ after_item rs
 unfolding after_item
-items_are r [] = items_one r ∙ sym (append-nil (item r))
+items_are r [] = items_one r ∙ sym (append-nil _)
 items_are r (t ∷ rs) = items_more r t rs
 
 -- numbers are read back
 same_number : (a c : ℕ) (q u : List ℕ) → a < 512 → c < 512 → at_digit q ≡ false → at_digit u ≡ false → decimal a ++ q ≡ decimal c ++ u → (a ≡ c) × (q ≡ u)
 same_number a c q u small small2 ended ended2 e = (
-  decimal_injective a c (omega arith) (omega arith) (sym (digits-append (decimal a) q (decimal-digits a small) ended) ∙ ap (λ x. digits x) e
-      ∙ digits-append (decimal c) u (decimal-digits c small2) ended2),
+  decimal_injective a c (omega arith) (omega arith) (sym (digits-append _ q (decimal-digits a small) ended) ∙ ap (λ x. digits x) e
+      ∙ digits-append _ u (decimal-digits c small2) ended2),
   sym (after_digits-append (decimal a) q (decimal-digits a small) ended) ∙ ap (λ x. after_digits x) e ∙ after_digits-append (decimal c) u (decimal-digits c small2) ended2,
 )
 
@@ -57,8 +56,8 @@ pub record Stops (q : List ℕ) : Type 0 where
 
 pub after_item_Stops : (rs : List (ℕ × ℕ)) → Stops (after_item rs)
 unfolding after_item at_digit at_dash
-after_item_Stops [] = record { digit = refl; dash = refl }
-after_item_Stops (r ∷ rs) = record { digit = refl; dash = refl }
+after_item_Stops [] = search
+after_item_Stops (r ∷ rs) = search
 
 same_last : (a b d : ℕ) (q u : List ℕ) → b < 512 → d < 512 → Stops q → Stops u → after_first a b q ≡ after_first a d u → (b ≡ d) × (q ≡ u)
 unfolding after_first
@@ -77,10 +76,10 @@ same_last a b d q u small small2 stops stops2 e = elim (cases_Bool (a == b)) [
 
 same_item : (a b c d : ℕ) (q u : List ℕ) → a ≤ b → b < 512 → c ≤ d → d < 512 → Stops q → Stops u → item (a, b) ++ q ≡ item (c, d) ++ u → (a ≡ c) × (b ≡ d) × (q ≡ u)
 same_item a b c d q u order small order2 small2 stops stops2 e =
-    let both : (a ≡ c) × (after_first a b q ≡ after_first c d u) = same_number a c _ _ (omega arith) (omega arith) (after_first_ends a b q stops.digit) (after_first_ends c d u stops2.digit)
+    let both = same_number a c _ _ (omega arith) (omega arith) (after_first_ends a b q stops.digit) (after_first_ends c d u stops2.digit)
     (sym (item_parts a b q) ∙ e ∙ item_parts c d u) in
-    let rest : after_first a b q ≡ after_first a d u = both.1 ∙ (λ i. after_first (sym both.0 i) d u) in
-    let last : (b ≡ d) × (q ≡ u) = same_last a b d q u small small2 stops stops2 rest in
+    let rest = both.1 ∙ (λ i. after_first (sym both.0 i) d u) in
+    let last = same_last a b d q u small small2 stops stops2 rest in
     (both.0, last.0, last.1)
 
 after_item_items : (rs ts : List (ℕ × ℕ)) → after_item rs ≡ after_item ts → items rs ≡ items ts
@@ -91,7 +90,7 @@ after_item_items (r ∷ rs) [] e = cc
 after_item_items (r ∷ rs) (t ∷ ts) e = cc
 
 nothing_is_some : (r : ℕ × ℕ) (rs : List (ℕ × ℕ)) → items (r ∷ rs) ≡ items [] → ⊥
-nothing_is_some r rs e = let none : length (items (r ∷ rs)) ≡ 0 = ap length (e ∙ items_none) in omega (arith, items_some r rs)
+nothing_is_some r rs e = let none = ap length (e ∙ items_none) in omega (arith, items_some r rs)
 
 number_of : (form : Form) (b : ℕ) → b ≤ greatest form → b < 512
 number_of form b h = omega (arith, greatest-below form)
@@ -102,9 +101,9 @@ items_injective form last last2 [] [] h k e = refl
 items_injective form last last2 [] (t ∷ ts) h k e = absurd (nothing_is_some t ts (sym e))
 items_injective form last last2 (r ∷ rs) [] h k e = absurd (nothing_is_some r rs e)
 items_injective form last last2 ((a, b) ∷ rs) ((c, d) ∷ ts) h k e =
-    let parts : (a ≡ c) × (b ≡ d) × (after_item rs ≡ after_item ts) = same_item a b c d _ _ h.0.order (number_of form b h.0.small) k.0.order (number_of form d k.0.small) (after_item_Stops rs)
-    (after_item_Stops ts) (sym (items_are (a, b) rs) ∙ e ∙ items_are (c, d) ts) in
-    let rest : rs ≡ ts = items_injective form (Some b) (Some d) rs ts h.1 k.1 (after_item_items rs ts parts.2) in
+    let parts = same_item a b c d _ _ h.0.order (number_of _ b h.0.small) k.0.order (number_of _ d k.0.small) (after_item_Stops rs)
+    (after_item_Stops ts) (sym (items_are _ rs) ∙ e ∙ items_are _ ts) in
+    let rest = items_injective _ _ _ rs ts h.1 k.1 (after_item_items rs ts parts.2) in
     λ i. (parts.0 i, parts.1 i) ∷ rest i
 
 -- ---- runs
@@ -120,7 +119,7 @@ zip_same (x ∷ xs) (y ∷ ys) [] [] h k e = cc
 zip_same (x ∷ xs) (y ∷ ys) (u ∷ us) (v ∷ vs) h k e =
     let head : ◌≡◌ {A = ℕ × ℕ} (x, y) (u, v) = cc in
     let rest : zip xs ys ≡ zip us vs = cc in
-    let tails : (xs ≡ us) × (ys ≡ vs) = zip_same xs ys us vs (omega arith) (omega arith) rest in
+    let tails = zip_same xs ys us vs (omega arith) (omega arith) rest in
     (λ i. (head i).0 ∷ tails.0 i, λ i. (head i).1 ∷ tails.1 i)
 
 -- a filtered range has the numbers that pass
@@ -165,7 +164,7 @@ goes_on false false = refl
 
 has-first : (s : Categories) → has s 0 ≡ begins s 0
 unfolding begins has_before
-has-first s = sym (and-true (has s 0))
+has-first s = sym (and-true _)
 
 has-next : (s : Categories) (q : ℕ) → has s (q + 1) ≡ (begins s (q + 1) || (has s q && not (ends s q)))
 unfolding begins ends has_before
@@ -181,14 +180,14 @@ module _ (s t : Categories) (same_begins : (q : ℕ) → q < 512 → begins s q 
       rw add-one at next
 
 none_past : (s : Categories) → IsLabel s → (q : ℕ) → 512 ≤ q → has s q ≡ false
-none_past s h q past = false_from_ne_true _ (λ one. let low : q < 512 = h.below q one in absurd (omega arith))
+none_past s h q past = false_from_ne_true _ (λ one. let low = h.below q one in absurd (omega arith))
 
 pub runs_injective : (s t : Categories) → IsLabel s → IsLabel t → runs s ≡ runs t → s ≡ t
 unfolding runs
 runs_injective s t h k e =
-    let both : (filter (begins s) categories ≡ filter (begins t) categories) × (filter (ends s) categories ≡ filter (ends t) categories) =
-    zip_same _ _ _ _ (as_many_begin_as_end s (none_past s h 512 (omega arith))) (as_many_begin_as_end t (none_past t k 512 (omega arith))) e in
+    let both =
+    zip_same _ _ _ _ (as_many_begin_as_end s (none_past s h _ (omega arith))) (as_many_begin_as_end t (none_past t k _ (omega arith))) e in
     same_members s t (λ q. elim (cases_lt q 512) [
-      | inl low ↦ same_has s t (filter_same _ _ 512 categories are_below both.0) (filter_same _ _ 512 categories are_below both.1) q low
+      | inl low ↦ same_has s t (filter_same _ _ _ _ are_below both.0) (filter_same _ _ _ _ are_below both.1) q low
       | inr past ↦ none_past s h q past ∙ sym (none_past t k q past)
     ])

@@ -1,5 +1,5 @@
 use Rattle.std.proofs.Common.{sym, ◌∙◌, ap}
-use Rattle.ix_label.{specs.{declared.form.Form.TheVariants.{One, Two}, Forms.all_of}, proofs.Bits.{members-all_of_one, top-all_of}}
+use Rattle.ix_label.{specs.Forms.all_of, proofs.Bits.{members-all_of_one, top-all_of}}
 use Rattle.ix_label.proofs.label.Label.all_of.Goals as goal
 
 pub returns-in-One : goal.returns-in-One

@@ -1,4 +1,4 @@
-use Rattle.std.proofs.{Common.{◌≡◌, ◌<◌, true, false, sym, arith}, lemmas.Bool.le-ltb}
+use Rattle.std.proofs.{Common.{◌≡◌, false, sym, arith}, lemmas.Bool.le-ltb}
 use Rattle.ix_label.{specs.{Category.has, Words.members}, proofs.Bits.{tested, none_past}}
 use Rattle.ix_label.proofs.label.Label.contains.Goals as goal
 
