@@ -41,6 +41,6 @@ unfolding text_for
 returns-in-Save-clause-leads g c =
     λ history. ends_as (outcome_alone command.Save c.args.script c.args.beside.now history c.requires.accepted tt c.in-Save.is) c.save.ensures
 
-pub returns-in-Twin-clause-leads : goal.returns-in-Twin-clause-leads
-returns-in-Twin-clause-leads g c = λ history. ends_as (outcome_twin c.in-Twin.at c.args.script c.args.beside.now history c.requires.accepted
+pub returns-clause-leads : goal.returns-clause-leads
+returns-clause-leads g c = λ history. ends_as (outcome_twin c.in-Twin.at c.args.script c.args.beside.now history c.requires.accepted
     ∙ ap (λ k. outcome_for k c.args.script c.args.beside.now history) (sym c.in-Twin.is)) c.twin.ensures

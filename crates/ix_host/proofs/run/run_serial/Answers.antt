@@ -57,8 +57,8 @@ returns-in-Ended g c =
       complete = λ read wrote. v.complete (λ is. read (e.fault (ap task.Ended is)).0) wrote;
     }
 
-pub returns-in-Run : goal.returns-in-Run
-returns-in-Run g c =
+pub returns : goal.returns
+returns g c =
     let p = c.in-Run.ensures in
     let left = g.S.Source.left c.args.source.now in
     let taken = g.K.Sink.taken c.args.sink.now in
