@@ -357,6 +357,21 @@ pub found_ahead : (words : List ℕ) (from at : ℕ) → AreWords words → from
 found_ahead words from at wa le so_far some =
     found _ _ at _ (wa.fit _) le so_far some (λ i low. bit_ahead _ at i low)
 
+-- a whole word has none, and the lowest of one that has some
+pub none_in : (words : List ℕ) (from k : ℕ) → NoBits words from (k * 64) → get_or words k 0 ≡ 0 → NoBits words from ((k + 1) * 64)
+none_in words from k so_far none =
+    let place : k * 64 / 64 ≡ k = omega arith in
+    let bit : k * 64 % 64 ≡ 0 = omega arith in
+    rw place at (none_ahead words from (k * 64) so_far (rw (place, bit, none) refl))
+
+pub found_in : (words : List ℕ) (from k : ℕ) → AreWords words → from ≤ k * 64 → NoBits words from (k * 64) → 0 < get_or words k 0
+    → IsFirstBit words from (k * 64 + trailing_zeros w64 (get_or words k 0))
+found_in words from k wa le so_far some =
+    let place : k * 64 / 64 ≡ k = omega arith in
+    let bit : k * 64 % 64 ≡ 0 = omega arith in
+    let all : get_or words k 0 / 1 ≡ get_or words k 0 = omega arith in
+    rw (place, bit, all) at (found_ahead words from (k * 64) wa le so_far (rw (place, bit, all) some))
+
 -- past the last word there is none
 pub none_left : (words : List ℕ) (from at : ℕ) → AreWords words → 512 ≤ at → NoBits words from at → (q : ℕ) → from ≤ q → has_bit words q ≡ false
 none_left words from at wa high so_far q low = elim (cases_lt q at) [

@@ -32,13 +32,17 @@ pub(crate) fn first_bit(words: &[u64; 8], from: u16) -> Option<u16>
     requires { AreWords words.now }
     ensures { FirstBit words.now from result }
 {
-    let mut at = from;
-    while at < 512 {
-        let ahead = words[at as usize / 64] >> (at % 64);
-        if ahead != 0 {
-            return Some(at + ahead.trailing_zeros() as u16);
+    if from >= 512 {
+        return None;
+    }
+    let ahead = words[from as usize / 64] >> (from % 64);
+    if ahead != 0 {
+        return Some(from + ahead.trailing_zeros() as u16);
+    }
+    'words: for k in from as usize / 64 + 1..8 {
+        if words[k] != 0 {
+            return Some(k as u16 * 64 + words[k].trailing_zeros() as u16);
         }
-        at = (at / 64 + 1) * 64;
     }
     None
 }
