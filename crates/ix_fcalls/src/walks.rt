@@ -50,13 +50,13 @@ impl Files {
         let mut seen = Label::bottom();
         let mut left = path.names();
         'names: while let Some(name) = left.next() {
-            if !self.tables.is_dir(at) {
+            let Some(label) = self.tables.directory(at) else {
                 return Walked {
                     outcome: Outcome::NotDir,
                     seen,
                 };
-            }
-            seen = seen.join(&self.tables.label_of(at), steps);
+            };
+            seen = seen.join(label, steps);
             let Some(next) = self.tables.child(at, &name) else {
                 return Walked {
                     outcome: lacking(&left, at),

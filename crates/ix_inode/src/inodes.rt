@@ -1,5 +1,6 @@
 ghost use Rattle.std.specs.Prelude.{◌≡◌, ◌+◌, ◌<◌, ◌≤◌, ◌++◌, min, take, drop, IsTrue, IfOk, is_some, IfSome, Some, length, if◌then◌else◌};
 ghost use Rattle.std.proofs.Common.{option_map};
+ghost use Rattle.std.specs.Option.{option_copied};
 ghost use Rattle.ix_label.specs.Category.{leq};
 ghost use Rattle.ix_model.specs.world.{World.{at, fs_at}, Numbers.{first_inode}, Contents.{spliced, cut_to}};
 ghost use Rattle.ix_blocks.specs.Files.{most};
@@ -23,8 +24,8 @@ use std::marker::Model;
 /// memory is taken by [`new`](Inodes::new). A call that names an inode looks for its file system first, at most 16
 /// steps.
 ///
-/// Each call but [`get`](Inodes::get) that names an inode asks that it is there, and a file where the call is on bytes. File
-/// systems are numbered from 0, and a call asks that one is below their number. Sizes and offsets are in bytes.
+/// Each call but [`get`](Inodes::get) and [`kept`](Inodes::kept) that names an inode asks that it is there, and a file where
+/// the call is on bytes. File systems are numbered from 0, and a call asks that one is below their number. Sizes and offsets are in bytes.
 #[derive(Drop)]
 pub struct Inodes {
     volumes: Vec<Volume>,
@@ -116,6 +117,14 @@ impl Inodes {
         let volume = &self.volumes[spot.volume];
         let node = volume.nodes.get(spot.inode)?;
         Some(node.told(volume.spec.ceiling, volume.blocks.len(spot.inode)))
+    }
+
+    /// What is kept of a file or a directory; None exactly where none stands at the number.
+    pub fn kept(&self, obj: Obj) -> Option<&Node>
+        ensures { option_copied result ≡ at self.now.nodes obj.0 }
+    {
+        let spot = spot_of(self.volumes.as_slice(), obj.0)?;
+        self.volumes[spot.volume].nodes.get(spot.inode)
     }
 
     /// Sets the label, to one at or below the ceiling of the file system. All else stays.

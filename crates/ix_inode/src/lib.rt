@@ -9,4 +9,4 @@ mod volume;
 
 pub use inodes::Inodes;
 pub use ix_blocks::NoSpace;
-pub use node::Inode;
+pub use node::{Inode, Node};

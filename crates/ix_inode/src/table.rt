@@ -1,4 +1,5 @@
 ghost use Rattle.std.specs.Prelude.{◌≡◌, IsTrue, IfOk, is_some, Some, None, replicate};
+ghost use Rattle.std.specs.Option.{option_copied};
 ghost use Rattle.ix_model.specs.world.World.{at, put, lowest_free};
 ghost use Rattle.ix_inode.specs.Shown.{taken};
 
@@ -61,11 +62,11 @@ impl Table {
     }
 
     /// The inode of a number, if one stands there.
-    pub(crate) fn get(&self, n: u32) -> Option<Node>
-        ensures { result ≡ at self.now n }
+    pub(crate) fn get(&self, n: u32) -> Option<&Node>
+        ensures { option_copied result ≡ at self.now n }
     {
         match self.nodes.get(n as usize) {
-            Some(Some(node)) => Some(*node),
+            Some(Some(node)) => Some(node),
             _ => None,
         }
     }
@@ -76,7 +77,7 @@ impl Table {
         ensures { at self.now n ≡ Some result }
     {
         match self.get(n) {
-            Some(node) => node,
+            Some(node) => *node,
             None => unreachable!(),
         }
     }

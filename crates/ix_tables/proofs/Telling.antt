@@ -1,9 +1,9 @@
 -- What is told of the objects that inodes and pipes make.
 use Rattle.std.proofs.Common.{◌≡◌, ◌+◌, ◌-◌, ◌<◌, true, false, Bool, IfSome, ℕ, List, length, Option, Some, None, is_some, option_map, unwrap_or, refl, sym, ap}
-use Rattle.std.proofs.Common.{subst, ◌∙◌, arith}
+use Rattle.std.proofs.{Common.{subst, ◌∙◌, arith, inl, inr}, lemmas.Bool.cases_lt}
 use Rattle.std.specs.Option.{option_map_or}
-use Rattle.ix_label.specs.Category.{Categories, top}
-use Rattle.ix_model.{proofs.tables.Finds.in_table, specs.{world.World.{Object, at, is_pipe}, rows.Walks.{node, nothing}, declared.privs.PrivSet.PrivSet}}
+use Rattle.ix_label.specs.Category.{Categories, bottom, top}
+use Rattle.ix_model.{proofs.tables.Finds.in_table, specs.{world.World.{Object, at, is_dir, is_pipe}, rows.Walks.{node, nothing}, declared.privs.PrivSet.PrivSet}}
 use Rattle.ix_model.specs.declared.reply.Kind.TheVariants as kind
 use Rattle.ix_inode.specs.{Nodes.{Nodes, told_at}, Shown.kind_of, declared.node.{Inode.Inode, Node.Node}}
 use Rattle.ix_name.specs.Directories.{Directories, names_of}
@@ -32,15 +32,33 @@ abbrev row_of_pipe : Categories → PrivSet → PrivSet → ObjectRow
 row_of_pipe label cap lic = record { kind = kind.Pipe; fs = None; float = record { label = label; ceiling = top; frozen = false }; cap = cap; lic = lic; links = 0; size = 0 }
 
 module _ (nodes : Nodes) (names : Directories) (pipes : List (Option Pipe)) (objects : List (Option Object)) (view : all_objects nodes names pipes ≡ objects) where
+  inode_at : (n : ℕ) (x : Option Node) → n < length nodes.nodes → at nodes.nodes n ≡ x → at objects n ≡ option_map (object_of (names_of names n)) x
+  inode_at n x low e = ap (λ t. at t n) (sym view) ∙ at_inode nodes names pipes n low ∙ ap (option_map (object_of (names_of names n))) e
+
   pub inode_shows : (n : ℕ) (r : Option Inode) → n < length nodes.nodes → r ≡ option_map (told_at n nodes) (at nodes.nodes n) → Shows objects n (option_map row_of r)
   inode_shows n r low is = subst (λ (s : Option Inode). Shows objects n (option_map row_of s)) (sym is) (go (at nodes.nodes n) refl)
     where
-      here : (x : Option Node) → at nodes.nodes n ≡ x → at objects n ≡ option_map (object_of (names_of names n)) x
-      here x e = ap (λ t. at t n) (sym view) ∙ at_inode nodes names pipes n low ∙ ap (option_map (object_of (names_of names n))) e
-
       go : (x : Option Node) → at nodes.nodes n ≡ x → Shows objects n (option_map row_of (option_map (told_at n nodes) x))
-      go None e = here None e
-      go (Some x) e = told objects n (object_of (names_of names n) x) (row_of (told_at n nodes x)) (here (Some x) e) refl
+      go None e = inode_at n None low e
+      go (Some x) e = told objects n (object_of (names_of names n) x) (row_of (told_at n nodes x)) (inode_at n (Some x) low e) refl
+
+  -- the object that an inode is
+  module _ (n : ℕ) (x : Node) (here : Some x ≡ at nodes.nodes n) where
+    stands : at objects n ≡ Some (object_of (names_of names n) x)
+    stands = inode_at n (Some x) (in_table nodes.nodes n x (sym here)) (sym here)
+
+    pub inode_within : n < length objects
+    inode_within = in_table objects n (object_of (names_of names n) x) stands
+
+    pub inode_label : x.label ≡ (node objects n).label
+    inode_label = ap (λ o. (unwrap_or o nothing).label) (sym stands)
+
+    pub inode_dir : x.dir ≡ is_dir (node objects n)
+    inode_dir = by_kind x.dir ∙ ap (λ o. is_dir (unwrap_or o nothing)) (sym stands)
+      where
+        by_kind : (dir : Bool) → dir ≡ is_dir (record (object_of (names_of names n) x) { kind = kind_of dir })
+        by_kind true = refl
+        by_kind false = refl
 
   behind : (p : ℕ) → at objects (length nodes.nodes + p) ≡ option_map object_of_pipe (at pipes p)
   behind p =
@@ -64,6 +82,30 @@ module _ (nodes : Nodes) (names : Directories) (pipes : List (Option Pipe)) (obj
       go : (x : Option Pipe) → is_some x ≡ false → option_map object_of_pipe x ≡ None
       go None h = refl
       go (Some q) h = cc
+
+  -- a pipe's label
+  pub pipe_label : (p : ℕ) (label : Categories) → option_map (λ q. q.label) (at pipes p) ≡ Some label → label ≡ (node objects (length nodes.nodes + p)).label
+  pipe_label p label is = go (at pipes p) is ∙ ap (λ o. (unwrap_or o nothing).label) (sym (behind p))
+    where
+      go : (x : Option Pipe) → option_map (λ q. q.label) x ≡ Some label → label ≡ (unwrap_or (option_map object_of_pipe x) nothing).label
+      go None e = cc
+      go (Some q) e = let same : label ≡ q.label = cc in same
+
+  -- where no inode stands there is no directory
+  pub no_dir : (n : ℕ) → None ≡ at nodes.nodes n → false ≡ is_dir (node objects n)
+  no_dir n none = elim (cases_lt n (length nodes.nodes)) [
+    | inl low ↦ ap (λ o. is_dir (unwrap_or o nothing)) (sym (inode_at n None low (sym none)))
+    | inr high ↦ go (at pipes (n - length nodes.nodes)) ∙ ap (λ o. is_dir (unwrap_or o nothing)) (sym (ap (λ t. at t n) (sym view)
+        ∙ at_pipe nodes names pipes (length nodes.nodes) n refl high))
+  ]
+    where
+      go : (x : Option Pipe) → false ≡ is_dir (unwrap_or (option_map object_of_pipe x) nothing)
+      go None = refl
+      go (Some q) = refl
+
+  -- nor a label
+  pub no_label : (n : ℕ) → n < length nodes.nodes → None ≡ at nodes.nodes n → bottom ≡ (node objects n).label
+  no_label n low none = ap (λ o. (unwrap_or o nothing).label) (sym (inode_at n None low (sym none)))
 
   -- no inode is a pipe, and behind the inodes there are pipes alone
   pub inode_no_pipe : (n : ℕ) → n < length nodes.nodes → option_map_or is_pipe (at objects n) false ≡ false

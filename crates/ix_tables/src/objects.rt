@@ -42,10 +42,20 @@ impl Tables {
         ensures dir { result ≡ is_dir (node self.now.objects n) }
         ensures within { result ≡ true → n < length self.now.objects }
     {
-        match self.object(n) {
-            Some(x) => x.is_dir(),
-            None => false,
+        self.directory(n).is_some()
+    }
+
+    /// The label of a directory; `None` exactly where none is there.
+    pub fn directory(&self, n: u32) -> Option<&Label>
+        ensures dir { is_some result ≡ is_dir (node self.now.objects n) }
+        ensures label { IfSome result (λ l. l.now ≡ (node self.now.objects n).label) }
+        ensures within { is_some result ≡ true → n < length self.now.objects }
+    {
+        let inode = self.inodes.kept(Obj(n))?;
+        if !inode.dir {
+            return None;
         }
+        Some(&inode.label)
     }
 
     /// Whether a pipe is there. It takes one step, and looks no inode up.
@@ -62,8 +72,11 @@ impl Tables {
     pub fn label_of(&self, n: u32) -> Label
         ensures { result ≡ (node self.now.objects n).label }
     {
-        match self.object(n) {
-            Some(x) => x.float.label,
+        if n >= self.first_pipe {
+            return self.pipe_label(n - self.first_pipe);
+        }
+        match self.inodes.kept(Obj(n)) {
+            Some(inode) => inode.label,
             None => Label::bottom(),
         }
     }
@@ -107,6 +120,16 @@ impl Tables {
         ensures { self.new ≡ record self.old { objects = change self.old.objects n (λ x. record x { cap = cap; lic = lic }) } }
     {
         self.inodes.set_privs(Obj(n), cap, lic);
+    }
+
+    /// The label of a pipe, by its number among the pipes; bottom where there is none.
+    fn pipe_label(&self, pipe: u32) -> Label
+        ensures { result ≡ (node self.now.objects (first_pipe self.now.fss + pipe)).label }
+    {
+        if !self.pipes.lives(pipe) {
+            return Label::bottom();
+        }
+        self.pipes.label(pipe)
     }
 
     /// What is told of a pipe, by its number among the pipes.

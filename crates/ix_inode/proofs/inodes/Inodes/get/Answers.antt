@@ -13,8 +13,8 @@ returns-in_err-node-clause-told c =
 pub returns-clause-told : goal.returns-clause-told
 returns-clause-told c =
     let spot : IsSpot c.self.inside.volumes.items c.in_ok-spot.spot.volume c.in_ok-spot.spot.inode c.args.obj.0 = rw c.as_slice.ensures.value at c.in_ok-spot.ensures in
-    let told_of : c.told.result ≡ _ = c.told.ensures ∙ ap (λ (m : ℕ). told c.index-volume.result.now.spec.ceiling m c.in_ok-node.node) c.len.ensures in
-    ap (λ (t : Inode). Some t) told_of ∙ rw (← c.self.view_is) (sym (view_told _ c.self.invariant _ _ spot.within c.index-volume.ensures _ _ c.in_ok-node.node spot (sym c.in_ok-node.ensures)))
+    let told_of : c.told.result ≡ _ = c.told.ensures ∙ ap (λ (m : ℕ). told c.index-volume.result.now.spec.ceiling m c.in_ok-node.node.now) c.len.ensures in
+    ap (λ (t : Inode). Some t) told_of ∙ rw (← c.self.view_is) (sym (view_told _ c.self.invariant _ _ spot.within c.index-volume.ensures _ _ c.in_ok-node.node.now spot (sym c.in_ok-node.ensures)))
 
 pub returns-clause-below : goal.returns-clause-below
 returns-clause-below c =
