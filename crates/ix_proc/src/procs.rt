@@ -130,15 +130,11 @@ impl Procs {
         requires { IsTrue (is_some (living (at self.old.processes who.now.pid.0))) }
         ensures { self.new ≡ record self.old { processes = change self.old.processes who.now.pid.0 (with_caller who.now) } }
     {
-        let Some(record) = self.record(who.pid) else {
+        let Some(k) = place_of(self.slots.as_slice(), who.pid.0) else {
             unreachable!()
         };
-        let (parent, ended) = (record.parent, record.ended);
-        self.set(&Record {
-            who: *who,
-            parent,
-            ended,
-        });
+        let link = self.slots[k].link;
+        self.records[link as usize].who = *who;
     }
 
     /// The process ends. Its record stays, with the status, until its parent collects it; where it has no parent the
