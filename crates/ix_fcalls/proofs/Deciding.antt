@@ -1,10 +1,13 @@
 -- What a row and a refusal leave.
-use Rattle.std.proofs.Common.{◌≡◌, ℕ, Bool, true, false, List, Option, Result, Ok, Err, OnOk, sym, ap, ◌∙◌, subst}
-use Rattle.ix_model.specs.{world.{World.{Frame, Process}, Contents.carried}, laws.Sound.Sound, history.{Calls.op_of, Events.Op, AuditLog.is_answer}}
+use Rattle.std.proofs.Common.{◌≡◌, ℕ, Bool, true, false, List, Option, None, Some, if◌then◌else◌, Result, Ok, Err, OnOk, sym, ap, ◌∙◌, subst}
+use Rattle.ix_model.specs.{world.{World.{Frame, Process, at, change, living}, Contents.carried}, laws.Sound.Sound, history.{Calls.op_of, Events.Op, AuditLog.is_answer}}
 use Rattle.ix_model.specs.{rows.{Outcomes.{Outcome, Refuse, Pass}, OnDescriptors.LengthChecks, Table.row}, declared.{call.Call.Call, reply.Reply.Reply, refusal.Refusal.Refusal}}
+use Rattle.ix_label.specs.Category.{Categories}
+use Rattle.ix_model.specs.declared.views.Caller.{Caller}
+use Rattle.ix_model.proofs.tables.Tables.{change_twice, change_same}
 use Rattle.ix_model.proofs.{clean.Carrying.carried_same, words.{Ends.Ends, Lasts.{Lasts, lasts_relabelled}}, refused.Refusing.{Relabelled, Relabels, relabelled_itself, refusing_row}}
 use Rattle.ix_tables.specs.Parts.{Parts}
-use Rattle.ix_fcalls.specs.{Around.{Around, frame_of, world_of}, Counted.{IsCounted, Keeps}, Filed.{Leaves, lets_go}}
+use Rattle.ix_fcalls.specs.{Around.{Around, frame_of, world_of, process_of}, Counted.{IsCounted, Keeps}, Filed.{Leaves, lets_go}}
 
 relabelled_lasts : (pid : ℕ) (f g : Frame) → Relabelled pid f g → Lasts f g
 relabelled_lasts pid f g r = subst (λ h. Lasts f h) (sym r.is) (lasts_relabelled _ _ f)
@@ -28,6 +31,22 @@ module _ (b : Bool) (a : Around) (t u : Parts) (ps : List (Option Process)) (sou
   pub leaves_all : (qs : List (Option Process)) → qs ≡ ps → Leaves b a t u ps qs
   leaves_all qs same = left b a t u ps qs sound back (subst (λ g. Relabelled a.pid (frame_of a t ps) g) (λ i. frame_of a (sym back i) (sym same i))
       (relabelled_itself _ _))
+
+-- the caller whose label is set back to what it was is as it was
+pub set_back : (a : Around) (c : Caller) (t u : Parts) (ps qs rs : List (Option Process)) (told : LengthChecks) (o : Op) (why : Refusal) → living (at ps a.pid) ≡ Some (process_of a c)
+    → row told a.place a.pid o (frame_of a t ps) ≡ Refuse why (frame_of a u qs) → rs ≡ change qs a.pid (λ q. record q { label = c.float.label }) → rs ≡ ps
+set_back a c t u ps qs rs told o why lives is set =
+    let r = refused _ _ _ _ _ is (refusing_row _ _ _ o _) in
+    let to : Categories → Process → Process = λ l p. record p { label = l } in
+    set ∙ ap (λ (f : Frame). change f.processes a.pid (to c.float.label)) r.is ∙ change_twice ps a.pid (to r.label) (to c.float.label)
+    ∙ change_same ps a.pid (to c.float.label) (λ x here. ap (λ l. to l x) (label_of x _ (sym (ap living here) ∙ lives)))
+  where
+    label_of : (x p : Process) → living (Some x) ≡ Some p → p.label ≡ x.label
+    label_of x p h = pick x.ended h
+      where
+        pick : (b : Bool) → (if b then None else Some x) ≡ Some p → p.label ≡ x.label
+        pick true h = cc
+        pick false h = let e : p ≡ x = cc in ap (λ (q : Process). q.label) e
 
 -- ---- what a row that passes leaves
 on_ok : (r : Result Reply Refusal) (P : Type 0) → P → OnOk r P

@@ -64,15 +64,6 @@ impl<R: Others> CallerIn<R> {
         &self.caller
     }
 
-    /// Sets all that a caller shows.
-    #[tactic(auto, using(crate::proofs::Callers::calling))]
-    pub fn set(&mut self, caller: Caller)
-        requires { caller.pid.0 ≡ R.rest.pid }
-        ensures { self.new ≡ change R.rest.processes R.rest.pid (with_caller caller) }
-    {
-        self.caller = caller;
-    }
-
     /// Sets the label of the calling process.
     #[tactic(auto, using(crate::proofs::Callers::calling))]
     pub fn set_label(&mut self, label: Label)

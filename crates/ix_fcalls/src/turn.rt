@@ -15,6 +15,7 @@ use std::sync::ledger::Ledger;
 /// Calls, from their rows to their steps.
 impl Files {
     /// The row of a call by a living process.
+    #[inline(never)]
     #[tactic(auto, unfolding(ix_model::specs::rows::Table::row, ix_model::specs::rows::OnPaths::create_at, ix_model::specs::rows::OnPaths::make_dir))]
     fn row<R: Others, L: Ledger>(
         &mut self,
@@ -71,14 +72,14 @@ impl Files {
         ensures counted { IsCounted self.new who.new }
         ensures content { Leaves (lets_go (op_of call.now)) R.rest self.old self.new who.old who.new }
     {
-        let before = *who.caller();
+        let label = who.caller().float.label;
         match self.row(told, who, call, steps) {
             Ok(reply) => reply,
             Err(why) => {
                 if why.keeps_label() {
                     return Reply::No(why);
                 }
-                who.set(before);
+                who.set_label(label);
                 Reply::No(why)
             }
         }
@@ -161,6 +162,7 @@ impl Files {
     }
 
     /// A call, as it edits or looks at what is held.
+    #[inline(never)]
     fn answer<R: Others, L: Ledger>(
         &mut self,
         who: &mut CallerIn<R>,
