@@ -1,4 +1,4 @@
-ghost use Rattle.std.specs.Prelude.{◌≡◌, ◌++◌, ◌∷◌, ◌+◌, ◌<◌, ◌≤◌, ◌^◌, [], List, length, IsTrue, OnOk, if◌then◌else◌};
+ghost use Rattle.{std.specs.{Prelude.{◌≡◌, ◌++◌, ◌∷◌, ◌+◌, ◌<◌, ◌≤◌, ◌^◌, [], true, List, length, IsTrue, OnOk, if◌then◌else◌}, List.{list_all}}, ix_text.specs.Names.{is_script_name}};
 ghost use Rattle.ix_script.specs.{declared.line.Line.{Line}, lines.Before.{is_known, is_command}, reader.Told.{BodyTold, is_next, phase_lanes_in}};
 
 use crate::index::Given;
@@ -35,9 +35,10 @@ pub(crate) struct Body<'a> {
 }
 
 fn add_name(lanes: &mut List<Name>, name: &NameWord<'_>) -> Result<(), NoMemory>
-    ensures { OnOk result (lanes.new ≡ (if is_known name.now lanes.old then lanes.old else lanes.old ++ name.now ∷ [])) }
+    ensures lanes { OnOk result (lanes.new ≡ (if is_known name.now lanes.old then lanes.old else lanes.old ++ name.now ∷ [])) }
+    ensures named { OnOk result (list_all is_script_name lanes.old ≡ true → list_all is_script_name lanes.new ≡ true) }
 {
-    if is_known(name.as_bytes(), lanes.as_slice()) {
+    if is_known(name.word(), lanes.as_slice()) {
         Ok(())
     } else {
         lanes.push(name.name())

@@ -1,22 +1,22 @@
 ghost use Rattle.std.specs.Prelude.{◌≡◌, ◌≤◌, ◌++◌, ◌∷◌, ◌+◌, ◌<◌, ◌^◌, [], true, false, Some, None, length, OnOk, IfOk, IfErr, IsTrue};
-ghost use Rattle.ix_script.specs.{lines.Before.{form_told}, lines.Faults.{line_fault, text_fault}, lines.Roles.{role_of}, lines.Said.{line_of}};
-ghost use Rattle.ix_script.specs.{reader.Readers.{HasCause, IsFormed, IsPlain, LineMore, LineRight, is_whole}, reader.Told.{CanGrow, DraftTold, IsNextLane}, scripts.Packed.{front_of, with_line}};
+ghost use Rattle.ix_script.specs.{lines.Before.{form_told}, lines.Faults.{line_fault, text_fault}, lines.Forms.{places}, lines.Roles.{role_of}, lines.Said.{line_of}};
+ghost use Rattle.ix_script.specs.{reader.Readers.{HasCause, IsFormed, IsPlain, LineMore, LineRight, is_whole}, reader.Placing.{Stand, command_cost}, reader.Told.{CanGrow, DraftTold, IsNextLane}, scripts.Packed.{front_of, with_line}};
 ghost use Rattle.{std.{proofs.Common.{option_map}, specs.List.{list_all}}, ix_model.specs.opening.Valid.{is_within}, ix_text.specs.Bytes.{is_empty}};
 
 use crate::body::Body;
 use crate::fail::{ReadFail, Rule, fault_at};
-use crate::form::Form;
+use crate::form::{Form, OnFd};
 use crate::header::Header;
 use crate::line::Line;
 use crate::packed::Lines;
+use crate::payload::Payload;
 use crate::places::line_said;
-use crate::role::{ENTRY, Role, cost_of_line, role_of};
+use crate::role::{ENTRY, Role, cost_of_line, path_cost, role_of};
 use crate::rules::{check_text, is_policy_line, is_skipped};
 use crate::values::begins_with_text;
 use crate::words::Words;
 use ix_label::Steps;
 use ix_model::NoMemory;
-use ix_text::is_script_name;
 use std::alloc::Global;
 use std::sync::ledger::Ledger;
 
@@ -89,10 +89,7 @@ impl<'a> Draft<'a> {
     fn is_next_lane(&self, text: &[u8]) -> bool
         ensures { IsTrue result → IsNextLane self.now text.now }
     {
-        self.body.started
-            && begins_with_text(b"lane ", text)
-            && self.body.is_next(&text[5..])
-            && is_script_name(&text[5..])
+        self.body.started && begins_with_text(b"lane ", text) && self.body.is_next(&text[5..])
     }
 
     /// That line: it breaks no rule.
@@ -109,6 +106,21 @@ impl<'a> Draft<'a> {
         self.body.lane = Some(name);
         self.body.in_order += 1;
         self.lines.push(self.lines.form(), text, Role::Lane, 0)
+    }
+
+    /// What a command costs whose words break no rule by themselves, where it is known to give no name and to be no server's: its line isn't made.
+    fn command_cost(&self, form: Form, words: &Words<'a>) -> Option<u64>
+        requires { Stand (places (form_told self.now.lines.said) form words.now) }
+        ensures { result ≡ command_cost form words.now }
+    {
+        match form {
+            Form::Plain(_) | Form::Counted(_) | Form::Exit | Form::Setself => Some(ENTRY),
+            Form::Droplic | Form::Grant | Form::Ceiling | Form::Readlog => Some(ENTRY),
+            Form::OnFd(OnFd::Close | OnFd::Pex | OnFd::Unpex) => Some(ENTRY),
+            Form::OnPath(_) | Form::List | Form::Setlabel => Some(path_cost(words.get(2))),
+            Form::Write => Some(ENTRY + Payload::<4096>::of(words.get(3)).len() as u64),
+            _ => None,
+        }
     }
 
     /// Adds the line of a form whose words break no rule by themselves, or tells its fault. No other line clears room for it.
@@ -129,9 +141,6 @@ impl<'a> Draft<'a> {
         ensures fail { IfErr result (λ e. HasCause e (option_map (λ rule. (length self.old.lines.said + 1, rule)) (line_fault self.old.lines.said text.now))) }
     {
         let line = line_said(self.lines.form(), form, words).unwrap();
-        if let Role::Command = role_of(&line) {
-            return self.add_command(text, cost_of_line(&line));
-        }
         if let Err(rule) = self.check_said(&line, steps) {
             return Err(self.fault(rule));
         }
@@ -181,8 +190,10 @@ impl<'a> Draft<'a> {
         }
         words.cut(text);
         match self.form_by_words(words) {
-            Ok(form) if form.is_entry() => self.add_command(text, ENTRY),
-            Ok(form) => self.add_formed(alloc, text, form, words, steps),
+            Ok(form) => match self.command_cost(form, words) {
+                Some(cost) => self.add_command(text, cost),
+                None => self.add_formed(alloc, text, form, words, steps),
+            },
             Err(rule) => Err(self.fault(rule)),
         }
     }

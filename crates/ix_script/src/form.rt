@@ -1,5 +1,5 @@
-ghost use Rattle.std.specs.Prelude.{◌≡◌, List, ◌≤◌, ◌+◌, ℕ, length, map};
-ghost use Rattle.ix_script.specs.{lines.Forms.{is_header, is_command_form, has_right_count, form_of, arity, kinds, tail_of}, reader.Placing.{is_entry, kind_in}};
+ghost use Rattle.std.specs.Prelude.{◌≡◌, ◌<◌, List, ◌≤◌, ◌+◌, ℕ, length, map};
+ghost use Rattle.ix_script.specs.{lines.Forms.{is_header, is_command_form, has_right_count, form_of, arity, kinds, tail_of}, reader.Placing.{kind_in, letter}};
 ghost use Rattle.ix_label.specs.declared.form.Form as spelled;
 
 use crate::words::Words;
@@ -96,17 +96,6 @@ impl Form {
         !self.is_header() && !matches!(self, Form::Phase | Form::Lane)
     }
 
-    /// Whether it is, beyond doubt, a command of one call that costs no more than an entry and gives no name.
-    pub fn is_entry(self) -> bool
-        ensures { result ≡ is_entry self }
-    {
-        match self {
-            Form::Plain(_) | Form::Counted(_) => true,
-            Form::OnFd(OnFd::Close | OnFd::Pex | OnFd::Unpex) => true,
-            _ => false,
-        }
-    }
-
     /// Whether the line has the words of the form, and no others but `as` with its names.
     pub fn has_right_count(self, words: &Words<'_>) -> bool
         ensures { result ≡ has_right_count self words.now }
@@ -118,64 +107,54 @@ impl Form {
     }
 }
 
-/// The words that begin lines, with their forms: short ones first, and of one length those that most lines have.
-const FORMS: &[(&[u8], Form)] = &[
-    (b"fs", Form::Fs),
-    (b"cut", Form::Counted(Counted::Cut)),
-    (b"pex", Form::OnFd(OnFd::Pex)),
-    (b"dup", Form::Dup),
-    (b"dir", Form::Dir),
-    (b"read", Form::Counted(Counted::Read)),
-    (b"seek", Form::Counted(Counted::Seek)),
-    (b"self", Form::Plain(Plain::Self_)),
-    (b"lane", Form::Lane),
-    (b"open", Form::Open),
-    (b"stat", Form::OnPath(OnPath::Stat)),
-    (b"wait", Form::Plain(Plain::Wait)),
-    (b"priv", Form::OnFd(OnFd::Priv)),
-    (b"exec", Form::OnPath(OnPath::Exec)),
-    (b"thaw", Form::OnPath(OnPath::Thaw)),
-    (b"pipe", Form::Pipe),
-    (b"link", Form::Link),
-    (b"list", Form::List),
-    (b"copy", Form::Copy),
-    (b"fork", Form::Fork),
-    (b"exit", Form::Exit),
-    (b"proc", Form::Proc),
-    (b"file", Form::File),
-    (b"write", Form::Write),
-    (b"close", Form::OnFd(OnFd::Close)),
-    (b"phase", Form::Phase),
-    (b"unpex", Form::OnFd(OnFd::Unpex)),
-    (b"mkdir", Form::OnPath(OnPath::Mkdir)),
-    (b"rmdir", Form::OnPath(OnPath::Rmdir)),
-    (b"chdir", Form::OnPath(OnPath::Chdir)),
-    (b"grant", Form::Grant),
-    (b"login", Form::Login),
-    (b"limit", Form::Limit),
-    (b"create", Form::OnPath(OnPath::Create)),
-    (b"unlink", Form::OnPath(OnPath::Unlink)),
-    (b"freeze", Form::OnPath(OnPath::Freeze)),
-    (b"labelof", Form::OnPath(OnPath::Labelof)),
-    (b"setpriv", Form::Setpriv),
-    (b"setself", Form::Setself),
-    (b"droplic", Form::Droplic),
-    (b"ceiling", Form::Ceiling),
-    (b"readlog", Form::Readlog),
-    (b"thawself", Form::Plain(Plain::Thawself)),
-    (b"setlabel", Form::Setlabel),
-    (b"freezeself", Form::Plain(Plain::Freezeself)),
+macro_rules! forms {
+    ($($text:literal => $form:expr,)+) => { &[$(($text, $form)),+] };
+}
+
+/// The words that begin lines, with their forms, by their first letters.
+const FORMS: &[(&[u8], Form)] = forms![
+    b"cut" => Form::Counted(Counted::Cut), b"close" => Form::OnFd(OnFd::Close),
+    b"copy" => Form::Copy, b"create" => Form::OnPath(OnPath::Create),
+    b"chdir" => Form::OnPath(OnPath::Chdir), b"ceiling" => Form::Ceiling, b"dup" => Form::Dup,
+    b"dir" => Form::Dir, b"droplic" => Form::Droplic, b"exec" => Form::OnPath(OnPath::Exec),
+    b"exit" => Form::Exit, b"fs" => Form::Fs, b"fork" => Form::Fork,
+    b"freeze" => Form::OnPath(OnPath::Freeze), b"freezeself" => Form::Plain(Plain::Freezeself),
+    b"file" => Form::File, b"grant" => Form::Grant, b"lane" => Form::Lane, b"link" => Form::Link,
+    b"list" => Form::List, b"labelof" => Form::OnPath(OnPath::Labelof), b"login" => Form::Login,
+    b"limit" => Form::Limit, b"mkdir" => Form::OnPath(OnPath::Mkdir), b"open" => Form::Open,
+    b"pex" => Form::OnFd(OnFd::Pex), b"priv" => Form::OnFd(OnFd::Priv), b"pipe" => Form::Pipe,
+    b"proc" => Form::Proc, b"phase" => Form::Phase, b"read" => Form::Counted(Counted::Read),
+    b"rmdir" => Form::OnPath(OnPath::Rmdir), b"readlog" => Form::Readlog,
+    b"self" => Form::Plain(Plain::Self_), b"seek" => Form::Counted(Counted::Seek),
+    b"stat" => Form::OnPath(OnPath::Stat), b"setlabel" => Form::Setlabel,
+    b"setself" => Form::Setself, b"setpriv" => Form::Setpriv, b"thaw" => Form::OnPath(OnPath::Thaw),
+    b"thawself" => Form::Plain(Plain::Thawself), b"unpex" => Form::OnFd(OnFd::Unpex),
+    b"unlink" => Form::OnPath(OnPath::Unlink), b"write" => Form::Write,
+    b"wait" => Form::Plain(Plain::Wait),
 ];
 
-/// Where in that table the words of a length begin; behind these, its end.
-const BEGIN: [usize; 12] = [0, 0, 0, 1, 5, 23, 33, 36, 42, 44, 44, 45];
+/// Where in that table the words of a letter begin, from `a` at 1 on; its end, where there are none.
+const BEGIN: [usize; 32] = [
+    45, 45, 45, 0, 6, 9, 11, 16, 45, 45, 45, 45, 17, 23, 45, 24, 25, 45, 30, 33, 39, 41, 45, 43,
+    45, 45, 45, 45, 45, 45, 45, 45,
+];
 
-/// The form of a line by its first word.
+/// The place of a word's first letter among the letters, from 1 on; 0 where there is none.
+fn letter(word: &[u8]) -> usize
+    ensures place { result ≡ letter word.now }
+    ensures low { result < 32 }
+{
+    match word {
+        [] => 0,
+        [b, ..] => usize::from(*b) % 32,
+    }
+}
+
 pub(crate) fn form_of(word: &[u8]) -> Option<Form>
     ensures { result ≡ form_of word.now }
 {
     let table = FORMS;
-    'entries: for i in BEGIN[word.len().min(11)]..table.len() {
+    'entries: for i in BEGIN[letter(word)]..table.len() {
         let (text, form) = table[i];
         if is(word, text) {
             return Some(form);

@@ -1,4 +1,4 @@
-ghost use Rattle.std.{specs.Prelude.{◌≡◌, ◌++◌, ◌∷◌, ◌+◌, ◌<◌, ◌≤◌, ◌^◌, [], Some, None, length, slice_get, OnOk, IfOk, MatchOption}, proofs.Common.{option_map}};
+ghost use Rattle.std.{specs.Prelude.{◌≡◌, ◌++◌, ◌∷◌, ◌+◌, ◌<◌, ◌≤◌, ◌^◌, [], Some, None, length, slice_get, is_some, OnOk, IfOk, MatchOption}, proofs.Common.{option_map}};
 ghost use Rattle.ix_script.specs.{lines.Before.{form_told}, lines.Forms.{form_of}, lines.Roles.{header_only, role_of}, lines.Said.{line_of}};
 ghost use Rattle.ix_script.specs.{scripts.Canonical.{has_one_spelling}, scripts.Need.{cost_of_line, need}, scripts.Packed.{IsLine, IsNext, begin_at, front_of, line_in, with_line}};
 
@@ -171,14 +171,11 @@ impl<'a> Lines<'a> {
         self.roles.as_slice().get(i).copied()
     }
 
-    /// The line at an index from 0, where it stands in the header. No other line is made.
-    pub fn header_line(&self, i: usize) -> Option<Line<'a>>
-        ensures { result ≡ header_only (slice_get self.now.said i) }
+    /// Whether a line stands at an index from 0 that is one of the header.
+    pub fn is_header(&self, i: usize) -> bool
+        ensures { result ≡ is_some (header_only (slice_get self.now.said i)) }
     {
-        match self.role(i) {
-            Some(Role::Header) => self.get(i),
-            _ => None,
-        }
+        matches!(self.role(i), Some(Role::Header))
     }
 
     pub fn need(&self) -> u64

@@ -114,19 +114,28 @@ fn first_of_quoted(text: &[u8]) -> Option<(u8, &[u8])>
     }
 }
 
-/// Puts the bytes that pairs of digits spell, which are so many, at the front of a buffer. The two digits of a byte are read at
-/// once, so that many are worked out at once.
-fn decode_pairs(text: &[u8], count: usize, buf: &mut [u8])
+/// The value of a byte that is known to be a hexadecimal digit: nothing is tested, so that many are worked out at once.
+#[tactic(auto, unfolding(crate::specs::texts::Payloads::digit_of))]
+fn digit_value(b: u8) -> u8
+    requires { IsSome (digit_of b) }
+    ensures value { digit_of b ≡ Some result }
+    ensures low { result < 16 }
+{
+    (b % 16 + 9 * (b / 64)) % 16
+}
+
+/// Puts the bytes that pairs of digits spell at the front of a buffer. No index is tested, since the count is that of both.
+fn decode_pairs(text: &[u8], buf: &mut [u8])
     requires spelled { IsSome (pairs_of text.now) }
-    requires count { count ≡ length (unwrap_or (pairs_of text.now) []) }
-    requires room { count ≤ length buf.old }
-    ensures front { take count buf.new ≡ unwrap_or (pairs_of text.now) [] }
+    requires room { length (unwrap_or (pairs_of text.now) []) ≤ length buf.old }
+    ensures front { take (length (unwrap_or (pairs_of text.now) [])) buf.new ≡ unwrap_or (pairs_of text.now) [] }
     ensures len { length buf.new ≡ length buf.old }
 {
     let (twos, _) = text.as_chunks::<2>();
+    let count = twos.len().min(buf.len());
     'bytes: for i in 0..count {
         let two = twos[i];
-        buf[i] = pair(two[0], two[1]).unwrap();
+        buf[i] = digit_value(two[0]) * 16 + digit_value(two[1]);
     }
 }
 
@@ -293,7 +302,7 @@ impl<'a, const MOST: u32> Payload<'a, MOST> {
         ensures len { length buf.new ≡ length buf.old }
     {
         match self.spelling {
-            Spelling::Pairs(text) => decode_pairs(text, self.len(), buf),
+            Spelling::Pairs(text) => decode_pairs(text, buf),
             Spelling::Quoted(text) => decode_quoted(text, self.len(), buf),
             Spelling::Times(_, byte) => buf[..self.len()].fill(byte),
         }

@@ -74,8 +74,7 @@ fn fault_from(labels: LabelForm, kinds: &[Kind], words: &Words<'_>, from: usize)
     broken
 }
 
-/// The first of rules 11 to 19 that a line of that form breaks, whose labels are spelled so: those that a word can break by itself.
-/// At the first so many places they are known to break none.
+/// The first of rules 11 to 19 that a line of that form breaks, whose labels are spelled so: a word breaks them by itself. The first so many are known to break none.
 #[inline(always)]
 pub(crate) fn places_fault(
     labels: LabelForm,

@@ -118,7 +118,10 @@ impl Plan {
             objects: List::new(alloc),
         };
         'lines: for index in 0..lines.len() {
-            if let Some(line) = lines.header_line(index) {
+            if !lines.is_header(index) {
+                continue;
+            }
+            if let Some(line) = lines.get(index) {
                 plan.add(alloc, &line)?;
             }
         }

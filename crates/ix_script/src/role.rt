@@ -1,7 +1,8 @@
-ghost use Rattle.std.specs.Prelude.{◌≡◌};
-ghost use Rattle.ix_script.specs.{lines.Before.{is_command}, lines.Roles.{role_of}, scripts.Need.{cost_of_line}};
+ghost use Rattle.std.specs.Prelude.{◌≡◌, Some, IsSome};
+ghost use Rattle.ix_script.specs.{lines.Before.{is_command}, lines.Roles.{role_of}, reader.Placing.{path_cost}, scripts.Need.{cost_of_line}, texts.Words.{path_of}};
 
 use crate::line::Line;
+use crate::paths::PathWord;
 
 /// What a line is for.
 #[derive(Clone, Copy, Debug, PartialEq, Eq)]
@@ -22,7 +23,6 @@ pub enum Role {
     Command,
 }
 
-/// What a line is for.
 #[tactic(auto, unfolding(crate::specs::lines::Roles::role_of))]
 pub(crate) fn role_of(line: &Line<'_>) -> Role
     ensures { result ≡ role_of line.now }
@@ -79,4 +79,12 @@ pub(crate) fn cost_of_line(line: &Line<'_>) -> u64
         _ if is_command(line) => ENTRY,
         _ => 0,
     }
+}
+
+/// What a command costs that names this path.
+pub(crate) fn path_cost(word: &[u8]) -> u64
+    requires { IsSome (path_of word.now) }
+    ensures { path_cost word.now ≡ Some result }
+{
+    ENTRY + PathWord::of(word).path().cost()
 }

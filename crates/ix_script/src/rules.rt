@@ -264,8 +264,7 @@ impl<'a> Draft<'a> {
         !begins_with_digit(word) && !self.body.fds.has(self.body.lane, word)
     }
 
-    /// At how many places the names of processes and descriptors stand that a line has, where these come first and are all near: known
-    /// names break no rule. 0 where that isn't so.
+    /// At how many places the names of processes and descriptors stand that a line has, where these come first and are all near: 0 where not.
     #[inline(always)]
     fn near_names(&self, form: Form, words: &Words<'a>) -> usize
         requires told { DraftTold self.now }

@@ -125,8 +125,7 @@ impl<'a> Script<'a> {
         self.lines.len() as u32
     }
 
-    /// What a machine starts from, as the header says it: it is valid, and its journal has room for what [`need`] says.
-    /// `NoMemory` where there was none for it.
+    /// What a machine starts from, as the header says it: it is valid, and its journal has room for what [`need`] says. `NoMemory` without room for it.
     pub fn config(&self, alloc: Global) -> Result<Config, NoMemory>
         ensures config { IfOk result (λ c. c ≡ config_of self.now) }
         ensures valid { IfOk result (λ c. IsTrue (is_valid c)) }
@@ -139,7 +138,10 @@ impl<'a> Script<'a> {
         ensures { option_map (λ p. (p.0, p.1.now)) result ≡ policy_of self.now }
     {
         'lines: for index in 0..self.lines.len() {
-            let Some(line) = self.lines.header_line(index) else {
+            if !self.lines.is_header(index) {
+                continue;
+            }
+            let Some(line) = self.lines.get(index) else {
                 continue;
             };
             match line {

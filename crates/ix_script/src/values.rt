@@ -118,11 +118,8 @@ pub(crate) fn what_of(word: &[u8]) -> Option<What>
     ensures { result ≡ what_of word.now }
 {
     return_by_text!(word;
-        b"procs" => What::Procs,
-        b"opens" => What::Opens,
-        b"pipes" => What::Pipes,
-        b"names" => What::Names,
-        b"log" => What::Log,
+        b"procs" => What::Procs, b"opens" => What::Opens, b"pipes" => What::Pipes,
+        b"names" => What::Names, b"log" => What::Log,
     );
     None
 }

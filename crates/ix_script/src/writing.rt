@@ -181,8 +181,7 @@ fn byte_of_times(word: &[u8]) -> Option<u8>
     two_digits(&word[word.len() - 2..])
 }
 
-/// A line of that text whose last word is a payload, with the shortest spelling of it. A byte over and over is never put into
-/// the buffer but once.
+/// A line of that text whose last word is a payload, with the shortest spelling of it. A byte over and over is put there once.
 fn write_payload(
     out: &mut Vec<u8>,
     buffer: &mut Vec<u8>,

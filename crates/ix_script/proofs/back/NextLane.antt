@@ -1,7 +1,7 @@
 -- The line of the lane that comes next breaks no rule.
-use Rattle.std.proofs.Common.{◌≡◌, ℕ, zero, suc, ◌+◌, true, false, not, ◌&&◌, List, [], ◌∷◌, ◌++◌, length, nat_le, take, drop, Some, None, inl, inr, refl, sym}
+use Rattle.std.proofs.Common.{◌≡◌, ℕ, zero, suc, ◌+◌, ◌<◌, get_or, true, false, not, ◌&&◌, List, [], ◌∷◌, ◌++◌, length, nat_le, take, drop, Some, None, inl, inr, refl, sym}
 use Rattle.std.proofs.Common.{ap, ◌∙◌, subst, arith}
-use Rattle.std.{specs.{Prelude.codes, List.list_all}, proofs.lemmas.{Bool.cases_Bool, List.{append-nil, take-append-drop, Folds.list_any_at}, Option.same_Some}}
+use Rattle.std.{specs.{Prelude.codes, List.list_all}, proofs.lemmas.{Bool.{cases_Bool, false≢true}, List.{append-nil, take-append-drop, Folds.{list_any_at, list_all_at}}, Option.same_Some}}
 use Rattle.ix_model.specs.world.Naming.{same_bytes}
 use Rattle.ix_text.specs.{Bytes.{is_empty, begins_with, is_letter}, Names.{is_script_name, may_stand_in_script_name, is_reserved, name_of}}
 use Rattle.ix_text.proofs.Tests.{both, list_all_weaker}
@@ -75,6 +75,12 @@ next_known d text next =
     let n : ComesNext d.body.in_order d.body.others d.body.lanes (drop 5 text) = comes_next d.body.in_order d.body.others d.body.lanes (drop 5 text) next.next in
     rw (list_any_at (same_bytes (drop 5 text)) d.body.lanes d.body.in_order [] n.low n.same) refl
 
+named_there : (names : List (List ℕ)) (k : ℕ) → k < length names → list_all is_script_name names ≡ true → is_script_name (get_or names k []) ≡ true
+named_there names k low all = elim (cases_Bool (is_script_name (get_or names k []))) [
+  | inl e ↦ e
+  | inr e ↦ absurd (false≢true (sym (list_all_at is_script_name names k [] low e) ∙ all))
+]
+
 pub next_right : (d : Draft) (text : List ℕ) → DraftTold d → text_fault text ≡ None → is_empty d.lines.said ≡ false → IsNextLane d text
     → LineRight d.lines.said (line.Lane (drop 5 text)) (line_fault d.lines.said text) (line_of (form_told d.lines.said) text)
 next_right d text told printable later next =
@@ -88,4 +94,4 @@ next_right d text told printable later next =
     let new : is_known name (phase_lanes d.lines.said) ≡ false = sym (ap (is_known name) lanes) ∙ new_there 0 k name b.lanes (differ k name n.low n.same ∙ ap (λ (m : ℕ). Some m) (omega arith)) in
     let known : is_known name (lanes_of d.lines.said) ≡ true = sym (ap (is_known name) told.body.lanes) ∙ list_any_at (same_bytes name) b.lanes k [] n.low n.same in
     subst (λ (t : List ℕ). LineRight d.lines.said (line.Lane name) (line_fault d.lines.said t) (line_of (form_told d.lines.said) t)) whole
-    (lane_right d.lines.said name next.named (ap text_fault whole ∙ printable) later (sym told.body.started ∙ next.started) new known)
+    (lane_right d.lines.said name (ap is_script_name n.is ∙ named_there b.lanes k n.low told.body.named) (ap text_fault whole ∙ printable) later (sym told.body.started ∙ next.started) new known)

@@ -1,9 +1,9 @@
 -- The table of the words that begin lines, looked through one by one.
 use Rattle.std.proofs.Common.{◌≡◌, ℕ, zero, suc, ◌+◌, ◌<◌, ◌≤◌, ◌==◌, Bool, true, false, not, List, [], ◌∷◌, length, map, take, get_or, Some, None}
-use Rattle.std.{proofs.Common.{Bor, inl, inr, refl, sym, ap, ◌∙◌, subst, add-one, arith}, specs.{List.{list_all, slice_index_or}, Prelude.{min, nat_lt}, Cmp.Lexicographic.same_text}}
-use Rattle.std.proofs.lemmas.{List.take_all, Bool.{cases_Bool, eqb-false, ltb-true, ne_eqb, not-true}}
+use Rattle.std.{proofs.Common.{Bor, inl, inr, refl, sym, ap, ◌∙◌, subst, add-one, arith}, specs.{List.{list_all, slice_index_or, range_with_len}, Cmp.Lexicographic.same_text}}
+use Rattle.std.proofs.lemmas.{List.{take_all, FromFn.get_or-range_with_len, Folds.list_all_at}, Bool.{cases_Bool, eqb-false, false≢true, not-true}}
 use Rattle.ix_model.specs.world.Naming.{same_bytes}
-use Rattle.ix_script.specs.{declared.form.Form.Form, lines.Forms.form_of}
+use Rattle.ix_script.specs.{declared.form.Form.Form, lines.Forms.form_of, reader.Placing.letter}
 use Rattle.ix_text.proofs.Tests.{both}
 
 -- each word is its form's
@@ -16,59 +16,55 @@ abbrev pub AreNot : List ℕ → List (Bor (List ℕ) × Form) → Type 0
 AreNot word [] = Unit
 AreNot word (e ∷ forms) = (same_bytes word e.0.now ≡ false) × AreNot word forms
 
--- the lengths of its words
-abbrev lengths : List (Bor (List ℕ) × Form) → List ℕ
-lengths forms = map (λ e. length e.0.now) forms
+-- the first letters of its words
+abbrev letters : List (Bor (List ℕ) × Form) → List ℕ
+letters forms = map (λ e. letter e.0.now) forms
 
 abbrev differs : ℕ → ℕ → Bool
-differs n len = not (len == n)
+differs n k = not (k == n)
 
--- words of other lengths are none of a word
-pub of_others : (word : List ℕ) (forms : List (Bor (List ℕ) × Form)) (i : ℕ) → list_all (differs (length word)) (take i (lengths forms)) ≡ true → AreNot word (take i forms)
+-- words of other letters are none of a word
+pub of_others : (word : List ℕ) (forms : List (Bor (List ℕ) × Form)) (i : ℕ) → list_all (differs (letter word)) (take i (letters forms)) ≡ true → AreNot word (take i forms)
 of_others word forms zero h = tt
 of_others word [] (suc i) h = tt
 of_others word (e ∷ forms) (suc i) h =
-    let p = both (differs (length word) (length _)) (list_all (differs (length word)) (take i _)) h in
-    let other = eqb-false (length _) (length word) (not-true _ p.0) in (
+    let p = both (differs (letter word) (letter e.0.now)) (list_all (differs (letter word)) (take i _)) h in
+    let other = eqb-false (letter e.0.now) (letter word) (not-true _ p.0) in (
       elim (cases_Bool _) [
-        | inl same ↦ absurd (other (ap length (sym (same_text _ _ (sym same)))))
+        | inl same ↦ absurd (other (ap letter (sym (same_text _ _ (sym same)))))
         | inr differ ↦ differ
       ],
       of_others word _ i p.1,
     )
 
--- the lengths of all words, in the order of the table
-abbrev all_lengths : List ℕ
-all_lengths = 2 ∷ 3 ∷ 3 ∷ 3 ∷ 3 ∷ 4 ∷ 4 ∷ 4 ∷ 4 ∷ 4 ∷ 4 ∷ 4 ∷ 4 ∷ 4 ∷ 4 ∷ 4 ∷ 4 ∷ 4 ∷ 4 ∷ 4 ∷ 4 ∷ 4 ∷ 4 ∷ 5 ∷ 5 ∷ 5 ∷ 5 ∷ 5 ∷ 5 ∷ 5 ∷ 5 ∷ 5 ∷ 5 ∷ 6 ∷ 6 ∷ 6 ∷ 7 ∷ 7 ∷ 7 ∷ 7 ∷ 7 ∷ 7 ∷ 8 ∷ 8 ∷ 10 ∷ []
+-- the letters of all words, in the order of the table
+abbrev all_letters : List ℕ
+all_letters = 3 ∷ 3 ∷ 3 ∷ 3 ∷ 3 ∷ 3 ∷ 4 ∷ 4 ∷ 4 ∷ 5 ∷ 5 ∷ 6 ∷ 6 ∷ 6 ∷ 6 ∷ 6 ∷ 7 ∷ 12 ∷ 12 ∷ 12 ∷ 12 ∷ 12 ∷ 12 ∷ 13 ∷ 15 ∷ 16 ∷ 16 ∷ 16 ∷ 16 ∷ 16 ∷ 18 ∷ 18 ∷ 18
+    ∷ 19 ∷ 19 ∷ 19 ∷ 19 ∷ 19 ∷ 19 ∷ 20 ∷ 20 ∷ 21 ∷ 21 ∷ 23 ∷ 23 ∷ []
 
-too_long : (n : ℕ) (lens : List ℕ) → 11 ≤ n → list_all (λ len. nat_lt len 11) lens ≡ true → list_all (differs n) lens ≡ true
-too_long n [] far h = refl
-too_long n (len ∷ lens) far h =
-    let p = both (nat_lt len 11) (list_all (λ l. nat_lt l 11) lens) h in
-    let other = ne_eqb len n (λ is. omega (arith, is, ltb-true len 11 p.0)) in
-    rw other (too_long n lens far p.1)
-
--- where the words of a length begin; behind these, where the table ends
+-- where the words of a letter begin; where there are none, where the table ends
 abbrev begins : List ℕ
-begins = 0 ∷ 0 ∷ 0 ∷ 1 ∷ 5 ∷ 23 ∷ 33 ∷ 36 ∷ 42 ∷ 44 ∷ 44 ∷ 45 ∷ []
+begins = 45 ∷ 45 ∷ 45 ∷ 0 ∷ 6 ∷ 9 ∷ 11 ∷ 16 ∷ 45 ∷ 45 ∷ 45 ∷ 45 ∷ 17 ∷ 23 ∷ 45 ∷ 24 ∷ 25 ∷ 45 ∷ 30 ∷ 33 ∷ 39 ∷ 41 ∷ 45 ∷ 43 ∷ 45 ∷ 45 ∷ 45 ∷ 45 ∷ 45 ∷ 45 ∷ 45 ∷ 45 ∷ []
 
 -- before it, all have another
-pub before : (n : ℕ) → list_all (differs n) (take (get_or begins (min n 11) 0) all_lengths) ≡ true
-before zero = refl
-before (suc zero) = refl
-before (suc (suc zero)) = refl
-before (suc (suc (suc zero))) = refl
-before (suc (suc (suc (suc zero)))) = refl
-before (suc (suc (suc (suc (suc zero))))) = refl
-before (suc (suc (suc (suc (suc (suc zero)))))) = refl
-before (suc (suc (suc (suc (suc (suc (suc zero))))))) = refl
-before (suc (suc (suc (suc (suc (suc (suc (suc zero)))))))) = refl
-before (suc (suc (suc (suc (suc (suc (suc (suc (suc zero))))))))) = refl
-before (suc (suc (suc (suc (suc (suc (suc (suc (suc (suc zero)))))))))) = refl
-before (suc (suc (suc (suc (suc (suc (suc (suc (suc (suc (suc n))))))))))) =
-    let end : min (suc (suc (suc (suc (suc (suc (suc (suc (suc (suc (suc n))))))))))) 11 ≡ 11 = omega arith in
-    subst (λ i. list_all (differs (suc (suc (suc (suc (suc (suc (suc (suc (suc (suc (suc n)))))))))))) (take (get_or begins i 0) all_lengths) ≡ true) (sym end)
-    (too_long (suc (suc (suc (suc (suc (suc (suc (suc (suc (suc (suc n))))))))))) all_lengths (omega arith) refl)
+abbrev begins_right : ℕ → Bool
+begins_right n = list_all (differs n) (take (get_or begins n 0) all_letters)
+
+all_begin_right : list_all begins_right (range_with_len 0 32) ≡ true
+all_begin_right = refl
+
+pub low_letter : (word : List ℕ) → letter word < 32
+low_letter [] = omega arith
+low_letter (b ∷ word) = omega arith
+
+pub before : (word : List ℕ) → list_all (differs (letter word)) (take (get_or begins (letter word) 0) all_letters) ≡ true
+before word =
+    let n = letter word in
+    let at : get_or (range_with_len 0 32) n 0 ≡ n = get_or-range_with_len 0 32 n 0 (low_letter word) ∙ omega arith in
+    elim (cases_Bool (begins_right n)) [
+      | inl e ↦ e
+      | inr e ↦ absurd (false≢true (sym (list_all_at begins_right (range_with_len 0 32) n 0 (low_letter word) (ap begins_right at ∙ e)) ∙ all_begin_right))
+    ]
 
 -- all of a table is right, no other word has a form, and the first so many entries aren't the word's
 pub record Looking (word : List ℕ) (forms : List (Bor (List ℕ) × Form)) (i : ℕ) : Type 0 where

@@ -1,14 +1,14 @@
 -- A command that gives no name and is no server's tells nothing but that it is one.
 use Rattle.std.proofs.Common.{◌≡◌, ℕ, ◌+◌, ◌≤◌, nat_le, Bool, true, false, ◌||◌, cond, List, [], ◌∷◌, ◌++◌, length, max, Option, Some, None, option_map, Result}
-use Rattle.std.{proofs.{Common.{Ok, Err, refl, sym, ap, ◌∙◌, subst, arith}, lemmas.{Bool.{le-leb, lt-leb}, List.append-nil}}, specs.{Option.IsSome, Result.OnOk}}
+use Rattle.std.{proofs.{Common.{Ok, Err, refl, sym, ap, ◌∙◌, subst, arith}, lemmas.{Bool.{le-leb, lt-leb}, List.append-nil, Option.same_Some}}, specs.{List.list_all, Option.IsSome, Result.OnOk}}
 use mir.Val.{bool_byte}
-use Rattle.ix_text.specs.Bytes.{is_empty}
+use Rattle.ix_text.specs.{Bytes.is_empty, Names.is_script_name}
 use Rattle.ix_script.specs.{lines.{Kinds.places_fault, Forms.places, Roles.role_of}, declared.{line.{FdWord.FdWord, KeepWord.KeepWord}, header.Header.Header, body.Body.Body}}
-use Rattle.ix_script.specs.{lines.{Said.{both, said, plain_line, fd_line, counted_line}, Faults.said_fault}, scripts.{Need.cost_of_line, Scripts.config_of}}
-use Rattle.ix_script.specs.{reader.{Placing.is_entry, Indexed.{AreIndexed, AreNames, AreSites}}, declared.form.{Form.Form, Plain.Plain}}
-use Rattle.ix_script.specs.{reader.Told.{HeaderTold, BodyTold, MakesMore, NamesMore, phase_lanes_in}, declared.form.{OnFd.OnFd, Counted.Counted}}
+use Rattle.ix_script.specs.{lines.{Said.{both, said, plain_line, path_line, counted_line}, Faults.said_fault}, scripts.{Need.cost_of_line, Scripts.config_of}}
+use Rattle.ix_script.specs.{reader.{Placing.command_cost, Indexed.{AreIndexed, AreNames, AreSites}}, declared.form.{Form.Form, Plain.Plain, OnPath.OnPath}}
+use Rattle.ix_script.specs.{reader.Told.{HeaderTold, BodyTold, MakesMore, NamesMore, phase_lanes_in}, declared.form.{Counted.Counted}}
 use Rattle.ix_script.specs.declared.{index.{Given.Given, Names.Names, Tree.Tree}, line.Line.Line}
-use Rattle.ix_model.specs.{declared.{call.Mode.Mode, config.{Limits.Limits, ObjSpec.ObjSpec}}, world.Naming.PathOf, opening.Valid.is_valid}
+use Rattle.ix_model.specs.{declared.{call.Mode.Mode, config.{Limits.Limits, ObjSpec.ObjSpec}}, world.Naming.PathOf, opening.Valid.is_valid, history.Cost.cost_of_path}
 use Rattle.ix_script.proofs.{lines.{Readings.stand, Follows.follows}, reader.{PhaseLanes.OneMore, Keeping.header_next, Validity.fits_of}}
 use Rattle.ix_script.specs.lines.Before.{form_told, fs_told, limits_after, what_told, proc_name_told, object_told, is_policy, group, is_phase, lane_after}
 use Rattle.ix_script.specs.lines.Before.{phase_lanes_after, lanes_after, new_fds, new_procs, fds_given, procs_given, in_lane, is_command, commands}
@@ -16,6 +16,7 @@ use Rattle.ix_script.proofs.reader.Pushed.{body_push, lane_push, phase_lanes_pus
 use Rattle.ix_label.specs.declared.form.Form as spelled
 use Rattle.ix_script.specs.declared.form.Form.TheVariants as form
 use Rattle.ix_script.specs.declared.form.Plain.TheVariants as plain
+use Rattle.ix_script.specs.declared.form.OnPath.TheVariants as on_path
 use Rattle.ix_script.specs.declared.form.OnFd.TheVariants as on_fd
 use Rattle.ix_script.specs.declared.form.Counted.TheVariants as counted
 use Rattle.ix_script.specs.declared.line.Line.TheVariants as line
@@ -153,16 +154,17 @@ still _ a b c d e f g = record { phase = refl; lane = λ at. refl; phase_lanes =
 
 -- what is kept of the body, with one line more
 pub body_next : (b n : Body) (before : List Line) (x : Line) → BodyTold b before → n.started ≡ (b.started || is_phase x) → option_map
-    (λ s. s.now) n.lane ≡ lane_after (option_map (λ s. s.now) b.lane) x → n.in_order ≤ length n.lanes → phase_lanes_in n ≡ phase_lanes_after (phase_lanes_in b) x
-    → n.lanes ≡ lanes_after b.lanes x → ((items : List (List ℕ × List ℕ)) → AreIndexed b.fds items → AreIndexed n.fds (items ++ in_lane (option_map (λ s. s.now) b.lane) (new_fds x)))
+    (λ s. s.now) n.lane ≡ lane_after (option_map (λ s. s.now) b.lane) x → n.in_order ≤ length n.lanes → list_all is_script_name n.lanes ≡ true
+    → phase_lanes_in n ≡ phase_lanes_after (phase_lanes_in b) x → n.lanes ≡ lanes_after b.lanes x → ((items : List (List ℕ × List ℕ)) → AreIndexed b.fds items → AreIndexed n.fds (items ++ in_lane (option_map (λ s. s.now) b.lane) (new_fds x)))
     → ((items : List (List ℕ × List ℕ)) → AreIndexed b.procs items → AreIndexed n.procs
     (items ++ in_lane (option_map (λ s. s.now) b.lane) (new_procs x))) → n.commands ≡ cond (is_command x) (b.commands + 1) b.commands
     → BodyTold n (before ++ x ∷ [])
-body_next b n before x told started lane within phase_lanes_are lanes_are fds procs count =
+body_next b n before x told started lane within named phase_lanes_are lanes_are fds procs count =
     record {
       started = started ∙ ap (λ s. s || is_phase x) told.started ∙ sym (body_push _ x);
       lane = lane ∙ ap (λ at. lane_after at x) told.lane ∙ sym (lane_push _ x);
       within = within;
+      named = named;
       phase_lanes = phase_lanes_are ∙ ap (λ names. phase_lanes_after names x) told.phase_lanes ∙ sym (phase_lanes_push _ x);
       lanes = lanes_are ∙ ap (λ names. lanes_after names x) told.lanes ∙ sym (lanes_push _ x);
       fds = subst (λ items. AreIndexed n.fds items)
@@ -174,11 +176,11 @@ body_next b n before x told started lane within phase_lanes_are lanes_are fds pr
 
 -- what is kept of the body, with one lane more
 pub lane_added : (b n : Body) (name : List ℕ) (lines : List Line) → BodyTold b lines → n.started ≡ b.started → option_map (λ s. s.now) n.lane ≡ Some name
-    → n.lanes ≡ lanes_after b.lanes (line.Lane name) → OneMore n.in_order n.lanes n.others (phase_lanes_in b) name → n.fds ≡ b.fds → n.procs ≡ b.procs → n.commands ≡ b.commands
+    → n.lanes ≡ lanes_after b.lanes (line.Lane name) → list_all is_script_name n.lanes ≡ true → OneMore n.in_order n.lanes n.others (phase_lanes_in b) name → n.fds ≡ b.fds → n.procs ≡ b.procs → n.commands ≡ b.commands
     → BodyTold n (lines ++ line.Lane name ∷ [])
-lane_added b n name lines told started lane lanes more fds procs commands =
+lane_added b n name lines told started lane lanes named more fds procs commands =
     let at = option_map (λ s. s.now) b.lane in
-    body_next b n _ _ told (started ∙ sym (or_false _)) lane more.within more.lanes lanes
+    body_next b n _ _ told (started ∙ sym (or_false _)) lane more.within named more.lanes lanes
     (λ items h. no_more n.fds _ _ at [] refl refl (subst (λ g. AreIndexed g items) (sym fds) h))
     (λ items h. no_more n.procs _ _ at [] refl refl (subst (λ g. AreIndexed g items) (sym procs) h)) commands
 
@@ -187,7 +189,7 @@ body_quiet b n before l role was is =
     let q = quiet l role in
     let at = option_map (λ s. s.now) b.lane in
     let told : BodyTold (record b { commands = b.commands + 1 }) (before ++ l ∷ []) =
-    body_next b (record b { commands = b.commands + 1 }) before l was (rw q.phase (sym (or_false b.started))) (sym (q.lane at)) was.within
+    body_next b (record b { commands = b.commands + 1 }) before l was (rw q.phase (sym (or_false b.started))) (sym (q.lane at)) was.within was.named
     (sym (q.phase_lanes (phase_lanes_in b))) (sym (q.lanes b.lanes))
     (λ items h. no_more b.fds items (items ++ in_lane at (new_fds l)) at (new_fds l) q.fds refl h)
     (λ items h. no_more b.procs items (items ++ in_lane at (new_procs l)) at (new_procs l) q.procs refl h) (rw q.command refl) in
@@ -198,12 +200,12 @@ pub later_form : (before : List Line) (l : Line) → is_empty before ≡ false �
 later_form [] l later = cc
 later_form (b ∷ before) l later = refl
 
--- ---- commands that cost an entry
-pub record EntrySaid (labels : spelled.Form) (f : Form) (words : List (List ℕ)) : Type 0 where
+-- ---- commands, and what they cost
+pub record CommandSaid (labels : spelled.Form) (f : Form) (words : List (List ℕ)) (cost : ℕ) : Type 0 where
   pub line : Line
   pub says : said labels f words ≡ Some line
   pub is_command : role_of line ≡ role.Command
-  pub costs : cost_of_line line ≡ 128
+  pub costs : cost_of_line line ≡ cost
 
 plain_kind : (c : Plain) (proc : List ℕ) → (role_of (plain_line c proc) ≡ role.Command) × (cost_of_line (plain_line c proc) ≡ 128)
 unfolding role_of cost_of_line
@@ -218,12 +220,18 @@ counted_kind counted.Read proc fd n = (refl, refl)
 counted_kind counted.Cut proc fd n = (refl, refl)
 counted_kind counted.Seek proc fd n = (refl, refl)
 
-fd_kind : (c : OnFd) (proc : List ℕ) (fd : FdWord) → is_entry (form.OnFd c) ≡ true → (role_of (fd_line c proc fd) ≡ role.Command) × (cost_of_line (fd_line c proc fd) ≡ 128)
+path_kind : (c : OnPath) (proc : List ℕ) (path : PathOf) → (role_of (path_line c proc path) ≡ role.Command) × (cost_of_line (path_line c proc path) ≡ 128 + cost_of_path path)
 unfolding role_of cost_of_line
-fd_kind on_fd.Close proc fd h = (refl, refl)
-fd_kind on_fd.Pex proc fd h = (refl, refl)
-fd_kind on_fd.Unpex proc fd h = (refl, refl)
-fd_kind on_fd.Priv proc fd h = cc
+path_kind on_path.Create proc path = (refl, refl)
+path_kind on_path.Mkdir proc path = (refl, refl)
+path_kind on_path.Unlink proc path = (refl, refl)
+path_kind on_path.Rmdir proc path = (refl, refl)
+path_kind on_path.Chdir proc path = (refl, refl)
+path_kind on_path.Stat proc path = (refl, refl)
+path_kind on_path.Exec proc path = (refl, refl)
+path_kind on_path.Labelof proc path = (refl, refl)
+path_kind on_path.Freeze proc path = (refl, refl)
+path_kind on_path.Thaw proc path = (refl, refl)
 
 there : {A : Type 0} (o : Option A) → IsSome o → (x : A) × (o ≡ Some x)
 there None h = cc
@@ -232,23 +240,108 @@ there (Some x) h = (x, refl)
 both_there : {A B : Type 0} {a : Option A} {b : Option B} {x : A} {y : B} → a ≡ Some x → b ≡ Some y → both a b ≡ Some (x, y)
 both_there h k = λ i. both (h i) (k i)
 
-pub entry_said : (labels : spelled.Form) (f : Form) (words : List (List ℕ)) → is_entry f ≡ true → places_fault (places labels f words) ≡ None → EntrySaid labels f words
-entry_said labels (form.Plain c) words h broken =
+-- of values that are there
+of_one : {A : Type 0} (f : A → ℕ) {o : Option A} {x : A} {cost : ℕ} → o ≡ Some x → option_map f o ≡ Some cost → f x ≡ cost
+of_one f e h = same_Some _ _ (sym (ap (option_map f) e) ∙ h)
+
+pub command_said : (labels : spelled.Form) (f : Form) (words : List (List ℕ)) (cost : ℕ) → command_cost f words ≡ Some cost → places_fault (places labels f words) ≡ None
+    → CommandSaid labels f words cost
+unfolding role_of cost_of_line
+command_said labels (form.Plain c) words cost h broken =
     let s = stand _ broken in
     let name = there _ s.0 in
     let k = plain_kind c _ in
-    record { line = plain_line c name.0; says = ap (λ o. option_map (λ x. plain_line c x) o) name.1; is_command = k.0; costs = k.1 }
-entry_said labels (form.Counted c) words h broken =
+    record { line = plain_line c name.0; says = ap (option_map (plain_line c)) name.1; is_command = k.0; costs = k.1 ∙ same_Some _ _ h }
+command_said labels (form.Counted c) words cost h broken =
     let s = stand _ broken in
     let name = there _ s.0 in
     let fd = there _ s.1.0 in
     let number = there _ s.1.1.0 in
     let k = counted_kind c _ _ _ in
-    record { line = counted_line c name.0 fd.0 number.0; says = ap (option_map (λ x. counted_line c x.0 x.1.0 x.1.1)) (both_there name.1 (both_there fd.1 number.1)); is_command = k.0; costs = k.1 }
-entry_said labels (form.OnFd c) words h broken =
+    let all = both_there name.1 (both_there fd.1 number.1) in
+    record { line = counted_line c name.0 fd.0 number.0; says = ap (option_map (λ x. counted_line c x.0 x.1.0 x.1.1)) all; is_command = k.0; costs = k.1 ∙ same_Some _ _ h }
+command_said labels (form.OnFd on_fd.Close) words cost h broken =
+    let s = stand _ broken in
+    let all = both_there (there _ s.0).1 (there _ s.1.0).1 in
+    record { line = line.Close (there _ s.0).0 (there _ s.1.0).0; says = ap (option_map (λ x. line.Close x.0 x.1)) all; is_command = refl; costs = same_Some _ _ h }
+command_said labels (form.OnFd on_fd.Pex) words cost h broken =
+    let s = stand _ broken in
+    let all = both_there (there _ s.0).1 (there _ s.1.0).1 in
+    record { line = line.Pex (there _ s.0).0 (there _ s.1.0).0; says = ap (option_map (λ x. line.Pex x.0 x.1)) all; is_command = refl; costs = same_Some _ _ h }
+command_said labels (form.OnFd on_fd.Unpex) words cost h broken =
+    let s = stand _ broken in
+    let all = both_there (there _ s.0).1 (there _ s.1.0).1 in
+    record { line = line.Unpex (there _ s.0).0 (there _ s.1.0).0; says = ap (option_map (λ x. line.Unpex x.0 x.1)) all; is_command = refl; costs = same_Some _ _ h }
+command_said labels form.Exit words cost h broken =
+    let s = stand _ broken in
+    let all = both_there (there _ s.0).1 (there _ s.1.0).1 in
+    record { line = line.Exit (there _ s.0).0 (there _ s.1.0).0; says = ap (option_map (λ x. line.Exit x.0 x.1)) all; is_command = refl; costs = same_Some _ _ h }
+command_said labels form.Setself words cost h broken =
+    let s = stand _ broken in
+    let all = both_there (there _ s.0).1 (there _ s.1.0).1 in
+    record { line = line.Setself (there _ s.0).0 (there _ s.1.0).0; says = ap (option_map (λ x. line.Setself x.0 x.1)) all; is_command = refl; costs = same_Some _ _ h }
+command_said labels form.Droplic words cost h broken =
+    let s = stand _ broken in
+    let all = both_there (there _ s.0).1 (there _ s.1.0).1 in
+    record { line = line.Droplic (there _ s.0).0 (there _ s.1.0).0; says = ap (option_map (λ x. line.Droplic x.0 x.1)) all; is_command = refl; costs = same_Some _ _ h }
+command_said labels form.Readlog words cost h broken =
+    let s = stand _ broken in
+    let all = both_there (there _ s.0).1 (there _ s.1.0).1 in
+    record { line = line.Readlog (there _ s.0).0 (there _ s.1.0).0; says = ap (option_map (λ x. line.Readlog x.0 x.1)) all; is_command = refl; costs = same_Some _ _ h }
+command_said labels form.Grant words cost h broken =
+    let s = stand _ broken in
+    let all = both_there (there _ s.0).1 (both_there (there _ s.1.0).1 (there _ s.1.1.0).1) in
+    record {
+      line = line.Grant (there _ s.0).0 (there _ s.1.0).0 (there _ s.1.1.0).0;
+      says = ap (option_map (λ x. line.Grant x.0 x.1.0 x.1.1)) all;
+      is_command = refl;
+      costs = same_Some _ _ h;
+    }
+command_said labels form.Ceiling words cost h broken =
+    let s = stand _ broken in
+    let all = both_there (there _ s.0).1 (both_there (there _ s.1.0).1 (there _ s.1.1.0).1) in
+    record {
+      line = line.Ceiling (there _ s.0).0 (there _ s.1.0).0 (there _ s.1.1.0).0;
+      says = ap (option_map (λ x. line.Ceiling x.0 x.1.0 x.1.1)) all;
+      is_command = refl;
+      costs = same_Some _ _ h;
+    }
+command_said labels (form.OnPath c) words cost h broken =
     let s = stand _ broken in
     let name = there _ s.0 in
-    let fd = there _ s.1.0 in
-    let k = fd_kind c _ _ h in
-    record { line = fd_line c name.0 fd.0; says = ap (option_map (λ x. fd_line c x.0 x.1)) (both_there name.1 fd.1); is_command = k.0; costs = k.1 }
-entry_said labels _ words h broken = cc
+    let path = there _ s.1.0 in
+    let k = path_kind c _ _ in
+    record {
+      line = path_line c name.0 path.0;
+      says = ap (option_map (λ x. path_line c x.0 x.1)) (both_there name.1 path.1);
+      is_command = k.0;
+      costs = k.1 ∙ of_one (λ (path : PathOf). 128 + cost_of_path path) path.1 h;
+    }
+command_said labels form.List words cost h broken =
+    let s = stand _ broken in
+    let all = both_there (there _ s.0).1 (both_there (there _ s.1.0).1 (there _ s.1.1.0).1) in
+    record {
+      line = line.List (there _ s.0).0 (there _ s.1.0).0 (there _ s.1.1.0).0;
+      says = ap (option_map (λ x. line.List x.0 x.1.0 x.1.1)) all;
+      is_command = refl;
+      costs = of_one (λ (path : PathOf). 128 + cost_of_path path) (there _ s.1.0).1 h;
+    }
+command_said labels form.Setlabel words cost h broken =
+    let s = stand _ broken in
+    let all = both_there (there _ s.0).1 (both_there (there _ s.1.0).1 (there _ s.1.1.0).1) in
+    record {
+      line = line.Setlabel (there _ s.0).0 (there _ s.1.0).0 (there _ s.1.1.0).0;
+      says = ap (option_map (λ x. line.Setlabel x.0 x.1.0 x.1.1)) all;
+      is_command = refl;
+      costs = of_one (λ (path : PathOf). 128 + cost_of_path path) (there _ s.1.0).1 h;
+    }
+command_said labels form.Write words cost h broken =
+    let s = stand _ broken in
+    let all = both_there (there _ s.0).1 (both_there (there _ s.1.0).1 (there _ s.1.1.0).1) in
+    record {
+      line = line.Write (there _ s.0).0 (there _ s.1.0).0 (there _ s.1.1.0).0;
+      says = ap (option_map (λ x. line.Write x.0 x.1.0 x.1.1)) all;
+      is_command = refl;
+      costs = of_one (λ (bytes : List ℕ). 128 + length bytes) (there _ s.1.1.0).1 h;
+    }
+command_said labels _ words cost h broken = cc

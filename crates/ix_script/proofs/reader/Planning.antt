@@ -1,6 +1,6 @@
 -- A plan of more and more lines.
 use Rattle.std.proofs.{Common.{◌≡◌, ℕ, ◌+◌, ◌<◌, ◌≤◌, false, List, [], ◌∷◌, ◌++◌, length, take, get_or, Option, Some, None, refl, sym, ap, ◌∙◌, subst, add-one, inl, inr}, Math.Seq.take-suc}
-use Rattle.std.specs.{List.slice_get, Option.option_map_or}
+use Rattle.std.specs.{List.slice_get, Option.{is_some, option_map_or}}
 use Rattle.std.proofs.lemmas.{Bool.{cases_Bool, false≢true}, List.{append-nil, take_all}, Option.{none-some, slice_get-get_or, get_or_from_slice_get}}
 use Rattle.ix_model.specs.declared.config.Limits.{Limits}
 use Rattle.ix_script.specs.lines.{Before.{fs_told, limits_after, proc_told, object_told, is_policy}, Roles.{role_of, in_header, header_only}}
@@ -32,16 +32,13 @@ other l h = elim (cases_Bool (in_header l)) [
   | inr e ↦ e
 ]
 
+pub no_header : (found : Option Line) → is_some found ≡ false → found ≡ None
+no_header None h = refl
+no_header (Some l) h = absurd (false≢true (sym h))
+
 pub not_header : (found : Option Line) → header_only found ≡ None → option_map_or is_policy found false ≡ false
 not_header None h = refl
 not_header (Some l) h = (tells_nothing l (other l h)).policy
-
-pub in_it : (found : Option Line) (l : Line) → header_only found ≡ Some l → found ≡ Some l
-in_it None l h = absurd (none-some l h)
-in_it (Some x) l h = elim (cases_Bool (in_header x)) [
-  | inl e ↦ rw e at h
-  | inr e ↦ absurd (none-some l (rw e at h))
-]
 
 -- ---- line after line
 here : (lines : List Line) (i : ℕ) (x : Line) → i < length lines → slice_get lines i ≡ Some x → take (i + 1) lines ≡ take i lines ++ x ∷ []

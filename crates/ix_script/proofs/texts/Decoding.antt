@@ -1,8 +1,8 @@
 -- Decoding pairs of digits, each at its place.
 use Rattle.std.proofs.Common.{◌≡◌, ℕ, zero, suc, ◌+◌, ◌*◌, ◌<◌, ◌≤◌, List, [], ◌∷◌, ◌++◌, length, take, drop, set, get_or, unwrap_or, Option, Some}
 use Rattle.std.proofs.Common.{None, refl, sym, ◌∙◌, ap, add-zero, drop-drop, subst, append_assoc, arith}
-use Rattle.std.{specs.{Prelude.IsSome, Simd.first_chunks}, proofs.lemmas.List.{take_more_set, length-set, get_or-take, get_or-drop}}
-use Rattle.ix_script.specs.texts.Payloads.{◌>>=◌, pair_of, pairs_of, after_bytes}
+use Rattle.std.{specs.{Prelude.IsSome, Simd.first_chunks}, proofs.lemmas.List.{append-nil, drop_all, take_more_set, length-set, get_or-take, get_or-drop}}
+use Rattle.ix_script.specs.texts.Payloads.{◌>>=◌, digit_of, pair_of, pairs_of, after_bytes}
 
 -- the bytes that pairs spell
 abbrev pub bytes_at : ℕ → List ℕ → List ℕ
@@ -68,6 +68,10 @@ two_at text (suc k) (suc i) low =
     let place : 2 + 2 * i ≡ 2 * suc i = omega arith in
     two_at _ k i (omega arith) ∙ ap (take 2) (drop-drop _ 2 text ∙ ap (λ n. drop n text) place)
 
+pub chunk_count : (k : ℕ) (text : List ℕ) → length (first_chunks 2 k text) ≡ k
+chunk_count zero text = refl
+chunk_count (suc k) text = ap (λ n. suc n) (chunk_count k (drop 2 text))
+
 -- the digits of byte i, by chunks of two
 pub chunk_pair : (text : List ℕ) (k i : ℕ) → i < k → pair_of (get_or (get_or (first_chunks 2 k text) i []) 0 0) (get_or (get_or (first_chunks 2 k text) i []) 1 0)
     ≡ pair_of (get_or text (2 * i) 0) (get_or text (2 * i + 1) 0)
@@ -76,6 +80,25 @@ chunk_pair text k i low =
     let first = get_or-take 2 from 0 0 (omega arith) ∙ get_or-drop _ text 0 0 ∙ ap (λ n. get_or text n 0) (add-zero _) in
     let second = get_or-take 2 from 1 0 (omega arith) ∙ get_or-drop (2 * i) text 1 0 in
     rw (two_at text k i low, first, second) refl
+
+-- ---- by the values of digits
+both_there : (high low : Option ℕ) → IsSome (high >>= λ n. low >>= λ m. Some (n * 16 + m)) → IsSome high × IsSome low
+both_there None low h = let k = h in absurd (cc)
+both_there (Some n) None h = let k = h in absurd (cc)
+both_there (Some n) (Some m) h = (refl, refl)
+
+both_digits : (a b : ℕ) → IsSome (pair_of a b) → IsSome (digit_of a) × IsSome (digit_of b)
+unfolding pair_of
+both_digits a b h = both_there (digit_of a) (digit_of b) h
+
+-- so are those of byte i
+pub chunk_digits : (text : List ℕ) (k i : ℕ) → i < k → 2 * i + 2 ≤ length text → IsSome (pairs_of (drop (2 * i) text))
+    → IsSome (digit_of (get_or (get_or (first_chunks 2 k text) i []) 0 0)) × IsSome (digit_of (get_or (get_or (first_chunks 2 k text) i []) 1 0))
+chunk_digits text k i low room some = both_digits _ _ (subst (λ o. IsSome o) (sym (chunk_pair text k i low)) (digits_at (2 * i) text room some))
+
+pub by_digits : (a b high low : ℕ) → digit_of a ≡ Some high → digit_of b ≡ Some low → pair_of a b ≡ Some (high * 16 + low)
+unfolding pair_of
+by_digits a b high low h l = rw (h, l) refl
 
 -- ---- the loop
 -- i bytes are in the buffer, and what is left spells the others
@@ -101,3 +124,12 @@ more text buf i count n byte h room e d =
           ∙ (append_assoc (take i _) (byte ∷ []) (bytes_at (2 * i + 2) text) ∙ (ap (λ bs. take i buf ++ bs) (sym next.1) ∙ d.front)));
       len = length-set buf i byte ∙ d.len;
     }
+
+pub all_there : (text buf : List ℕ) (i count n : ℕ) → IsSome (pairs_of text) → count ≤ i → i ≤ count → Decoded text buf i count n
+    → take (length (unwrap_or (pairs_of text) [])) buf ≡ unwrap_or (pairs_of text) []
+unfolding pairs_of
+all_there text buf i count n h past within d =
+    let none : drop (2 * i) text ≡ [] = drop_all (2 * i) text (omega (arith, d.twice, past)) in
+    let whole : take i buf ≡ unwrap_or (pairs_of text) [] = sym (append-nil (take i buf)) ∙ ap (λ rest. take i buf ++ unwrap_or (pairs_of rest) []) (sym none) ∙ d.front in
+    let len : length (unwrap_or (pairs_of text) []) ≡ i = omega (arith, pairs_twice text h, d.twice, past, within) in
+    ap (λ k. take k buf) len ∙ whole

@@ -1,5 +1,6 @@
 -- What may stand at the places of a line, as the reader has it.
-use Rattle.std.specs.Prelude.{ℕ, Bool, true, false, List, [], ◌∷◌, Option, Some, None, min}
+use Rattle.std.specs.Prelude.{ℕ, ◌+◌, ◌%◌, List, [], ◌∷◌, length, min, Option, Some, None}
+use Rattle.std.proofs.Common.{option_map}
 use Rattle.std.specs.Option.{IsSome}
 use Rattle.ix_label.specs.declared.form.Form as spelled
 use Rattle.ix_text.specs.Labels.{label_in}
@@ -10,6 +11,7 @@ use Rattle.ix_script.specs.texts.Words.{number_of, path_of, made_path_of, mode_o
 use Rattle.ix_script.specs.lines.Kinds.{Kind, Place, bounds}
 use Rattle.ix_script.specs.lines.Kinds as kind
 use Rattle.ix_script.specs.lines.Said.{payload_within}
+use Rattle.ix_model.specs.history.Cost.{cost_of_path}
 use Rattle.ix_script.specs.declared.form.Kind as made
 use Rattle.ix_script.specs.declared.form.Kind.TheVariants as has
 use Rattle.ix_script.specs.declared.form.Form.{Form}
@@ -66,12 +68,30 @@ abbrev pub Stand : List Place → Type 0
 Stand [] = Unit {0}
 Stand (p ∷ places) = Stands p.0 p.1 × Stand places
 
--- commands that cost an entry and give no name: those of a process alone, those of a descriptor that no server serves, and those
--- with a number besides
-abbrev pub is_entry : Form → Bool
-is_entry (form.Plain c) = true
-is_entry (form.Counted c) = true
-is_entry (form.OnFd on_fd.Close) = true
-is_entry (form.OnFd on_fd.Pex) = true
-is_entry (form.OnFd on_fd.Unpex) = true
-is_entry _ = false
+-- the place of a word's first letter among the letters, from 1 on
+abbrev pub letter : List ℕ → ℕ
+letter [] = 0
+letter (b ∷ word) = b % 32
+
+-- what a command costs that names this path
+abbrev pub path_cost : List ℕ → Option ℕ
+path_cost word = option_map (λ path. 128 + cost_of_path path) (path_of word)
+
+-- what a command costs, by its words, where it is known to give no name and to be no server's
+abbrev pub command_cost : Form → List (List ℕ) → Option ℕ
+command_cost (form.Plain c) words = Some 128
+command_cost (form.Counted c) words = Some 128
+command_cost form.Exit words = Some 128
+command_cost form.Setself words = Some 128
+command_cost form.Droplic words = Some 128
+command_cost form.Grant words = Some 128
+command_cost form.Ceiling words = Some 128
+command_cost form.Readlog words = Some 128
+command_cost (form.OnFd on_fd.Close) words = Some 128
+command_cost (form.OnFd on_fd.Pex) words = Some 128
+command_cost (form.OnFd on_fd.Unpex) words = Some 128
+command_cost (form.OnPath c) words = path_cost (word_at words 2)
+command_cost form.List words = path_cost (word_at words 2)
+command_cost form.Setlabel words = path_cost (word_at words 2)
+command_cost form.Write words = option_map (λ bytes. 128 + length bytes) (payload_within 4096 (word_at words 3))
+command_cost _ words = None

@@ -1,6 +1,6 @@
 -- What the reader keeps of the lines before.
 use Rattle.std.specs.Prelude.{◌≡◌, ℕ, ◌+◌, ◌^◌, ◌<◌, ◌≤◌, ◌==◌, nat_lt, Bool, true, ◌&&◌, List, [], ◌∷◌, ◌++◌, length, take, drop, codes, slice_index, if◌then◌else◌}
-use Rattle.std.specs.List.{list_any, slice_index_or}
+use Rattle.std.specs.List.{list_any, list_all, slice_index_or}
 use Rattle.std.proofs.Common.{option_map}
 use Rattle.ix_model.specs.rows.Telling.{blocks_for}
 use Rattle.ix_model.specs.world.Naming.{same_bytes}
@@ -54,6 +54,7 @@ pub record BodyTold (b : Body) (lines : List Line) : Type 0 where
   pub within : b.in_order ≤ length b.lanes
   pub phase_lanes : phase_lanes_in b ≡ phase_lanes lines
   pub lanes : b.lanes ≡ lanes_of lines
+  pub named : list_all is_script_name b.lanes ≡ true
   pub fds : AreIndexed b.fds (fds_given lines)
   pub procs : AreIndexed b.procs (procs_given lines)
   pub commands : b.commands ≡ commands lines
@@ -102,6 +103,5 @@ pub record CanGrow (d : Draft) (text : List ℕ) : Type 0 where
 pub record IsNextLane (d : Draft) (text : List ℕ) : Type 0 where
   pub started : d.body.started ≡ true
   pub begins : take 5 text ≡ codes "lane "
-  pub named : is_script_name (drop 5 text) ≡ true
   pub next : is_next d.body (drop 5 text) ≡ true
   pub few : d.body.in_order + 1 < 2 ^ 64

@@ -174,7 +174,7 @@ entries-init c = record {
     k.1.1.1.1.1.1.1.1.1.1.1.1.1.1.1.1.1.1.1.1.1.1.1.1.1.1.1.1.1.1.1.1.1.1.1.1.1.1.1.1.1.1.1.0,
     k.1.1.1.1.1.1.1.1.1.1.1.1.1.1.1.1.1.1.1.1.1.1.1.1.1.1.1.1.1.1.1.1.1.1.1.1.1.1.1.1.1.1.1.1.0,
   ) refl;
-  so_far = of_others _ _ _ (rw c.min.ensures (before (length c.args.word.now)));
+  so_far = of_others _ _ _ (rw c.letter.ensures.place (before c.args.word.now));
 }
 
 pub returns-then-is : goal.returns-then-is

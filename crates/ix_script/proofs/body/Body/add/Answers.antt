@@ -10,7 +10,7 @@ returns-in-Phase c = λ lines told.
     let x = c.args.line.now in
     let b = c.args.self.now in
     let at = option_map (λ s. s.now) b.lane in
-    body_next b _ _ x told (rw c.in-Phase.is (sym (or_true _))) (rw c.in-Phase.is refl) (omega arith) (rw c.in-Phase.is c.new.ensures) (rw c.in-Phase.is refl)
+    body_next b _ _ x told (rw c.in-Phase.is (sym (or_true _))) (rw c.in-Phase.is refl) (omega arith) told.named (rw c.in-Phase.is c.new.ensures) (rw c.in-Phase.is refl)
     (λ items h. no_more b.fds items (items ++ in_lane at (new_fds x)) at (new_fds x) (rw c.in-Phase.is refl) refl h)
     (λ items h. no_more b.procs items (items ++ in_lane at (new_procs x)) at (new_procs x) (rw c.in-Phase.is refl) refl h)
     (one_counted _ _ _ _ c.from.ensures c.is_command.ensures)
@@ -20,7 +20,7 @@ returns-in-Open c =
     let x = c.args.line.now in
     let b = c.args.self.now in
     let at = option_map (λ s. s.now) b.lane in
-    on_ok c.add_any.result (λ given lines told. body_next b _ lines x told (rw c.in-Open.is (sym (or_false b.started))) (rw c.in-Open.is refl) told.within (rw c.in-Open.is refl) (rw c.in-Open.is refl)
+    on_ok c.add_any.result (λ given lines told. body_next b _ lines x told (rw c.in-Open.is (sym (or_false b.started))) (rw c.in-Open.is refl) told.within told.named (rw c.in-Open.is refl) (rw c.in-Open.is refl)
     (λ items h. rw c.in-Open.is (given items h)) (λ items h. no_more b.procs items (items ++ in_lane at (new_procs x)) at (new_procs x) (rw c.in-Open.is refl) refl h)
     (one_counted _ _ _ _ c.from.ensures c.is_command.ensures)) c.add_any.ensures
 
@@ -29,7 +29,7 @@ returns-in-Dup c =
     let x = c.args.line.now in
     let b = c.args.self.now in
     let at = option_map (λ s. s.now) b.lane in
-    on_ok c.add_any-in-Dup.result (λ given lines told. body_next b _ lines x told (rw c.in-Dup.is (sym (or_false b.started))) (rw c.in-Dup.is refl) told.within
+    on_ok c.add_any-in-Dup.result (λ given lines told. body_next b _ lines x told (rw c.in-Dup.is (sym (or_false b.started))) (rw c.in-Dup.is refl) told.within told.named
     (rw c.in-Dup.is refl) (rw c.in-Dup.is refl)
     (λ items h. rw c.in-Dup.is (given items h)) (λ items h. no_more b.procs items (items ++ in_lane at (new_procs x)) at (new_procs x) (rw c.in-Dup.is refl) refl h)
     (one_counted _ _ _ _ c.from.ensures c.is_command.ensures)) c.add_any-in-Dup.ensures
@@ -42,7 +42,7 @@ returns-in_ok-add-in-Some c =
     let first = c.in-Some.first in
     let second = c.in-Some.second in
     let is = c.in-Pipe.is ∙ ap (line.Pipe c.in-Pipe.proc) c.in-Some.is in
-    on_ok c.add-in-Some.result (λ given lines told. body_next b _ lines x told (rw is (sym (or_false b.started))) (rw is refl) told.within (rw is refl) (rw is refl)
+    on_ok c.add-in-Some.result (λ given lines told. body_next b _ lines x told (rw is (sym (or_false b.started))) (rw is refl) told.within told.named (rw is refl) (rw is refl)
     (λ items h. rw is (subst (λ xs. AreIndexed c.add-in-Some.new.self xs) (two_in_lane _ at _ _)
     (given (items ++ in_lane at (first ∷ [])) (c.in_ok-add-in-Some.ensures items h))))
     (λ items h. no_more b.procs items (items ++ in_lane at (new_procs x)) at (new_procs x) (rw is refl) refl h)
@@ -54,7 +54,7 @@ returns-in-None c = λ lines told.
     let b = c.args.self.now in
     let at = option_map (λ s. s.now) b.lane in
     let is = c.in-Pipe.is ∙ ap (line.Pipe c.in-Pipe.proc) c.in-None.is in
-    body_next b _ _ x told (rw is (sym (or_false _))) (rw is refl) told.within (rw is refl) (rw is refl)
+    body_next b _ _ x told (rw is (sym (or_false _))) (rw is refl) told.within told.named (rw is refl) (rw is refl)
     (λ items h. no_more b.fds items (items ++ in_lane at (new_fds x)) at (new_fds x) (rw is refl) refl h)
     (λ items h. no_more b.procs items (items ++ in_lane at (new_procs x)) at (new_procs x) (rw is refl) refl h)
     (one_counted _ _ _ _ c.from.ensures c.is_command.ensures)
@@ -64,7 +64,7 @@ returns-in-Fork c =
     let x = c.args.line.now in
     let b = c.args.self.now in
     let at = option_map (λ s. s.now) b.lane in
-    on_ok c.add_any-in-Fork.result (λ given lines told. body_next b _ lines x told (rw c.in-Fork.is (sym (or_false b.started))) (rw c.in-Fork.is refl) told.within
+    on_ok c.add_any-in-Fork.result (λ given lines told. body_next b _ lines x told (rw c.in-Fork.is (sym (or_false b.started))) (rw c.in-Fork.is refl) told.within told.named
     (rw c.in-Fork.is refl) (rw c.in-Fork.is refl)
     (λ items h. no_more b.fds items (items ++ in_lane at (new_fds x)) at (new_fds x) (rw c.in-Fork.is refl) refl h) (λ items h. rw c.in-Fork.is (given items h))
     (one_counted _ _ _ _ c.from.ensures c.is_command.ensures)) c.add_any-in-Fork.ensures
@@ -75,7 +75,7 @@ returns-in-Login c =
     let b = c.args.self.now in
     let at = option_map (λ s. s.now) b.lane in
     on_ok c.add_any-in-Login.result (λ given lines told. body_next b _ lines x told (rw c.in-Login.is (sym (or_false b.started)))
-    (rw c.in-Login.is refl) told.within (rw c.in-Login.is refl) (rw c.in-Login.is refl)
+    (rw c.in-Login.is refl) told.within told.named (rw c.in-Login.is refl) (rw c.in-Login.is refl)
     (λ items h. no_more b.fds items (items ++ in_lane at (new_fds x)) at (new_fds x) (rw c.in-Login.is refl) refl h) (λ items h. rw c.in-Login.is (given items h))
     (one_counted _ _ _ _ c.from.ensures c.is_command.ensures)) c.add_any-in-Login.ensures
 
@@ -83,22 +83,22 @@ pub returns-then-is_next : goal.returns-then-is_next
 returns-then-is_next c = λ lines told.
     let b = c.args.self.now in
     let name = c.in-Lane.name in
-    let known = c.in_ok-add_name-in-Lane.ensures in
+    let known = c.in_ok-add_name-in-Lane.ensures.lanes in
     let next =
     comes_next _ _ _ _ (rw c.as_bytes-in-Lane.ensures at (sym c.is_next.ensures.next ∙ c.if-is_next.true)) in
-    rw c.in-Lane.is (lane_added b _ _ _ told refl (ap (λ n. Some n) c.as_bytes.ensures) known (next_more _ _ _ _ _ known told.within next) refl refl
+    rw c.in-Lane.is (lane_added b _ _ _ told refl (ap (λ n. Some n) c.as_bytes.ensures) known (c.in_ok-add_name-in-Lane.ensures.named told.named) (next_more _ _ _ _ _ known told.within next) refl refl
     (one_counted _ _ _ _ c.from.ensures (c.is_command.ensures ∙ ap is_command c.in-Lane.is)))
 
 pub returns-else-is_next : goal.returns-else-is_next
 returns-else-is_next c =
     let b = c.args.self.now in
     let name = c.in-Lane.name in
-    let known = c.in_ok-add_name-in-Lane.ensures in
+    let known = c.in_ok-add_name-in-Lane.ensures.lanes in
     on_ok c.push.result (λ pushed lines told.
     let others = pushed ∙ ap (λ n. b.others ++ n ∷ []) c.name.ensures in
     let more =
     subst (λ os. OneMore b.in_order c.add_name.new.lanes os (phase_lanes_in b) name) (sym others) (other_more _ _ _ _ _ known told.within) in
-    rw c.in-Lane.is (lane_added b _ _ _ told refl (ap (λ n. Some n) c.as_bytes.ensures) known more refl refl
+    rw c.in-Lane.is (lane_added b _ _ _ told refl (ap (λ n. Some n) c.as_bytes.ensures) known (c.in_ok-add_name-in-Lane.ensures.named told.named) more refl refl
     (one_counted _ _ _ _ c.from.ensures (c.is_command.ensures ∙ ap is_command c.in-Lane.is)))) c.push.ensures.ok
 
 pub returns-in_default : goal.returns-in_default
@@ -107,6 +107,6 @@ returns-in_default c = λ lines told.
     let b = c.args.self.now in
     let at = option_map (λ s. s.now) b.lane in
     let s = still x c.in_default.not-Phase c.in_default.not-Lane c.in_default.not-Open c.in_default.not-Dup c.in_default.not-Pipe c.in_default.not-Fork c.in_default.not-Login in
-    body_next b _ _ x told (rw s.phase (sym (or_false _))) (sym (s.lane at)) told.within (sym (s.phase_lanes _)) (sym (s.lanes b.lanes))
+    body_next b _ _ x told (rw s.phase (sym (or_false _))) (sym (s.lane at)) told.within told.named (sym (s.phase_lanes _)) (sym (s.lanes b.lanes))
     (λ items h. no_more b.fds _ _ at _ s.fds refl h) (λ items h. no_more b.procs _ _ at _ s.procs refl h)
     (one_counted _ _ _ _ c.from.ensures c.is_command.ensures)

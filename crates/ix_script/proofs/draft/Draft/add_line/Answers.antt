@@ -2,8 +2,8 @@ use Rattle.std.{proofs.Common.{◌≡◌, List, ℕ, Option, None, Some, false, 
 use Rattle.ix_text.specs.Bytes.{is_empty}
 use Rattle.ix_script.specs.{texts.Cutting.{words_of, is_skipped, is_policy_line}, declared.{form.Form.Form, line.Line.Line}}
 use Rattle.ix_script.specs.lines.{Before.form_told, Faults.{said_fault, command_fault}}
-use Rattle.ix_script.specs.reader.Readers.{FormRight, IsFormed}
-use Rattle.ix_script.proofs.{lines.Deciding.{some_lines, text_broken, by_words, said_by_form, said_is}, reader.Commands.entry_said}
+use Rattle.ix_script.specs.{lines.Forms.places, reader.{Placing.{Stand, command_cost}, Readers.{FormRight, IsFormed}}}
+use Rattle.ix_script.proofs.{lines.Deciding.{some_lines, text_broken, by_words, said_by_form, said_is}, lines.Readings.stand, reader.Commands.command_said}
 use Rattle.ix_script.proofs.draft.Draft.add_line.Goals as goal
 
 pub returns-in-Err-clause-fail : goal.returns-in-Err-clause-fail
@@ -17,7 +17,8 @@ add_command-requires-clause-plain g c =
     let not_skipped : is_skipped text ≡ false = sym c.is_skipped.ensures ∙ c.if-is_skipped.false in
     let no_policy : is_policy_line text ≡ false = sym c.is_policy_line.ensures ∙ c.if-is_policy_line.false in
     let right : FormRight before c.in-Ok.form (words_of text) = rw c.cut.ensures at c.in-Ok.ensures in
-    let e = entry_said (form_told before) c.in-Ok.form (words_of text) (sym c.is_entry.ensures ∙ c.if-is_entry.true) right.faultless in
+    let cost : command_cost c.in-Ok.form (words_of text) ≡ Some c.in-Some.cost = ap (command_cost c.in-Ok.form) (sym c.cut.ensures) ∙ sym c.command_cost.ensures ∙ c.in-Some.is in
+    let e = command_said (form_told before) c.in-Ok.form (words_of text) c.in-Some.cost cost right.faultless in
     record {
       line = e.line;
       meant = said_by_form (form_told before) text c.in-Ok.form e.line not_skipped no_policy right.first e.says;
@@ -25,6 +26,11 @@ add_command-requires-clause-plain g c =
       is_command = e.is_command;
       costs = e.costs;
     }
+
+pub command_cost-requires : goal.command_cost-requires
+command_cost-requires g c =
+    let right : FormRight c.args.self.now.lines.said c.in-Ok.form c.cut.new.self = c.in-Ok.ensures in
+    stand (places (form_told c.args.self.now.lines.said) c.in-Ok.form c.cut.new.self) right.faultless
 
 pub returns-in-Err-form_by_words-clause-fail : goal.returns-in-Err-form_by_words-clause-fail
 returns-in-Err-form_by_words-clause-fail g c =

@@ -54,6 +54,6 @@ returns-clause-told c =
     let lines : c.push.new.self ≡ with_line d.lines lane c.args.text.now = pushed ∙ ap (λ (l : Line). with_line d.lines l c.args.text.now) is in
     rw lines record {
       header = header_quiet d.header _ d.lines.said lane (lane_behind name) c.requires.later c.requires.grows.told.header c.requires.grows.valid right.fits (rw c.max-self.ensures refl);
-      body = lane_added d.body _ name d.lines.said c.requires.grows.told.body refl (ap (λ (n : List ℕ). Some n) c.split_at.ensures.back) same
+      body = lane_added d.body _ name d.lines.said c.requires.grows.told.body refl (ap (λ (n : List ℕ). Some n) c.split_at.ensures.back) same c.requires.grows.told.body.named
           (next_more d.body.in_order d.body.lanes d.body.others d.body.lanes name same c.requires.grows.told.body.within next) refl refl refl;
     }) c.push.ensures

@@ -1,15 +1,21 @@
-use Rattle.std.proofs.Common.{◌<◌, length, sym, ◌∙◌, take, arith}
-use Rattle.ix_script.proofs.{reader.Planning.{in_it, plan_more, plan_same, plan_all}, plan.Plan.of.Goals.{in-Some+in_ok-add, in_default}}
+use Rattle.std.proofs.Common.{◌<◌, length, sym, ap, ◌∙◌, take, arith}
+use Rattle.ix_script.specs.lines.Roles.{header_only}
+use Rattle.ix_script.proofs.{reader.Planning.{no_header, plan_more, plan_same, plan_all}, plan.Plan.of.Goals.{in-Some+in_ok-add, in_default}}
 use Rattle.ix_script.proofs.plan.Plan.of.Goals as goal
+
+pub lines-preserved-then-not-is_header : goal.lines-preserved-then-not-is_header
+lines-preserved-then-not-is_header c =
+    let low : c.lines.index < length c.args.lines.now.said = omega (arith, c.lines-test.true, c.len-index-end.ensures) in
+    plan_same c.args.lines.now.said c.lines.index c.lines.plan low (no_header _ (sym c.is_header.ensures ∙ c.if-not-is_header.true)) c.lines.invariant
 
 pub lines-preserved : goal.lines-preserved
 lines-preserved c =
     let low : c.lines.index < length c.args.lines.now.said = omega (arith, c.lines-test.true, c.len-index-end.ensures) in
-    elim c.match-header_line.branch [
+    elim c.match-get.branch [
       | in-Some+in_ok-add w ↦
-          rw w.plan-is (plan_more c.args.lines.now.said c.lines.index w.in-Some.line w.add.new.self low (in_it _ w.in-Some.line (sym c.header_line.ensures ∙ w.in-Some.is))
+          rw w.plan-is (plan_more c.args.lines.now.said c.lines.index w.in-Some.line w.add.new.self low (sym c.get.ensures ∙ w.in-Some.is)
           (w.in_ok-add.ensures (take c.lines.index c.args.lines.now.said) c.lines.invariant))
-      | in_default w ↦ rw w.plan-is (plan_same c.args.lines.now.said c.lines.index c.lines.plan low (sym c.header_line.ensures ∙ w.in_default.is) c.lines.invariant)
+      | in_default w ↦ rw w.plan-is (plan_same c.args.lines.now.said c.lines.index c.lines.plan low (ap header_only (sym c.get.ensures ∙ w.in_default.is)) c.lines.invariant)
     ]
 
 pub returns : goal.returns
