@@ -1,4 +1,4 @@
-use Rattle.std.proofs.Common.{length, arith, refl, sym, ◌∙◌}
+use Rattle.std.proofs.Common.{arith, refl, sym, ◌∙◌}
 use Rattle.ix_script.specs.lines.Forms.{plain_of, on_path_of, on_fd_of, counted_of, frame_form, group_form, file_form, process_form, form_of}
 use Rattle.ix_script.proofs.lines.FormTable.{before, found, goes_on, not_any, of_others}
 use Rattle.ix_script.proofs.form.form_of.Goals as goal

@@ -2,7 +2,7 @@ use Rattle.std.{proofs.Common.{◌≡◌, List, ℕ, Option, None, Some, false, 
 use Rattle.ix_text.specs.Bytes.{is_empty}
 use Rattle.ix_script.specs.{texts.Cutting.{words_of, is_skipped, is_policy_line}, declared.{form.Form.Form, line.Line.Line}}
 use Rattle.ix_script.specs.lines.{Before.form_told, Faults.{said_fault, command_fault}}
-use Rattle.ix_script.specs.{lines.Forms.places, reader.{Placing.{Stand, command_cost}, Readers.{FormRight, IsFormed}}}
+use Rattle.ix_script.specs.{lines.Forms.places, reader.{Placing.command_cost, Readers.{FormRight, IsFormed}}}
 use Rattle.ix_script.proofs.{lines.Deciding.{some_lines, text_broken, by_words, said_by_form, said_is}, lines.Readings.stand, reader.Commands.command_said}
 use Rattle.ix_script.proofs.draft.Draft.add_line.Goals as goal
 
