@@ -1,5 +1,5 @@
-ghost use Rattle.{std.specs.{Prelude.{◌≡◌, ◌++◌, ◌∷◌, ◌+◌, ◌<◌, ◌≤◌, ◌^◌, [], true, List, length, IsTrue, OnOk, if◌then◌else◌}, List.{list_all}}, ix_text.specs.Names.{is_script_name}};
-ghost use Rattle.ix_script.specs.{declared.line.Line.{Line}, lines.Before.{is_known, is_command}, reader.Told.{BodyTold, is_next, phase_lanes_in}};
+ghost use Rattle.std.specs.{Prelude.{◌≡◌, ◌++◌, ◌∷◌, ◌+◌, ◌<◌, ◌≤◌, ◌^◌, [], true, List, length, IsTrue, OnOk, if◌then◌else◌}, List.{list_all}};
+ghost use Rattle.{ix_text.specs.Names.{is_script_name}, ix_script.specs.{declared.line.Line.{Line}, lines.Before.{is_known, is_command}, reader.Told.{BodyTold, is_next, phase_lanes_in}}};
 
 use crate::index::Given;
 use crate::line::Line;
