@@ -1,4 +1,5 @@
-ghost use Rattle.{std.specs.Prelude.{◌≡◌, Some}, ix_script.specs.{lines.RuleTexts.{rule_text}, reader.Readers.{HasCause}}};
+ghost use Rattle.std.specs.Prelude.{◌≡◌, Some};
+ghost use Rattle.ix_script.specs.{lines.RuleTexts.{rule_text}, reader.Readers.{HasCause}};
 ghost use Rattle.ix_script.specs.declared.fail.ReadFail.TheVariants as fail;
 
 use ix_model::NoMemory;

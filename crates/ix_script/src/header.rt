@@ -1,7 +1,6 @@
 ghost use Rattle.std.specs.Prelude.{◌≡◌, ℕ, ◌<◌, ◌+◌, ◌^◌, slice_index, ◌==◌, if◌then◌else◌, ◌++◌, ◌∷◌, ◌≤◌, [], true, None, List, length, false, OnOk, IfOk};
 ghost use Rattle.ix_script.specs.{declared.line.Line.{Line}, lines.Before.{form_by, fs_told, default_fs, default_limits, limits_after, object_told, group}};
-ghost use Rattle.ix_script.specs.{lines.Faults.{said_fault}, reader.Told.{HeaderTold, Takes, fss_after}, scripts.Scripts.{config_of}};
-ghost use Rattle.{std.specs.Option.{option_map_or}, ix_model.specs.opening.Valid.{is_valid}, ix_text.specs.Bytes.{is_empty}};
+ghost use Rattle.{std.specs.Option.{option_map_or}, ix_model.specs.opening.Valid.{is_valid}, ix_text.specs.Bytes.{is_empty}, ix_script.specs.{lines.Faults.{said_fault}, reader.Told.{HeaderTold, Takes, fss_after}, scripts.Scripts.{config_of}}};
 
 use crate::index::{Names, Tree};
 use crate::line::{Line, What};

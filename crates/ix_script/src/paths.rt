@@ -1,5 +1,5 @@
-ghost use Rattle.{std.specs.{Prelude.{◌≡◌, Some, IsSome, is_some}, List.{list_all}}, ix_model.specs.world.Paths.{path_of}, ix_text.specs.Bytes.{begins}};
-ghost use Rattle.ix_script.specs.texts.Words.{may_stand_in_path, is_path_word, made_path_of, names_text};
+ghost use Rattle.std.specs.{Prelude.{◌≡◌, Some, IsSome, is_some}, List.{list_all}};
+ghost use Rattle.{ix_model.specs.world.Paths.{path_of}, ix_text.specs.Bytes.{begins}, ix_script.specs.texts.Words.{may_stand_in_path, is_path_word, made_path_of, names_text}};
 ghost use Rattle.ix_script.specs.texts.Words as words;
 
 use ix_model::Path;
