@@ -1,9 +1,8 @@
 -- What writes and cuts leave, step by step.
-use Rattle.std.proofs.Common.{◌≡◌, ℕ, ◌+◌, ◌-◌, ◌<◌, ◌≤◌, Bool, true, false, Ok, Err, if◌then◌else◌, List, [], ◌++◌, length, take, drop, replicate, refl, sym}
-use Rattle.std.proofs.Common.{ap, ◌∙◌, arith, append_assoc, append-nil, length-append, inl, inr}
-use Rattle.std.proofs.{lemmas.List.{get_or-set_same, set-set, take_all, drop_all, take-append-le, take-replicate, length-replicate}, Math.Seq.take-append-add}
-use Rattle.std.proofs.{lemmas.Bool.{cases_lt, lt-leb}, lemmas.Bool.Decides.nat_tests}
-use Rattle.ix_model.specs.{world.Contents.{grown, spliced}, rows.Telling.{blocks_for, length_then}}
+use Rattle.std.proofs.Common.{◌≡◌, ℕ, ◌+◌, ◌-◌, ◌<◌, ◌≤◌, Bool, true, false, Ok, Err, if◌then◌else◌, List, [], ◌++◌, length, take, drop, replicate, refl, sym, ap, ◌∙◌, arith, append_assoc}
+use Rattle.std.proofs.{Common.{append-nil, length-append, inl, inr}, Math.Seq.take-append-add, lemmas.{Bool.{cases_lt, lt-leb, Decides.nat_tests}, List.{get_or-set_same, set-set}}}
+use Rattle.std.proofs.lemmas.List.{take_all, drop_all, take-append-le, take-replicate, length-replicate}
+use Rattle.ix_model.specs.{rows.Telling.{blocks_for, length_then}, world.Contents.{grown, spliced}}
 use Rattle.ix_blocks.specs.Files.{Files, used, bytes_of, with_bytes, laid_over, has_room}
 
 -- a file of other bytes twice
@@ -27,14 +26,12 @@ front-grown place n xs less =
     let zs : List ℕ = replicate (n - length xs) 0 in
     elim (cases_lt (length xs) place) [
       | inl short ↦
-          (let all : length xs + (place - length xs) ≡ place = omega (arith, short) in
-          ap (λ i. take i (xs ++ zs)) (sym all)
-          ∙ take-append-add xs zs (place - length xs)
+          (ap (λ i. take i (xs ++ zs)) (sym (omega (arith, short))) ∙ take-append-add xs zs (place - length xs)
           ∙ ap (λ t. xs ++ t) (take-replicate {X = ℕ} (place - length xs) (n - length xs) 0 (omega (arith, less)))
           ∙ ap (λ t. t ++ replicate (place - length xs) 0) (sym (take_all place xs (omega (arith, short)))))
       | inr long ↦
           (let none : 0 ≡ place - length xs = omega (arith, long) in
-          take-append-le place xs zs long ∙ sym (append-nil (take place xs)) ∙ ap (λ i. take place xs ++ replicate i 0) none)
+          take-append-le place xs zs long ∙ sym (append-nil (take _ xs)) ∙ ap (λ i. take place xs ++ replicate i 0) none)
     ]
 
 past-grown : (n : ℕ) (xs : List ℕ) → drop n (grown n xs) ≡ drop n xs
@@ -48,12 +45,11 @@ past-grown n xs = elim (cases_lt (length xs) n) [
 -- a write is laid over the file that was grown to its end
 laid-grown : (place : ℕ) (new old : List ℕ) → 0 < length new → laid_over place new (grown (place + length new) old) ≡ spliced place new old
 laid-grown place new old some =
-    let gap : List ℕ = replicate (place - length old) 0 in
+    let gap = replicate (place - length old) 0 in
     let behind = drop (place + length new) old in
     ap (λ t. t ++ (new ++ drop (place + length new) (grown (place + length new) old))) (front-grown place (place + length new) old (omega arith))
-    ∙ ap (λ t. (take place old ++ gap) ++ (new ++ t)) (past-grown (place + length new) old)
-    ∙ append_assoc (take place old) gap (new ++ behind)
-    ∙ ap (λ b. if b then old else take place old ++ (gap ++ (new ++ behind))) (sym (lt-leb (length new) 0 some))
+    ∙ ap (λ t. (take place old ++ gap) ++ (new ++ t)) (past-grown (place + length new) old) ∙ append_assoc (take _ _) gap (new ++ behind)
+    ∙ ap (λ b. if b then old else take place old ++ (gap ++ (new ++ behind))) (sym (lt-leb _ 0 some))
 
 -- the answer is Ok where a test passes alone
 pub ok_only : {A E : Type 0} (b : Bool) (x y : A) (e : E) → Ok x ≡ (if b then Ok y else Err e) → b ≡ true
@@ -68,7 +64,5 @@ pub written : (f place : ℕ) (new : List ℕ) (v u t : Files) → f < length v.
     → t ≡ (if has_room f (length_then place (length new) (length (bytes_of f v))) v then with_bytes f (spliced place new (bytes_of f v)) v else v)
 written f place new v u t low some room is_u is_t =
     let xs = grown (place + length new) (bytes_of f v) in
-    rw (room_then f place (length new) v room)
-    (is_t ∙ ap (λ x. with_bytes f (laid_over place new (bytes_of f x)) x) (is_u ∙ ap (λ b. if b then with_bytes f xs v else v) room)
-    ∙ twice_bytes f v xs (laid_over place new (bytes_of f (with_bytes f xs v)))
-    ∙ ap (λ ys. with_bytes f ys v) (ap (laid_over place new) (bytes-with_bytes f v xs low) ∙ laid-grown place new (bytes_of f v) some))
+    rw (room_then) (is_t ∙ ap (λ x. with_bytes f (laid_over place new (bytes_of f x)) x) (is_u ∙ ap (λ b. if b then with_bytes f xs v else v) room)
+    ∙ twice_bytes f v xs _ ∙ ap (λ ys. with_bytes f ys v) (ap (laid_over place new) (bytes-with_bytes f v xs low) ∙ laid-grown _ _ _ some))

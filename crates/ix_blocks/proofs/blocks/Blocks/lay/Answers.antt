@@ -3,11 +3,10 @@ use Rattle.ix_blocks.proofs.Showing.{file_held, bytes_long, whole_long, held_by,
 use Rattle.ix_blocks.proofs.blocks.Blocks.lay.Goals as goal
 
 pub put-requires-clause-file : goal.put-requires-clause-file
-put-requires-clause-file c = file_held c.self.inside c.args.self.now c.self.view_is c.self.invariant c.args.file c.requires.file
+put-requires-clause-file c = file_held c.self.inside _ c.self.view_is c.self.invariant _ c.requires.file
 
 pub put-requires-clause-held : goal.put-requires-clause-held
-put-requires-clause-held c = held_by c.self.inside c.args.self.now c.self.view_is c.self.invariant c.args.file c.requires.file c.len.result
-    c.blocks_for-held.result c.len.ensures c.blocks_for-held.ensures
+put-requires-clause-held c = held_by c.self.inside _ c.self.view_is c.self.invariant _ c.requires.file _ _ c.len.ensures c.blocks_for-held.ensures
 
 pub put-requires-clause-within : goal.put-requires-clause-within
 put-requires-clause-within c =
@@ -19,8 +18,7 @@ put-requires-clause-within c =
     )
 
 pub invariant_of-self : goal.invariant_of-self
-invariant_of-self c = (leaves_laid c.self.inside c.args.self.now c.self.view_is c.self.invariant c.args.file c.requires.file c.args.place c.args.bytes.now
-    c.put.new.self c.requires.within c.put.ensures).filled
+invariant_of-self c = (leaves_laid c.self.inside _ c.self.view_is c.self.invariant _ c.requires.file _ _ _ c.requires.within c.put.ensures).filled
 
 pub returns : goal.returns
-returns c = (leaves_laid c.self.inside c.args.self.now c.self.view_is c.self.invariant c.args.file c.requires.file c.args.place c.args.bytes.now c.put.new.self c.requires.within c.put.ensures).shows
+returns c = (leaves_laid c.self.inside _ c.self.view_is c.self.invariant _ c.requires.file _ _ _ c.requires.within c.put.ensures).shows

@@ -6,7 +6,5 @@ pub index-requires : goal.index-requires
 index-requires c = omega (arith, c.self.inside.lengths.ok, file_below c.self.inside c.args.self.now c.self.view_is c.self.invariant c.args.file c.requires)
 
 pub returns : goal.returns
-returns c =
-    c.from.ensures
-    ∙ get_or_read c.self.inside.lengths.items c.args.file c.index.result.now (file_below c.self.inside c.args.self.now c.self.view_is c.self.invariant c.args.file c.requires) c.index.ensures 0
-    ∙ sym (bytes_long c.self.inside c.args.self.now c.self.view_is c.self.invariant c.args.file c.requires)
+returns c = c.from.ensures ∙ get_or_read _ _ _ (file_below c.self.inside _ c.self.view_is c.self.invariant _ c.requires) c.index.ensures 0
+    ∙ sym (bytes_long c.self.inside _ c.self.view_is c.self.invariant _ c.requires)

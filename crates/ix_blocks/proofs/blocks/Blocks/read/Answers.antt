@@ -3,11 +3,10 @@ use Rattle.ix_blocks.{specs.Files.bytes_of, proofs.Showing.{file_held, bytes_lon
 use Rattle.ix_blocks.proofs.blocks.Blocks.read.Goals as goal
 
 pub get-requires-clause-file : goal.get-requires-clause-file
-get-requires-clause-file c = file_held c.self.inside c.args.self.now c.self.view_is c.self.invariant c.args.file c.requires
+get-requires-clause-file c = file_held c.self.inside _ c.self.view_is c.self.invariant _ c.requires
 
 pub get-requires-clause-held : goal.get-requires-clause-held
-get-requires-clause-held c = held_by c.self.inside c.args.self.now c.self.view_is c.self.invariant c.args.file c.requires c.len-len.result
-    c.blocks_for-held.result c.len-len.ensures c.blocks_for-held.ensures
+get-requires-clause-held c = held_by c.self.inside _ c.self.view_is c.self.invariant _ c.requires _ _ c.len-len.ensures c.blocks_for-held.ensures
 
 pub get-requires-clause-within : goal.get-requires-clause-within
 get-requires-clause-within c = omega (

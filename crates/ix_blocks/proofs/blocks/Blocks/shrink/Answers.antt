@@ -3,7 +3,7 @@ use Rattle.ix_blocks.proofs.Showing.{file_below, file_held, bytes_long, whole_lo
 use Rattle.ix_blocks.proofs.blocks.Blocks.shrink.Goals as goal
 
 pub shrink-requires-clause-file : goal.shrink-requires-clause-file
-shrink-requires-clause-file c = file_held c.self.inside c.args.self.now c.self.view_is c.self.invariant c.args.file c.requires.file
+shrink-requires-clause-file c = file_held c.self.inside _ c.self.view_is c.self.invariant _ c.requires.file
 
 pub shrink-requires-clause-some : goal.shrink-requires-clause-some
 shrink-requires-clause-some c = omega (

@@ -1,5 +1,5 @@
 use Rattle.std.proofs.Common.{sym, ◌∙◌, arith}
-use Rattle.ix_blocks.proofs.Moving.{free_within, pushed_rows, pushed_shows}
+use Rattle.ix_blocks.proofs.Storing.{free_within, pushed_rows, pushed_shows}
 use Rattle.ix_blocks.proofs.store.Store.push.Goals as goal
 
 pub index_mut-requires : goal.index_mut-requires
@@ -11,9 +11,8 @@ index_mut-requires c = omega (
 )
 
 pub invariant_of-self : goal.invariant_of-self
-invariant_of-self c = pushed_rows c.self.inside.links c.self.inside.blocks.items c.self.invariant c.args.self.now c.self.view_is c.args.file c.requires.file
-    c.push_back.new.self c.in-Some.block c.clear.new.row c.is_pool.ensures c.push_back.ensures.pushed c.clear.ensures
+invariant_of-self c = pushed_rows _ _ c.self.invariant _ c.self.view_is _ c.requires.file _ _ _ c.is_pool.ensures c.push_back.ensures.pushed c.clear.ensures
 
 pub returns : goal.returns
-returns c = pushed_shows c.self.inside.links c.self.inside.blocks.items c.self.invariant c.args.self.now c.self.view_is c.args.file c.requires.file
-    c.push_back.new.self c.in-Some.block c.clear.new.row (sym c.push_back.ensures.moved ∙ c.in-Some.is) c.push_back.ensures.pushed c.clear.ensures
+returns c = pushed_shows _ _ c.self.invariant _ c.self.view_is _ c.requires.file
+    _ _ _ (sym c.push_back.ensures.moved ∙ c.in-Some.is) c.push_back.ensures.pushed c.clear.ensures
