@@ -157,6 +157,7 @@ impl Machine {
     }
 
     /// The row of such a call.
+    #[inline(never)]
     #[tactic(auto, unfolding(ix_model::specs::rows::Table::row))]
     fn row<L: Ledger>(
         &mut self,
