@@ -37,7 +37,7 @@ pub fn header_of(alloc: Global, script: &Script<'_>) -> Result<Bindings<u32>, No
 {
     let mut header = Bindings::new(alloc);
     let mut count = 0;
-    for index in 0..script.len() {
+    for index in 0..script.header_end() {
         count = add_proc(&mut header, count, script, index)?;
     }
     Ok(header)

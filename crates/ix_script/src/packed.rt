@@ -1,5 +1,5 @@
 ghost use Rattle.std.{specs.Prelude.{◌≡◌, ◌++◌, ◌∷◌, ◌+◌, ◌<◌, ◌≤◌, ◌^◌, [], Some, None, length, slice_get, is_some, OnOk, IfOk, MatchOption}, proofs.Common.{option_map}};
-ghost use Rattle.ix_script.specs.{lines.Before.{form_told}, lines.Forms.{form_of}, lines.Roles.{header_only, role_of}, lines.Said.{line_of}};
+ghost use Rattle.ix_script.specs.{lines.Before.{form_told}, lines.Forms.{form_of}, lines.Roles.{EndsHeader, role_of}, lines.Said.{line_of}};
 ghost use Rattle.ix_script.specs.{scripts.Canonical.{has_one_spelling}, scripts.Need.{cost_of_line, need}, scripts.Packed.{IsLine, IsNext, begin_at, front_of, line_in, with_line}};
 
 use crate::form::form_of;
@@ -27,11 +27,13 @@ pub(crate) struct Lines<'a> {
     ends: Vec<u32>,
     roles: Vec<Role>,
     need: u64,
+    /// The index behind the last line of the header.
+    header: usize,
 }
 
 impl<'a> Model for Lines<'a> {
     ghost use Rattle.std.specs.{Prelude.{◌≡◌, ◌≤◌, length}, Coded.{codes}};
-    ghost use Rattle.ix_script.specs.scripts.Packed.{AreMarked, FrontOf, begin_at, held};
+    ghost use Rattle.ix_script.specs.{lines.Roles.{EndsHeader}, scripts.Packed.{AreMarked, FrontOf, begin_at, held}};
     ghost use Rattle.ix_label.specs.contracts.label.Label as label_type;
 
     ghost Value = { FrontOf };
@@ -41,7 +43,7 @@ impl<'a> Model for Lines<'a> {
     ghost view = { λ l. record { text = l.text.now; said = held l.form 0 l.text.now l.ends.items; at = l.at } };
 
     ghost invariant = { λ l. AreMarked l.form l.text.now l.ends.items l.roles.items l.need × (l.at ≡ begin_at 0 l.ends.items (length l.ends.items))
-        × (length l.text.now ≤ 16777216) };
+        × (length l.text.now ≤ 16777216) × EndsHeader l.header (held l.form 0 l.text.now l.ends.items) };
 }
 
 /// What a text says that breaks no rule. Each way out returns, as in `line_said`.
@@ -113,6 +115,7 @@ impl<'a> Lines<'a> {
             ends,
             roles,
             need: 0,
+            header: 0,
         })
     }
 
@@ -171,11 +174,12 @@ impl<'a> Lines<'a> {
         self.roles.as_slice().get(i).copied()
     }
 
-    /// Whether a line stands at an index from 0 that is one of the header.
-    pub fn is_header(&self, i: usize) -> bool
-        ensures { result ≡ is_some (header_only (slice_get self.now.said i)) }
+    /// The index behind the last line of the header.
+    pub fn header_end(&self) -> usize
+        ensures ends { EndsHeader result self.now.said }
+        ensures within { result ≤ length self.now.said }
     {
-        matches!(self.role(i), Some(Role::Header))
+        self.header.min(self.len())
     }
 
     pub fn need(&self) -> u64
@@ -201,6 +205,10 @@ impl<'a> Lines<'a> {
         ensures { OnOk result (self.new ≡ with_line self.old (line_in form text.now) text.now) }
     {
         let end = self.at + text.len();
+        let header = match role {
+            Role::Header => self.len() + 1,
+            _ => self.header,
+        };
         self.ends.push(end as u32)?;
         let Ok(()) = self.roles.push(role) else {
             self.ends.pop();
@@ -208,6 +216,7 @@ impl<'a> Lines<'a> {
         };
         self.need += cost;
         self.form = form;
+        self.header = header;
         self.at = end + 1;
         Ok(())
     }

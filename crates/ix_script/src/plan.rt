@@ -117,10 +117,7 @@ impl Plan {
             procs: List::new(alloc),
             objects: List::new(alloc),
         };
-        'lines: for index in 0..lines.len() {
-            if !lines.is_header(index) {
-                continue;
-            }
+        'lines: for index in 0..lines.header_end() {
             if let Some(line) = lines.get(index) {
                 plan.add(alloc, &line)?;
             }

@@ -1,5 +1,5 @@
 ghost use Rattle.std.{specs.Prelude.{◌≡◌, ◌≤◌, ◌-◌, ◌==◌, length, slice_get, true, None, if◌then◌else◌, IfOk, IsTrue}, proofs.Common.{option_map}};
-ghost use Rattle.ix_script.specs.{lines.Before.{form_told, lanes_of, commands}, lines.Roles.{role_of}, scripts.Need.{need}};
+ghost use Rattle.ix_script.specs.{lines.Before.{form_told, lanes_of, commands}, lines.Roles.{EndsHeader, role_of}, scripts.Need.{need}};
 ghost use Rattle.{ix_script.specs.{scripts.Schedule.{LanesOnce, phases, stretches_of}, scripts.Scripts.{config_of, policy_of}}, ix_model.specs.opening.Valid.{is_valid}};
 
 use crate::line::Line;
@@ -125,6 +125,14 @@ impl<'a> Script<'a> {
         self.lines.len() as u32
     }
 
+    /// The index behind the last line of the header.
+    pub fn header_end(&self) -> u32
+        ensures ends { EndsHeader result self.now }
+        ensures within { result ≤ length self.now }
+    {
+        self.lines.header_end() as u32
+    }
+
     /// What a machine starts from, as the header says it: it is valid, and its journal has room for what [`need`] says. `NoMemory` without room for it.
     pub fn config(&self, alloc: Global) -> Result<Config, NoMemory>
         ensures config { IfOk result (λ c. c ≡ config_of self.now) }
@@ -137,10 +145,7 @@ impl<'a> Script<'a> {
     pub fn policy(&self) -> Option<(u32, &'a [u8])>
         ensures { option_map (λ p. (p.0, p.1.now)) result ≡ policy_of self.now }
     {
-        'lines: for index in 0..self.lines.len() {
-            if !self.lines.is_header(index) {
-                continue;
-            }
+        'lines: for index in 0..self.lines.header_end() {
             let Some(line) = self.lines.get(index) else {
                 continue;
             };

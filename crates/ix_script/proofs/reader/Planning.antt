@@ -1,11 +1,12 @@
 -- A plan of more and more lines.
-use Rattle.std.proofs.{Common.{◌≡◌, ℕ, ◌+◌, ◌<◌, ◌≤◌, false, List, [], ◌∷◌, ◌++◌, length, take, get_or, Option, Some, None, refl, sym, ap, ◌∙◌, subst, add-one, inl, inr}, Math.Seq.take-suc}
-use Rattle.std.specs.{List.slice_get, Option.{is_some, option_map_or}}
-use Rattle.std.proofs.lemmas.{Bool.{cases_Bool, false≢true}, List.{append-nil, take_all}, Option.{none-some, slice_get-get_or, get_or_from_slice_get}}
+use Rattle.std.proofs.{Common.{◌≡◌, ℕ, zero, suc, ◌+◌, ◌-◌, ◌<◌, ◌≤◌, false, arith, drop,  List, [], ◌∷◌, ◌++◌, length, take, get_or, Option, Some, None, refl, sym, ap, ◌∙◌, subst, add-one, inl, inr}, Math.Seq.take-suc}
+use Rattle.std.specs.{List.{position_from, slice_get}, Option.option_map_or}
+use Rattle.std.proofs.lemmas.{Bool.{cases_Bool, cases_lt, false≢true}, List.{append-nil, drop_all, length-append, take_all}, Option.{none-some, slice_get_past, slice_get-get_or, get_or_from_slice_get}}
 use Rattle.ix_model.specs.declared.config.Limits.{Limits}
-use Rattle.ix_script.specs.lines.{Before.{fs_told, limits_after, proc_told, object_told, is_policy}, Roles.{role_of, in_header, header_only}}
-use Rattle.ix_script.{specs.{scripts.Held.IsPlan, declared.{plan.Plan.Plan, line.Line.Line}}, proofs.reader.Pushed.{fss_push, limits_push, procs_push, objects_push}}
+use Rattle.ix_script.specs.lines.{Before.{fs_told, limits_after, proc_told, object_told, is_policy}, Roles.{EndsHeader, role_of, in_header, is_header, header_only}}
+use Rattle.ix_script.{specs.{scripts.Held.IsPlan, declared.{plan.Plan.Plan, line.Line.Line, role.Role.Role}}, proofs.reader.{Pushed.{fss_push, limits_push, procs_push, objects_push}, Walking.policy_later}}
 use Rattle.ix_script.specs.declared.line.Line.TheVariants as line
+use Rattle.ix_script.specs.declared.role.Role.TheVariants as role
 
 -- ---- lines of the header, and others
 -- a line that tells nothing of the machine that starts
@@ -32,13 +33,23 @@ other l h = elim (cases_Bool (in_header l)) [
   | inr e ↦ e
 ]
 
-pub no_header : (found : Option Line) → is_some found ≡ false → found ≡ None
-no_header None h = refl
-no_header (Some l) h = absurd (false≢true (sym h))
-
 pub not_header : (found : Option Line) → header_only found ≡ None → option_map_or is_policy found false ≡ false
 not_header None h = refl
 not_header (Some l) h = (tells_nothing l (other l h)).policy
+
+-- ---- where the header ends
+pub other_role : (r : Role) → (r ≡ role.Header → ⊥) → is_header r ≡ false
+other_role role.Header none = absurd (none refl)
+other_role _ none = refl
+
+pub ends_same : (lines : List Line) (x : Line) (n : ℕ) → in_header x ≡ false → EndsHeader n lines → EndsHeader n (lines ++ x ∷ [])
+ends_same [] x n none ends zero low = rw none refl
+ends_same [] x n none ends (suc i) low = refl
+ends_same (y ∷ lines) x n none ends zero low = ends zero low
+ends_same (y ∷ lines) x n none ends (suc i) low = ends_same lines x (n - 1) none (λ j less. ends (suc j) (omega (arith, less))) i (omega (arith, low))
+
+pub ends_behind : (lines : List Line) (x : Line) → EndsHeader (length lines + 1) (lines ++ x ∷ [])
+ends_behind lines x i low = ap header_only (slice_get_past _ i (omega (arith, low, length-append lines (x ∷ []))))
 
 -- ---- line after line
 here : (lines : List Line) (i : ℕ) (x : Line) → i < length lines → slice_get lines i ≡ Some x → take (i + 1) lines ≡ take i lines ++ x ∷ []
@@ -61,5 +72,22 @@ plan_same lines i p low none was =
     let is = slice_get-get_or lines i line.Skipped low in
     plan_more _ i x p low is (same_with _ x p (tells_nothing x (other x (ap header_only (sym is) ∙ none))) was)
 
-pub plan_all : (lines : List Line) (i : ℕ) (p : Plan) → length lines ≤ i → IsPlan p (take i lines) → IsPlan p lines
-plan_all lines i p past was = subst (λ ls. IsPlan p ls) (take_all i lines past) was
+plan_left : (lines : List Line) (n k i : ℕ) (p : Plan) → EndsHeader n lines → n ≤ i → length lines ≤ i + k → IsPlan p (take i lines) → IsPlan p lines
+plan_left lines n zero i p ends low past was = subst (λ ls. IsPlan p ls) (take_all i lines (omega (arith, past))) was
+plan_left lines n (suc k) i p ends low past was = elim (cases_lt i (length lines)) [
+  | inl within ↦ plan_left lines n k (i + 1) p ends (omega (arith, low)) (omega (arith, past)) (plan_same lines i p within (ends i low) was)
+  | inr out ↦ subst (λ ls. IsPlan p ls) (take_all i lines out) was
+]
+
+pub plan_all : (lines : List Line) (n i : ℕ) (p : Plan) → EndsHeader n lines → n ≤ i → IsPlan p (take i lines) → IsPlan p lines
+plan_all lines n i p ends low was = plan_left lines n (length lines) i p ends low (omega arith) was
+
+policy_left : (lines : List Line) (n k i : ℕ) → EndsHeader n lines → n ≤ i → length lines ≤ i + k → position_from is_policy i (drop i lines) ≡ None
+policy_left lines n zero i ends low past = ap (position_from is_policy i) (drop_all i lines (omega (arith, past)))
+policy_left lines n (suc k) i ends low past = elim (cases_lt i (length lines)) [
+  | inl within ↦ policy_later lines i within (not_header _ (ends i low)) ∙ policy_left lines n k (i + 1) ends (omega (arith, low)) (omega (arith, past))
+  | inr out ↦ ap (position_from is_policy i) (drop_all i lines out)
+]
+
+pub policy_past : (lines : List Line) (n i : ℕ) → EndsHeader n lines → n ≤ i → position_from is_policy i (drop i lines) ≡ None
+policy_past lines n i ends low = policy_left lines n (length lines) i ends low (omega arith)

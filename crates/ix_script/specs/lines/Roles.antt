@@ -1,5 +1,5 @@
 -- What lines are for.
-use Rattle.std.specs.Prelude.{Bool, true, false, Option, Some, None, if◌then◌else◌}
+use Rattle.std.specs.Prelude.{◌≡◌, ◌≤◌, ℕ, Bool, true, false, List, Option, Some, None, slice_get, if◌then◌else◌}
 use Rattle.ix_script.specs.declared.line.Line.{Line}
 use Rattle.ix_script.specs.declared.line.Line.TheVariants as line
 use Rattle.ix_script.specs.declared.role.Role.{Role}
@@ -39,3 +39,7 @@ in_header l = is_header (role_of l)
 abbrev pub header_only : Option Line → Option Line
 header_only None = None
 header_only (Some l) = if in_header l then Some l else None
+
+-- no line at that index or behind it stands in the header
+abbrev pub EndsHeader : ℕ → List Line → Type 0
+EndsHeader n lines = (i : ℕ) → n ≤ i → header_only (slice_get lines i) ≡ None

@@ -8,7 +8,7 @@ loop-index-init c = record { names = rw (c.new-header.ensures) refl; few = omega
 
 pub loop-index-preserved : goal.loop-index-preserved
 loop-index-preserved c =
-    let at = line-there c.args.script.now c.loop-index.index (omega (arith, c.len-index-end.ensures.len, c.loop-index-test.true)) in
+    let at = line-there c.args.script.now c.loop-index.index (omega (arith, c.header_end-index-end.ensures.within, c.loop-index-test.true)) in
     record {
       names = rw (c.in_ok-count.ensures.header) (numbered_on c.loop-index.count c.in_ok-count.count c.args.script.now c.loop-index.index
           (line_in c.args.script.now c.loop-index.index) c.loop-index.header at c.in_ok-count.ensures.count.0
@@ -17,8 +17,5 @@ loop-index-preserved c =
     }
 
 pub returns : goal.returns
-returns c = numbered_end c.loop-index.count c.args.script.now c.loop-index.index c.loop-index.header _ (omega (
-  arith,
-  c.len-index-end.ensures.len,
-  c.loop-index-test.false,
-)) c.loop-index.invariant.names
+returns c = numbered_end c.loop-index.count c.args.script.now _ c.loop-index.index c.loop-index.header _ c.header_end-index-end.ensures.ends
+    (omega (arith, c.loop-index-test.false)) c.loop-index.invariant.names

@@ -1,16 +1,11 @@
 use Rattle.std.proofs.Common.{◌<◌, length, sym, ap, ◌∙◌, take, arith}
 use Rattle.ix_script.specs.lines.Roles.{header_only}
-use Rattle.ix_script.proofs.{reader.Planning.{no_header, plan_more, plan_same, plan_all}, plan.Plan.of.Goals.{in-Some+in_ok-add, in_default}}
+use Rattle.ix_script.proofs.{reader.Planning.{plan_more, plan_same, plan_all}, plan.Plan.of.Goals.{in-Some+in_ok-add, in_default}}
 use Rattle.ix_script.proofs.plan.Plan.of.Goals as goal
-
-pub lines-preserved-then-not-is_header : goal.lines-preserved-then-not-is_header
-lines-preserved-then-not-is_header c =
-    let low : c.lines.index < length c.args.lines.now.said = omega (arith, c.lines-test.true, c.len-index-end.ensures) in
-    plan_same c.args.lines.now.said c.lines.index c.lines.plan low (no_header _ (sym c.is_header.ensures ∙ c.if-not-is_header.true)) c.lines.invariant
 
 pub lines-preserved : goal.lines-preserved
 lines-preserved c =
-    let low : c.lines.index < length c.args.lines.now.said = omega (arith, c.lines-test.true, c.len-index-end.ensures) in
+    let low : c.lines.index < length c.args.lines.now.said = omega (arith, c.lines-test.true, c.header_end-index-end.ensures.within) in
     elim c.match-get.branch [
       | in-Some+in_ok-add w ↦
           rw w.plan-is (plan_more c.args.lines.now.said c.lines.index w.in-Some.line w.add.new.self low (sym c.get.ensures ∙ w.in-Some.is)
@@ -19,4 +14,4 @@ lines-preserved c =
     ]
 
 pub returns : goal.returns
-returns c = plan_all c.args.lines.now.said c.lines.index c.lines.plan (omega (arith, c.lines-test.false, c.len-index-end.ensures)) c.lines.invariant
+returns c = plan_all c.args.lines.now.said _ c.lines.index c.lines.plan c.header_end-index-end.ensures.ends (omega (arith, c.lines-test.false)) c.lines.invariant
