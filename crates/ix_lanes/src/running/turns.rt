@@ -48,8 +48,28 @@ impl Turns {
         self.next = if next < script.lanes() { next } else { 0 };
     }
 
-    /// The seat of the lane in which the line after the one at an index stands.
+    /// The seat of the lane in which the line after the one at an index stands, where the guess isn't right: its name is looked up.
     #[inline(never)]
+    fn seat_found(
+        &mut self,
+        script: &Script<'_>,
+        seat: Option<u32>,
+        index: u32,
+        role: Role,
+    ) -> Option<u32>
+        requires within { index < length script.now }
+        requires role { role ≡ role_of (line_in script.now index) }
+        ensures { result ≡ seat_after (lanes_of script.now) seat (line_in script.now index) }
+    {
+        let found = seat_past(script, seat, index, role);
+        if let (Role::Lane, Some(lane)) = (role, found) {
+            self.pass(script, lane);
+        }
+        found
+    }
+
+    /// The seat of the lane in which the line after the one at an index stands.
+    #[inline(always)]
     pub fn seat_past(
         &mut self,
         script: &Script<'_>,
@@ -61,18 +81,11 @@ impl Turns {
         requires role { role ≡ role_of (line_in script.now index) }
         ensures { result ≡ seat_after (lanes_of script.now) seat (line_in script.now index) }
     {
-        let Role::Lane = role else {
-            return seat_past(script, seat, index, role);
-        };
-        if self.is_next(script, index) {
+        if role == Role::Lane && self.is_next(script, index) {
             let next = self.next;
             self.pass(script, next);
             return Some(next);
         }
-        let found = seat_past(script, seat, index, role);
-        if let Some(lane) = found {
-            self.pass(script, lane);
-        }
-        found
+        self.seat_found(script, seat, index, role)
     }
 }

@@ -1,5 +1,5 @@
 -- A plan of more and more lines.
-use Rattle.std.proofs.{Common.{◌≡◌, ℕ, zero, suc, ◌+◌, ◌-◌, ◌<◌, ◌≤◌, false, arith, drop,  List, [], ◌∷◌, ◌++◌, length, take, get_or, Option, Some, None, refl, sym, ap, ◌∙◌, subst, add-one, inl, inr}, Math.Seq.take-suc}
+use Rattle.std.proofs.{Common.{◌≡◌, ℕ, zero, suc, ◌+◌, ◌-◌, ◌<◌, ◌≤◌, false, arith, drop, List, [], ◌∷◌, ◌++◌, length, take, get_or, Option, Some, None, refl, sym, ap, ◌∙◌, subst, add-one, inl, inr}, Math.Seq.take-suc}
 use Rattle.std.specs.{List.{position_from, slice_get}, Option.option_map_or}
 use Rattle.std.proofs.lemmas.{Bool.{cases_Bool, cases_lt, false≢true}, List.{append-nil, drop_all, length-append, take_all}, Option.{none-some, slice_get_past, slice_get-get_or, get_or_from_slice_get}}
 use Rattle.ix_model.specs.declared.config.Limits.{Limits}
