@@ -1,13 +1,11 @@
 -- A history shows what its steps give, one after another.
-use Rattle.std.proofs.Common.{◌≡◌, ℕ, zero, suc, ◌+◌, ◌&&◌, List, [], ◌∷◌, ◌++◌, length, take, if◌then◌else◌, refl, ap, ◌∙◌, arith}
-use Rattle.std.specs.Option.{option_map_or}
-use Rattle.ix_model.specs.{world.World.World, history.Step.{Given, answer, step, step_of, run}, history.Events.{Op, Event}, opening.Opening.opening_world}
-use Rattle.ix_model.specs.history.AuditLog.{is_answer, is_licensed, exercises, line_of_act, lines_added, audit_log}
-use Rattle.ix_model.specs.rows.{Table.{Decision, verdict}, Telling.told}
+use Rattle.std.{proofs.Common.{◌≡◌, ℕ, zero, suc, ◌+◌, ◌&&◌, List, [], ◌∷◌, ◌++◌, length, take, if◌then◌else◌, refl, ap, ◌∙◌, arith}, specs.Option.option_map_or}
+use Rattle.ix_model.specs.{world.World.World, history.{Step.{Given, answer, step, step_of, run}, Events.{Op, Event}}, opening.Opening.opening_world}
+use Rattle.ix_model.specs.{history.AuditLog.{is_answer, is_licensed, exercises, line_of_act, lines_added, audit_log}, rows.{Table.{Decision, verdict}, Telling.told}}
 use Rattle.ix_model.specs.declared.{audit.AuditLine.AuditLine, config.Config.Config, refusal.Refusal.Refusal, reply.Reply.Reply}
+use Rattle.ix_worked.specs.Sessions.{Line, Shown, line_of, lines_of, labels_in, shown_from, shown, log_of}
 use Rattle.ix_model.specs.history.Events as op
 use Rattle.ix_model.specs.declared.reply.Reply.TheVariants as reply
-use Rattle.ix_worked.specs.Sessions.{Line, Shown, line_of, lines_of, labels_in, shown_from, shown, log_of}
 
 infixr 5 ◌⨾◌
 -- what an answer by a number, one by bytes and a refusal give
@@ -53,7 +51,7 @@ pub data Chained (A B : Type 0) : Type 0 where
 
 -- each entry gives the one that stands at its place, and the next is made from the world after it
 abbrev pub Gives : World → ℕ → List Event → List Given → Type 0
-Gives w place [] gs = Unit {0}
+Gives w place [] gs = Unit
 Gives w place (e ∷ events) [] = ⊥
 Gives w place (e ∷ events) (g ∷ gs) = Chained (Steps w place e.pid e.op g) (Gives g.world (suc place) events gs)
 
@@ -91,10 +89,10 @@ shown_by w events gs = record {
 
 pub shown_given : (c : Config) (w : World) (events : List Event) (gs : List Given) → opening_world c ≡ w → Gives w 1 events gs → shown c events ≡ shown_by w events gs
 shown_given c w events gs opening h = ap (λ v. shown_from v events) opening ∙ (λ i. record {
-  lines = lines_given w 1 events gs h i;
-  objects = labels_in (λ o. o.label) 0 (run_given w 1 events gs h i).frame.objects;
-  processes = labels_in (λ p. p.label) 0 (run_given w 1 events gs h i).frame.processes;
-  log = (run_given w 1 events gs h i).frame.log;
+  lines = lines_given w 1 _ gs h i;
+  objects = labels_in (λ o. o.label) 0 (run_given w 1 _ gs h i).frame.objects;
+  processes = labels_in (λ p. p.label) 0 (run_given w 1 _ gs h i).frame.processes;
+  log = (run_given w 1 _ gs h i).frame.log;
 })
 
 -- the lines of the licensed entries among those that give these
@@ -115,20 +113,20 @@ log_given_from w place (e ∷ events) (g ∷ gs) (link ⨾ links) =
     ∙ ap (λ ls. lines_for w place e g ++ ls) (log_given_from g.world (suc place) events gs links)
 
 pub log_given : (c : Config) (w : World) (events : List Event) (gs : List Given) → opening_world c ≡ w → Gives w 1 events gs → log_of c events ≡ log_by w 1 events gs
-log_given c w events gs opening h = ap (λ v. audit_log v 1 events) opening ∙ log_given_from w 1 events gs h
+log_given c w events gs opening h = ap (λ v. audit_log v 1 events) opening ∙ log_given_from w 1 _ gs h
 
 -- a history's beginning gives the beginning of what it gives
 pub gives_some : (n : ℕ) (w : World) (place : ℕ) (events : List Event) (gs : List Given) → Gives w place events gs → Gives w place (take n events) (take n gs)
 gives_some zero w place events gs h = tt
 gives_some (suc n) w place [] gs h = tt
 gives_some (suc n) w place (e ∷ events) [] h = absurd h
-gives_some (suc n) w place (e ∷ events) (g ∷ gs) (link ⨾ links) = link ⨾ gives_some n g.world (suc place) events gs links
+gives_some (suc n) w place (e ∷ events) (g ∷ gs) (link ⨾ links) = link ⨾ gives_some n _ _ _ gs links
 
 -- the lines of a history in two parts
 pub lines_more : (w : World) (place : ℕ) (es fs : List Event) → lines_of w place (es ++ fs) ≡ lines_of w place es ++ lines_of (run w place es) (length es + place) fs
 lines_more w place [] fs = ap (λ p. lines_of w p fs) (let e : place ≡ 0 + place = omega arith in e)
 lines_more w place (e ∷ es) fs =
-    let v : World = (step_of w place e).world in
+    let v = (step_of w place e).world in
     let same : length es + suc place ≡ suc (length es) + place = omega arith in
     ap (λ ls. line_of e (step_of w place e) ∷ ls)
-    (lines_more v (suc place) es fs ∙ ap (λ p. lines_of v (suc place) es ++ lines_of (run v (suc place) es) p fs) same)
+    (lines_more v _ es fs ∙ ap (λ p. lines_of v (suc place) es ++ lines_of (run v (suc place) es) p fs) same)

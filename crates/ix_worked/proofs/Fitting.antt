@@ -1,17 +1,15 @@
 -- Which configs are valid, computed.
 use Rattle.std.proofs.Common.{◌≡◌, true, false, refl}
 use Rattle.ix_model.specs.opening.Valid.{is_valid}
-use Rattle.ix_worked.specs.Configs.{AllValid, file_systems_that_fit, file_systems_that_do_not, limits_that_fit, limits_that_do_not, processes_that_fit}
-use Rattle.ix_worked.specs.Configs.{processes_that_do_not, objects_that_fit, objects_that_do_not}
-use Rattle.ix_worked.specs.{Scripts.{three, three_and_five}, floating.Untouched.untouched, floating.Floating.reading_up, floating.FileCeiling.low_files}
-use Rattle.ix_worked.specs.{floating.TwoLevels.two_levels, floating.LooksAnew.held_low, floating.FrozenFile.a_frozen_file, pipes.FullPipe.one_process}
+use Rattle.ix_worked.specs.{Configs.{AllValid, file_systems_that_fit, file_systems_that_do_not, limits_that_fit, limits_that_do_not, processes_that_fit}, ToldUp.{notebook, drawer, bureau}}
+use Rattle.ix_worked.{specs.Configs.{processes_that_do_not, objects_that_fit, objects_that_do_not}, proofs.{Computing.fitting, Labels.labels}}
+use Rattle.ix_worked.specs.{Scripts.{three, three_and_five}, floating.{Untouched.untouched, Floating.reading_up, FileCeiling.low_files}}
+use Rattle.ix_worked.specs.{floating.{TwoLevels.two_levels, LooksAnew.held_low, FrozenFile.a_frozen_file}, pipes.FullPipe.one_process}
 use Rattle.ix_worked.specs.{floating.HighDirectory.a_high_directory, files.{SharedEntry.one_file, FewBlocks.two_blocks, Trees.two_file_systems}}
 use Rattle.ix_worked.specs.{privileges.{Downgrading.one_line, ReadingTheLog.two_lines, Executing.programs, Login.office}, short.OnProcesses.{family, house}}
 use Rattle.ix_worked.specs.{processes.{Inheriting.letters, Waiting.a_secret, SharedOffset.{one_shared, below_seven}}, short.OnDescriptors.{desk, long_desk}}
-use Rattle.ix_worked.specs.{short.OnPaths.{shelves, furnished, full, tight, full_with_a_root, crowded, poor, attic}, short.OnEntries.shared_desk}
-use Rattle.ix_worked.specs.ToldUp.{notebook, drawer, bureau}
+use Rattle.ix_worked.specs.short.{OnPaths.{shelves, furnished, full, tight, full_with_a_root, crowded, poor, attic}, OnEntries.shared_desk}
 use Rattle.ix_worked.specs.short.OnLabels.{levels, no_lines, officers, heights, low_house, pair, chest, two_steps, program, stiff_house, towers}
-use Rattle.ix_worked.proofs.{Computing.fitting, Labels.labels}
 
 pub file_systems_fit : AllValid true file_systems_that_fit
 unfolding fitting

@@ -2,10 +2,9 @@
 use Rattle.std.proofs.Common.{◌≡◌, ℕ, suc, List, [], ◌∷◌, ◌++◌, take, drop, length, slice_index_or, refl, ap, arith}
 use Rattle.ix_model.specs.{world.World.World, history.{Step.{Given, answer, run}, Events.Event}, opening.Opening.opening_world}
 use Rattle.ix_model.specs.{rows.{Table.{Decision, verdict}, Telling.told}, declared.{config.Config.Config, refusal.Refusal.Refusal, reply.Reply.Reply}}
-use Rattle.ix_model.specs.declared.reply.Reply.TheVariants as reply
-use Rattle.ix_worked.specs.Sessions.{Line, Shown, lines_of, shown, calls, log_of}
+use Rattle.ix_worked.{specs.Sessions.{Line, Shown, lines_of, shown, calls, log_of}, proofs.Chains.gives_some}
 use Rattle.ix_worked.proofs.Chains.{◌⨾◌, Gives, decision_before, lines_by, lines_given, shown_by, shown_given, log_by, log_given, last_of, run_given}
-use Rattle.ix_worked.proofs.Chains.{gives_some}
+use Rattle.ix_model.specs.declared.reply.Reply.TheVariants as reply
 
 -- what an entry changes, and what it gives from the world before it
 abbrev pub Change : Type 0
@@ -110,35 +109,35 @@ GoesBy c events moves = Gives (opening_world c) 1 events (given (opening_world c
 
 pub goes : (c : Config) (events : List Event) (moves : List Move) → decided (opening_world c) 1 events moves ≡ before (opening_world c) events moves
     → answered (opening_world c) events moves ≡ after (opening_world c) events moves → GoesBy c events moves
-goes c events moves h k = each_gives (opening_world c) 1 events moves h k
+goes c events moves h k = each_gives _ 1 _ _ h k
 
 -- what it shows then, and what it logs
 abbrev pub shown_after : Config → List Event → List Move → Shown
 shown_after c events moves = shown_by (opening_world c) events (given (opening_world c) moves)
 
 pub shows_by : (c : Config) (events : List Event) (moves : List Move) → GoesBy c events moves → shown c events ≡ shown_after c events moves
-shows_by c events moves h = shown_given c (opening_world c) events (given (opening_world c) moves) refl h
+shows_by c events moves h = shown_given c _ _ _ refl h
 
 pub logs_by : (c : Config) (events : List Event) (moves : List Move) → GoesBy c events moves → log_of c events ≡ log_by (opening_world c) 1 events (given (opening_world c) moves)
-logs_by c events moves h = log_given c (opening_world c) events (given (opening_world c) moves) refl h
+logs_by c events moves h = log_given c _ _ _ refl h
 
 pub shows : (c : Config) (events : List Event) (moves : List Move) → decided (opening_world c) 1 events moves ≡ before (opening_world c) events moves
     → answered (opening_world c) events moves ≡ after (opening_world c) events moves → shown c events ≡ shown_after c events moves
-shows c events moves h k = shows_by c events moves (goes c events moves h k)
+shows c events moves h k = shows_by c _ _ (goes c _ _ h k)
 
 -- what is told in a history that is told with its calls
 pub tells_by : (c : Config) (exchange : List (Event × Line)) (moves : List Move) → GoesBy c (calls exchange) moves
     → lines_of (opening_world c) 1 (calls exchange) ≡ lines_by (calls exchange) (given (opening_world c) moves)
-tells_by c exchange moves h = lines_given (opening_world c) 1 (calls exchange) (given (opening_world c) moves) h
+tells_by c exchange moves h = lines_given _ 1 _ _ h
 
 pub tells : (c : Config) (exchange : List (Event × Line)) (moves : List Move) → decided (opening_world c) 1 (calls exchange) moves ≡ before (opening_world c) (calls exchange) moves
     → answered (opening_world c) (calls exchange) moves ≡ after (opening_world c) (calls exchange) moves
     → lines_of (opening_world c) 1 (calls exchange) ≡ lines_by (calls exchange) (given (opening_world c) moves)
-tells c exchange moves h k = tells_by c exchange moves (goes c (calls exchange) moves h k)
+tells c exchange moves h k = tells_by c _ _ (goes c _ _ h k)
 
 -- the world after the first entries
 abbrev pub world_after : Config → List Event → List Move → ℕ → World
 world_after c events moves n = last_of (opening_world c) (take n events) (take n (given (opening_world c) moves))
 
 pub comes_to : (c : Config) (events : List Event) (moves : List Move) (n : ℕ) → GoesBy c events moves → run (opening_world c) 1 (take n events) ≡ world_after c events moves n
-comes_to c events moves n h = run_given (opening_world c) 1 (take n events) (take n (given (opening_world c) moves)) (gives_some n (opening_world c) 1 events (given (opening_world c) moves) h)
+comes_to c events moves n h = run_given _ 1 _ _ (gives_some n _ 1 _ _ h)

@@ -1,25 +1,23 @@
 -- What a high process does comes to one that was low, entry by entry.
-use Rattle.std.proofs.Common.{◌≡◌, ℕ, suc, Bool, true, false, List, [], ◌∷◌, ◌++◌, ◌&&◌, refl, sym, subst₂, codes}
-use Rattle.std.{proofs.lemmas.Bool.and_parts, specs.Option.option_map_or}
+use Rattle.std.{proofs.{Common.{◌≡◌, ℕ, suc, Bool, true, false, List, [], ◌∷◌, ◌++◌, ◌&&◌, refl, sym, subst₂, codes}, lemmas.Bool.and_parts}, specs.Option.option_map_or}
 use Rattle.ix_label.specs.Category.{Categories, bottom, leq}
 use Rattle.ix_model.specs.{world.{World.{World, at, living}, Privs.no_privileges}, opening.Opening.opening_world, history.{Events.Event, Lowering.Crosses}}
 use Rattle.ix_model.specs.{two_runs.TwoRuns.{Agree, AgreeAt, IsHigh, is_one_kind}, declared.config.Config.Config}
+use Rattle.ix_worked.{specs.{short.OnProcesses.family, PairsOfRuns.{before, after, BothAgree}, Scripts.{seven, log_line}, Sessions.{calls, Goes}}, proofs.Labels.{labels, leq-with_bottom}}
+use Rattle.ix_worked.specs.ToldUp.{waiting_for_high, piping_from_high, notebook, sharing_with_high, drawer, looking_at_high, bureau, letting_down}
+use Rattle.ix_worked.proofs.{runs.{Agreeing.{agree_on, high_of}, Falling.object_crosses}, Chains.{◌⨾◌, Chained, Gives}, Computing.running}
+use Rattle.ix_worked.proofs.Moves.{Move, GoesBy, given, number, bytes, answers, done, ◌▸◌, goes, tells_by, world_after, comes_to}
+use Rattle.ix_worked.proofs.Worlds.{with_line, with_pipe, with_entry, opened, floated, raised, marked, moved, holding, with_child, with_ended, without_process}
 use Rattle.ix_model.specs.two_runs.TwoRuns as runs
 use Rattle.ix_model.specs.declared.audit.Act.TheVariants as act
 use Rattle.ix_model.specs.declared.call.Mode.TheVariants as mode
 use Rattle.ix_model.specs.declared.reply.Kind.TheVariants as kind
 use Rattle.ix_model.specs.declared.reply.Reply.TheVariants as reply
-use Rattle.ix_worked.specs.{short.OnProcesses.family, PairsOfRuns.{before, after, BothAgree}, Scripts.{seven, log_line}, Sessions.{calls, Goes}}
-use Rattle.ix_worked.specs.ToldUp.{waiting_for_high, piping_from_high, notebook, sharing_with_high, drawer, looking_at_high, bureau, letting_down}
-use Rattle.ix_worked.proofs.{runs.{Agreeing.{agree_on, high_of}, Falling.object_crosses}, Chains.{◌⨾◌, Chained, Gives}, Computing.running}
-use Rattle.ix_worked.proofs.Labels.{labels, leq-with_bottom}
-use Rattle.ix_worked.proofs.Moves.{Move, GoesBy, given, number, bytes, answers, done, ◌▸◌, goes, tells_by, world_after, comes_to}
-use Rattle.ix_worked.proofs.Worlds.{with_line, with_pipe, with_entry, opened, floated, raised, marked, moved, holding, with_child, with_ended, without_process}
 
 -- ---- two histories side by side
 -- the entries of two histories agree, of which the first goes by these moves
 abbrev AgreeBy : Categories → World → List Event → List Event → List Move → Type 0
-AgreeBy l w [] [] moves = Unit {0}
+AgreeBy l w [] [] moves = Unit
 AgreeBy l w [] (f ∷ others) moves = ⊥
 AgreeBy l w (e ∷ events) [] moves = ⊥
 AgreeBy l w (e ∷ events) (f ∷ others) [] = ⊥
@@ -44,11 +42,11 @@ agreed_from l v w place (e ∷ events) (f ∷ others) (m ∷ ms) (n ∷ ns) (g �
 
 agreed : (l : Categories) (c : Config) (events others : List Event) (ms ns : List Move) → GoesBy c events ms → GoesBy c others ns
     → AgreeBy l (opening_world c) events others ms → one_kinds (opening_world c) (opening_world c) ms ns ≡ true → BothAgree l c events others
-agreed l c events others ms ns g h a k = agreed_from l (opening_world c) (opening_world c) 1 events others ms ns g h a k
+agreed l c events others ms ns g h a k = agreed_from l _ _ 1 _ _ ms ns g h a k
 
 -- a process above bottom
 high_in : (w : World) (pid : ℕ) → option_map_or (λ q. leq q.label bottom) (living (at w.frame.processes pid)) true ≡ false → IsHigh bottom w.frame pid
-high_in w pid h = high_of bottom w.frame pid (living (at w.frame.processes pid)) refl h
+high_in w pid h = high_of _ _ _ _ refl h
 
 -- a child that rises
 abbrev rises : List Move

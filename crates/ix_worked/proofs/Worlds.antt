@@ -2,11 +2,10 @@
 use Rattle.std.proofs.Common.{ℕ, ◌+◌, ◌-◌, true, List, [], ◌∷◌, ◌++◌, Option, Some, None, option_map, map, length, replicate, slice_set}
 use Rattle.ix_label.specs.Category.{Categories, bottom}
 use Rattle.ix_model.specs.{world.{World.{World, Process, Object, Open, at, change, put}, Directories.with_name}, opening.{Opening.process_of, Flat.flat_world}}
-use Rattle.ix_model.specs.{rows.OnPaths.new_object, declared.audit.AuditLine.AuditLine, declared.call.Mode.Mode, declared.reply.Kind.Kind}
-use Rattle.ix_model.specs.{declared.config.FsSpec.FsSpec, declared.config.ProcSpec.ProcSpec, declared.config.ObjSpec.ObjSpec}
+use Rattle.ix_model.specs.{rows.OnPaths.new_object, declared.{audit.AuditLine.AuditLine, call.Mode.Mode, reply.Kind.Kind, config.{FsSpec.FsSpec, ProcSpec.ProcSpec, ObjSpec.ObjSpec}}}
+use Rattle.ix_worked.specs.Scripts.{usual_limits}
 use Rattle.ix_model.specs.declared.call.Mode.TheVariants as mode
 use Rattle.ix_model.specs.declared.reply.Kind.TheVariants as kind
-use Rattle.ix_worked.specs.Scripts.{usual_limits}
 
 -- a process, and the open entries behind its first descriptors
 pub record Holder : Type 0 where
@@ -27,7 +26,7 @@ front n none xs = xs ++ replicate (n - length xs) none
 -- processes, files and open entries on one file system
 abbrev pub world_with : FsSpec → List Holder → List ObjSpec → List Opened → World
 world_with fs holders files opens =
-    let w : World = flat_world usual_limits fs (map (λ h. h.spec) holders) files (fs.inodes - 1 + usual_limits.pipes - length files) in
+    let w = flat_world usual_limits fs (map (λ h. h.spec) holders) files (fs.inodes - 1 + usual_limits.pipes - length files) in
     record {
       frame = record w.frame {
         processes = None ∷ map (λ h. Some (record (process_of h.spec) { fds = front 32 None (map Some h.holds) })) holders;
@@ -108,7 +107,7 @@ with_child pid w = record {
 -- a child that has ended, without descriptors
 abbrev pub with_ended : ℕ → ℕ → World → World
 with_ended pid status w =
-    let v : World = with_process pid (λ p. record p { fds = replicate 32 None; ended = true }) w in
+    let v = with_process pid (λ p. record p { fds = replicate 32 None; ended = true }) w in
     record v { content = record v.content { statuses = slice_set v.content.statuses pid status } }
 
 -- a record that is gone, with its status

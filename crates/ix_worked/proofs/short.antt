@@ -3,14 +3,8 @@ use Rattle.std.proofs.Common.{◌≡◌, true, false, List, [], ◌∷◌, ◌++
 use Rattle.ix_label.specs.Category.{bottom, top}
 use Rattle.ix_model.specs.{history.{Events.Event, Step.{step, run}}, opening.Opening.opening_world}
 use Rattle.ix_model.specs.world.{Directories.{with_name, without_name}, Privs.{to_lower, to_thaw, to_read_the_log, no_privileges}, World.{World, put}}
-use Rattle.ix_model.specs.history.Events as op
-use Rattle.ix_model.specs.declared.audit.Act.TheVariants as act
-use Rattle.ix_model.specs.declared.call.Mode.TheVariants as mode
-use Rattle.ix_model.specs.declared.refusal.Refusal.TheVariants as refusal
-use Rattle.ix_model.specs.declared.reply.Kind.TheVariants as kind
-use Rattle.ix_model.specs.declared.reply.Reply.TheVariants as reply
 use Rattle.ix_worked.specs.{Scripts.{three, five, seven, three_and_five, in_root, by, log_line}, Sessions.{line_of, lines_of, log_of, calls, Goes}}
-use Rattle.ix_worked.proofs.{Chains.lines_more, Computing.{running, auditing}, Labels.labels}
+use Rattle.ix_worked.{proofs.{Chains.lines_more, Computing.{running, auditing}, Labels.labels}, specs.short.OnPaths.{looking_around, working_in_a_directory, sharing_blocks}}
 use Rattle.ix_worked.specs.short.OnDescriptors.{asking_too_much, desk, copying, long_desk, using_none, reading_a_writer, writing_a_reader, going_too_far}
 use Rattle.ix_worked.specs.short.OnDescriptors.{claiming_a_file, cutting_a_pipe, letting_go, using_all, opening_all, making_pipes, reading_nothing}
 use Rattle.ix_worked.specs.short.OnDescriptors.{writing_into_a_broken_pipe, claiming_both, closing_a_claimed_end, writing_in_the_middle, using_numbers_again}
@@ -22,12 +16,17 @@ use Rattle.ix_worked.specs.short.OnLabels.{looking_into_an_empty_pipe, making_na
 use Rattle.ix_worked.specs.short.OnPaths.{attic, naming_high, crowded, poor, making_without_room, asking_without_room, full_with_a_root, making_one_name_more}
 use Rattle.ix_worked.specs.short.OnPaths.{freeing_blocks, unlinking_one_of_two, shelves, furnished, full, tight, seeking, looking_into_a_file, making_again}
 use Rattle.ix_worked.specs.short.OnPaths.{using_a_directory, crossing, removing_a_home, making_files, making_names, asking_for_objects, unlinking_an_open_file}
-use Rattle.ix_worked.specs.short.OnPaths.{looking_around, working_in_a_directory, sharing_blocks}
 use Rattle.ix_worked.specs.short.OnProcesses.{house, forking_as_it_is, ending_with_a_pipe, keeping_some, family, calling_as_nobody, calling_after_the_end}
 use Rattle.ix_worked.specs.short.OnProcesses.{forking_often, waiting_for_a_child, ending_first, ending_out_of_order}
 use Rattle.ix_worked.proofs.Moves.{Move, GoesBy, number, bytes, answers, done, refuses, refuses_at, same, back_to, ◌▸◌, goes, tells, tells_by, logs_by}
 use Rattle.ix_worked.proofs.Worlds.{marked, with_made, with_process, with_object, with_line, floated, raised, opened, with_entry, with_fd, without_entry, moved}
 use Rattle.ix_worked.proofs.Worlds.{holding, with_new, with_pipe, claimed_by, with_child, with_ended, without_process}
+use Rattle.ix_model.specs.history.Events as op
+use Rattle.ix_model.specs.declared.audit.Act.TheVariants as act
+use Rattle.ix_model.specs.declared.call.Mode.TheVariants as mode
+use Rattle.ix_model.specs.declared.refusal.Refusal.TheVariants as refusal
+use Rattle.ix_model.specs.declared.reply.Kind.TheVariants as kind
+use Rattle.ix_model.specs.declared.reply.Reply.TheVariants as reply
 
 -- a pipe under the first two descriptors
 abbrev pipes : Move

@@ -1,32 +1,29 @@
 -- What the worked sessions show, entry by entry.
 use Rattle.std.proofs.Common.{◌≡◌, ℕ, true, false, List, [], ◌∷◌, ◌++◌, ◌∙◌, Some, None, replicate, take, drop, refl, sym, ap, codes}
 use Rattle.ix_label.specs.Category.{bottom}
-use Rattle.ix_model.specs.world.{Directories.without_name, Privs.{to_lower, to_thaw, to_grant, to_read_the_log, no_privileges}, World.{World, put}}
-use Rattle.ix_model.specs.opening.Opening.{opening_world}
+use Rattle.ix_model.specs.{world.{Directories.without_name, Privs.{to_lower, to_thaw, to_grant, to_read_the_log, no_privileges}, World.{World, put}}, opening.Opening.opening_world}
+use Rattle.ix_worked.specs.{Sessions.{shown, log_of}, Scripts.{three, four, seven, three_and_five, two_and_five, log_line}, processes.SharedOffset.writing_frozen_shows}
+use Rattle.ix_worked.specs.floating.{Untouched.{untouched, no_entries, untouched_shows}, Floating.{reading_up, reading, floating_shows, stopped_shows}}
+use Rattle.ix_worked.specs.floating.{FileCeiling.{low_files, writing_down, writing_down_shows}, LooksAnew.{reading_twice, reading_twice_shows}}
+use Rattle.ix_worked.specs.floating.{FrozenFile.{a_frozen_file, writing_to_it, writing_to_it_shows}, TwoLevels.{two_levels, writing, writing_shows}}
+use Rattle.ix_worked.specs.{floating.HighDirectory.{a_high_directory, looking_into_it, looking_into_it_shows}, privileges.Login.{office, asking, asking_shows}}
+use Rattle.ix_worked.{specs.privileges.{Downgrading.{one_line, lowering, lowering_shows}, Executing.{programs, executing, executing_shows}}, proofs.Moves.{goes, shows, shows_by, logs_by}}
+use Rattle.ix_worked.specs.{privileges.ReadingTheLog.{two_lines, reading_the_log, reading_the_log_shows}, files.FewBlocks.{two_blocks, filling, filling_shows}}
+use Rattle.ix_worked.specs.{privileges.TrustedFile.{writing_a_program, writing_a_program_shows}, files.SharedEntry.{one_file, sharing, sharing_shows}}
+use Rattle.ix_worked.specs.{files.Trees.{two_file_systems, naming, naming_shows}, processes.Inheriting.{letters, inheriting, inheriting_shows}}
+use Rattle.ix_worked.specs.processes.{Waiting.{a_secret, waiting, waiting_shows}, WaitingLow.{waiting_low, waiting_low_shows}}
+use Rattle.ix_worked.specs.pipes.{Claims.{claiming, claiming_shows}, Copying.{copying, copying_shows}, FullPipe.{one_process, piping, piping_shows}}
+use Rattle.ix_worked.specs.processes.SharedOffset.{one_shared, below_seven, reading_on, reading_on_shows, writing_on, writing_on_shows, writing_frozen}
+use Rattle.ix_worked.proofs.{Chains.Gives, Computing.{running, auditing}, Labels.labels, TwoBytes.two_bytes}
+use Rattle.ix_worked.proofs.Moves.{Move, GoesBy, given, left_by, each_gives, goes_on, number, bytes, answers, done, refuses, refuses_at, same, back_to, ◌▸◌}
+use Rattle.ix_worked.proofs.Worlds.{marked, with_made, with_process, with_object, with_line, floated, raised, opened, with_entry, with_fd, without_entry, moved}
+use Rattle.ix_worked.proofs.Worlds.{holding, with_new, with_pipe, claimed_by, with_child, with_ended, without_process}
 use Rattle.ix_model.specs.declared.audit.Act.TheVariants as act
 use Rattle.ix_model.specs.declared.call.Mode.TheVariants as mode
 use Rattle.ix_model.specs.declared.refusal.Refusal.TheVariants as refusal
 use Rattle.ix_model.specs.declared.reply.Kind.TheVariants as kind
 use Rattle.ix_model.specs.declared.reply.Reply.TheVariants as reply
-use Rattle.ix_worked.specs.{Sessions.{shown, log_of}, Scripts.{three, four, seven, three_and_five, two_and_five, log_line}}
-use Rattle.ix_worked.specs.{floating.Untouched.{untouched, no_entries, untouched_shows}, floating.Floating.{reading_up, reading, floating_shows, stopped_shows}}
-use Rattle.ix_worked.specs.{floating.FileCeiling.{low_files, writing_down, writing_down_shows}, floating.LooksAnew.{reading_twice, reading_twice_shows}}
-use Rattle.ix_worked.specs.{floating.FrozenFile.{a_frozen_file, writing_to_it, writing_to_it_shows}, floating.TwoLevels.{two_levels, writing, writing_shows}}
-use Rattle.ix_worked.specs.{floating.HighDirectory.{a_high_directory, looking_into_it, looking_into_it_shows}, privileges.Login.{office, asking, asking_shows}}
-use Rattle.ix_worked.specs.{privileges.Downgrading.{one_line, lowering, lowering_shows}, privileges.Executing.{programs, executing, executing_shows}}
-use Rattle.ix_worked.specs.{privileges.ReadingTheLog.{two_lines, reading_the_log, reading_the_log_shows}, files.FewBlocks.{two_blocks, filling, filling_shows}}
-use Rattle.ix_worked.specs.{privileges.TrustedFile.{writing_a_program, writing_a_program_shows}, files.SharedEntry.{one_file, sharing, sharing_shows}}
-use Rattle.ix_worked.specs.{files.Trees.{two_file_systems, naming, naming_shows}, processes.Inheriting.{letters, inheriting, inheriting_shows}}
-use Rattle.ix_worked.specs.{processes.Waiting.{a_secret, waiting, waiting_shows}, processes.WaitingLow.{waiting_low, waiting_low_shows}}
-use Rattle.ix_worked.specs.pipes.{Claims.{claiming, claiming_shows}, Copying.{copying, copying_shows}, FullPipe.{one_process, piping, piping_shows}}
 use Rattle.ix_worked.specs.floating.LooksAnew as anew
-use Rattle.ix_worked.specs.processes.SharedOffset.{one_shared, below_seven, reading_on, reading_on_shows, writing_on, writing_on_shows, writing_frozen}
-use Rattle.ix_worked.specs.processes.SharedOffset.{writing_frozen_shows}
-use Rattle.ix_worked.proofs.{Chains.Gives, Computing.{running, auditing}, Labels.labels, TwoBytes.two_bytes}
-use Rattle.ix_worked.proofs.Moves.{Move, GoesBy, given, left_by, each_gives, goes_on, number, bytes, answers, done, refuses, refuses_at, same, back_to, ◌▸◌}
-use Rattle.ix_worked.proofs.Moves.{goes, shows, shows_by, logs_by}
-use Rattle.ix_worked.proofs.Worlds.{marked, with_made, with_process, with_object, with_line, floated, raised, opened, with_entry, with_fd, without_entry, moved}
-use Rattle.ix_worked.proofs.Worlds.{holding, with_new, with_pipe, claimed_by, with_child, with_ended, without_process}
 
 -- ---- nothing is called
 pub is_untouched : shown untouched no_entries ≡ untouched_shows

@@ -1,30 +1,29 @@
 -- Which histories agree, and which don't.
-use Rattle.std.proofs.Common.{◌≡◌, ◌⊎◌, inl, inr, ℕ, suc, ◌==◌, Bool, true, false, true≢false, List, [], ◌∷◌, length, replicate, slice_index_or, Option, Some}
+use Rattle.std.{proofs.Common.{◌≡◌, ◌⊎◌, inl, inr, ℕ, suc, ◌==◌, Bool, true, false, true≢false, List, [], ◌∷◌, length, replicate, slice_index_or, Option, Some}, specs.Option.option_map_or}
 use Rattle.std.proofs.Common.{None, refl, sym, ap, ◌∙◌, subst, codes}
-use Rattle.std.specs.Option.{option_map_or}
 use Rattle.ix_label.specs.Category.{Categories, bottom, leq}
 use Rattle.ix_model.specs.{world.World.{Process, Frame, World, at, living}, opening.Opening.opening_world, history.{Step.{Given, step_of}, Events.{Op, Event}}}
 use Rattle.ix_model.specs.two_runs.{EqualLengths.{AgreeInLength, AgreeInLengthAt}, TwoRuns.{Agree, AgreeAt, IsHigh, IsLow, is_one_kind}}
+use Rattle.ix_worked.specs.{short.{OnDescriptors.desk, OnProcesses.family}, Scripts.{seven, in_root, by}, floating.TwoLevels.{two_levels, writing}}
+use Rattle.ix_worked.specs.PairsOfRuns.{BothAgree, BothAgreeInLength, is_read, LowRead, LowReadAlone, writing_low, leaving_high}
+use Rattle.ix_worked.proofs.{Chains.{Steps, number, bytes, refused, done, stepped}, Computing.running, Labels.{labels, leq-with_bottom}}
+use Rattle.ix_worked.proofs.Worlds.{floated, opened, with_entry, with_child, with_ended}
 use Rattle.ix_model.specs.history.Events as op
 use Rattle.ix_model.specs.two_runs.EqualLengths as equal
 use Rattle.ix_model.specs.two_runs.TwoRuns as runs
 use Rattle.ix_model.specs.declared.call.Keep.TheVariants as keep
 use Rattle.ix_model.specs.declared.call.Mode.TheVariants as mode
 use Rattle.ix_model.specs.declared.refusal.Refusal.TheVariants as refusal
-use Rattle.ix_worked.specs.{short.{OnDescriptors.desk, OnProcesses.family}, Scripts.{seven, in_root, by}, floating.TwoLevels.{two_levels, writing}}
-use Rattle.ix_worked.specs.PairsOfRuns.{BothAgree, BothAgreeInLength, is_read, LowRead, LowReadAlone, writing_low, leaving_high}
-use Rattle.ix_worked.proofs.{Chains.{Steps, number, bytes, refused, done, stepped}, Computing.running, Labels.{labels, leq-with_bottom}}
-use Rattle.ix_worked.proofs.Worlds.{floated, opened, with_entry, with_child, with_ended}
 use Rattle.ix_worked.proofs.TwoBytes as two
 
 -- ---- who is high, and who is low
 pub high_of : (l : Categories) (f : Frame) (pid : ℕ) (o : Option Process) → living (at f.processes pid) ≡ o → option_map_or (λ q. leq q.label l) o true ≡ false → IsHigh l f pid
 high_of l f pid None is h = absurd (true≢false h)
-high_of l f pid (Some q) is h = record { process = q; lives = is; high = h }
+high_of l f pid (Some q) is h = search
 
 low_of : (l : Categories) (f : Frame) (pid : ℕ) (o : Option Process) → living (at f.processes pid) ≡ o → option_map_or (λ q. leq q.label l) o false ≡ true → IsLow l f pid
 low_of l f pid None is h = absurd (true≢false (sym h))
-low_of l f pid (Some q) is h = record { process = q; lives = is; low = h }
+low_of l f pid (Some q) is h = search
 
 not_high : (l : Categories) (f : Frame) (pid : ℕ) → option_map_or (λ q. leq q.label l) (living (at f.processes pid)) true ≡ true → IsHigh l f pid → ⊥
 not_high l f pid h high = true≢false (sym h ∙ ap (λ o. option_map_or (λ q. leq q.label l) o true) high.lives ∙ high.high)
@@ -37,27 +36,27 @@ pub agree_on : (l : Categories) (v w : World) (place : ℕ) (e f : Event) (g h :
     → Steps w place f.pid f.op h → AgreeAt l v.frame e f → is_one_kind g.reply h.reply ≡ true → Agree l g.world h.world (suc place) events others
     → Agree l v w place (e ∷ events) (f ∷ others)
 agree_on l v w place e f g h events others first second here kind rest =
-    subst (λ (x : Given). AgreeAt l v.frame e f × is_one_kind x.reply (step_of w place f).reply ≡ true
-    × Agree l x.world (step_of w place f).world (suc place) events others) (sym (stepped v place e.pid e.op g first))
-    (subst (λ (y : Given). AgreeAt l v.frame e f × is_one_kind g.reply y.reply ≡ true × Agree l g.world y.world (suc place) events others)
-    (sym (stepped w place f.pid f.op h second)) (here, kind, rest))
+    subst (λ x. AgreeAt l v.frame e f × is_one_kind x.reply (step_of w place f).reply ≡ true
+    × Agree l x.world (step_of w place f).world (suc place) events others) (sym (stepped v _ _ _ g first))
+    (subst (λ y. AgreeAt l v.frame e f × is_one_kind g.reply y.reply ≡ true × Agree l g.world y.world (suc place) events others)
+    (sym (stepped w _ _ _ h second)) (here, kind, rest))
 
 agree_past : (l : Categories) (v w : World) (place : ℕ) (e f : Event) (g h : Given) (events others : List Event) → Steps v place e.pid e.op g
     → Steps w place f.pid f.op h → Agree l v w place (e ∷ events) (f ∷ others) → is_one_kind g.reply h.reply ≡ true
     × Agree l g.world h.world (suc place) events others
 agree_past l v w place e f g h events others first second agree =
-    subst (λ (y : Given). is_one_kind g.reply y.reply ≡ true × Agree l g.world y.world (suc place) events others) (stepped w place f.pid f.op h second)
-    (subst (λ (x : Given). is_one_kind x.reply (step_of w place f).reply ≡ true × Agree l x.world (step_of w place f).world (suc place) events others)
-    (stepped v place e.pid e.op g first) (agree.1, agree.2))
+    subst (λ y. is_one_kind g.reply y.reply ≡ true × Agree l g.world y.world (suc place) events others) (stepped w _ _ _ h second)
+    (subst (λ x. is_one_kind x.reply (step_of w place f).reply ≡ true × Agree l x.world (step_of w place f).world (suc place) events others)
+    (stepped v _ _ _ g first) (agree.1, agree.2))
 
 equal_on : (l : Categories) (w : World) (place : ℕ) (e f : Event) (g : Given) (events others : List Event) → Steps w place e.pid e.op g
     → AgreeInLengthAt l w.frame e f → AgreeInLength l g.world (suc place) events others → AgreeInLength l w place (e ∷ events) (f ∷ others)
 equal_on l w place e f g events others link here rest =
-    subst (λ (x : Given). AgreeInLengthAt l w.frame e f × AgreeInLength l x.world (suc place) events others) (sym (stepped w place e.pid e.op g link)) (here, rest)
+    subst (λ x. AgreeInLengthAt l w.frame e f × AgreeInLength l x.world (suc place) events others) (sym (stepped w _ _ _ g link)) (here, rest)
 
 equal_past : (l : Categories) (w : World) (place : ℕ) (e f : Event) (g : Given) (events others : List Event) → Steps w place e.pid e.op g
     → AgreeInLength l w place (e ∷ events) (f ∷ others) → AgreeInLength l g.world (suc place) events others
-equal_past l w place e f g events others link agree = subst (λ (x : Given). AgreeInLength l x.world (suc place) events others) (stepped w place e.pid e.op g link) agree.1
+equal_past l w place e f g events others link agree = subst (λ x. AgreeInLength l x.world (suc place) events others) (stepped w _ _ _ g link) agree.1
 
 -- ---- where entries agree they are equal, or the caller is high
 agrees_as : {l : Categories} {f : Frame} {e g : Event} → AgreeAt l f e g → (e ≡ g) ⊎ IsHigh l f e.pid
@@ -90,11 +89,11 @@ differ l f e g byte is isnt low (inr high) = low high
 -- ---- other bytes by a high process
 writer_is_high : IsHigh bottom two.all_open.frame 2
 unfolding two.all_open
-writer_is_high = high_of bottom two.all_open.frame 2 (living (at two.all_open.frame.processes 2)) refl (leq-with_bottom bottom 7)
+writer_is_high = high_of _ _ 2 _ refl (leq-with_bottom _ 7)
 
 writer_is_low_at_seven : IsHigh seven two.all_open.frame 2 → ⊥
 unfolding two.all_open
-writer_is_low_at_seven = not_high seven two.all_open.frame 2 (simp labels refl)
+writer_is_low_at_seven = not_high _ _ 2 (simp labels refl)
 
 -- three bytes
 unfoldable pub written_three : World
@@ -186,7 +185,7 @@ more_bytes_agree = subst (λ w. Agree bottom w w 1 (writing (codes "AA")) (writi
 pub more_bytes_do_not_in_length : BothAgreeInLength bottom two_levels (writing (codes "AA")) (writing (codes "ABC")) → ⊥
 unfolding written_by
 more_bytes_do_not_in_length h =
-    let now : AgreeInLengthAt bottom two.all_open.frame (two.writes (codes "AA")) (two.writes (codes "ABC")) = (equal_after bottom (codes "AA") (codes "ABC") h).0 in
+    let now = (equal_after _ _ _ h).0 in
     true≢false (ap (λ n. n == 2) (equal_lengths now))
 
 pub too_many_do_not : BothAgree bottom two_levels (writing (codes "AA")) (writing (replicate 4097 65)) → ⊥
@@ -201,12 +200,12 @@ too_many_do_not h =
 pub own_bytes_do_not : BothAgree seven two_levels (writing (codes "AA")) (writing (codes "BB")) → ⊥
 unfolding written_by
 own_bytes_do_not h =
-    differ seven two.all_open.frame (two.writes (codes "AA")) (two.writes (codes "BB")) 65 refl refl writer_is_low_at_seven (agrees_as ((agree_after seven (codes "AA") (codes "BB") h).0))
+    differ _ _ _ _ 65 refl refl writer_is_low_at_seven (agrees_as ((agree_after _ _ _ h).0))
 
 pub own_bytes_do_not_in_length : BothAgreeInLength seven two_levels (writing (codes "AA")) (writing (codes "BB")) → ⊥
 unfolding written_by
 own_bytes_do_not_in_length h =
-    differ seven two.all_open.frame (two.writes (codes "AA")) (two.writes (codes "BB")) 65 refl refl writer_is_low_at_seven (agrees_in_length_as ((equal_after seven (codes "AA") (codes "BB") h).0))
+    differ _ _ _ _ 65 refl refl writer_is_low_at_seven (agrees_in_length_as ((equal_after _ _ _ h).0))
 
 -- ---- a low process
 desk_opens : World
@@ -224,7 +223,7 @@ opens_desk = (simp labels refl, refl)
 
 one_is_low : IsHigh bottom desk_opens.frame 1 → ⊥
 unfolding running desk_opens
-one_is_low = not_high bottom desk_opens.frame 1 (simp labels refl)
+one_is_low = not_high _ _ 1 (simp labels refl)
 
 pub low_bytes_do_not : BothAgree bottom desk (writing_low (codes "x")) (writing_low (codes "y")) → ⊥
 unfolding written_by

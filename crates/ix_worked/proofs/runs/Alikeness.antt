@@ -1,12 +1,10 @@
 -- Worlds that are alike, and worlds that aren't.
-use Rattle.std.proofs.Common.{◌≡◌, ℕ, zero, suc, ◌==◌, true, false, true≢false, [], ◌∷◌, take, length, slice_index_or, Option, Some, None, refl, sym, ap, ◌∙◌}
-use Rattle.std.proofs.Common.{subst₂, codes}
+use Rattle.std.proofs.Common.{◌≡◌, ℕ, zero, suc, ◌==◌, true, false, true≢false, [], ◌∷◌, take, length, slice_index_or, Option, Some, None, refl, sym, ap, ◌∙◌, subst₂, codes}
 use Rattle.std.specs.Option.{option_map_or}
 use Rattle.ix_label.specs.Category.{Categories, bottom, leq}
 use Rattle.ix_model.specs.{world.{World.{Object, Open, World, at}, Contents.{holding_of, offset_of}}, history.Step.run}
 use Rattle.ix_model.specs.two_runs.{EqualLengths.{AlikeInLength, outline}, TwoRuns.{Alike, AlikeIn, shape}}
-use Rattle.ix_worked.specs.{PairsOfRuns.after, Scripts.seven, floating.TwoLevels.{two_levels, writing}}
-use Rattle.ix_worked.proofs.{Chains.{◌⨾◌, number, run_given}, Labels.{labels, leq-with_bottom}}
+use Rattle.ix_worked.{specs.{PairsOfRuns.after, Scripts.seven, floating.TwoLevels.{two_levels, writing}}, proofs.{Chains.{◌⨾◌, number, run_given}, Labels.{labels, leq-with_bottom}}}
 use Rattle.ix_worked.proofs.runs.Agreeing as agreeing
 use Rattle.ix_worked.proofs.TwoBytes as two
 
@@ -89,7 +87,7 @@ same_bytes l v w o (Some x) is low h = h.inside.bytes o x is low
 not_at_seven : Alike seven (two.written 65 65) (two.written 66 66) → ⊥
 unfolding two.written
 not_at_seven h =
-    true≢false (ap (λ c. slice_index_or c.first 0 0 == 65) (same_bytes seven (two.written 65 65) (two.written 66 66) 1 (at (two.written 65 65).frame.objects 1) refl (simp labels refl) h))
+    true≢false (ap (λ c. slice_index_or c.first 0 0 == 65) (same_bytes _ _ _ 1 _ refl (simp labels refl) h))
 
 pub two_are_not_at_seven : Alike seven (after two_levels (writing (codes "AA")) 4) (after two_levels (writing (codes "BB")) 4) → ⊥
 two_are_not_at_seven h = not_at_seven (subst₂ (λ v w. Alike seven v w) (after_two 65 65) (after_two 66 66) h)

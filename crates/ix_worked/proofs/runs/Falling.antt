@@ -1,15 +1,12 @@
 -- Where labels are lowered, and where none is.
-use Rattle.std.proofs.Common.{◌≡◌, ℕ, zero, suc, Bool, true, false, true≢false, ◌&&◌, List, [], ◌∷◌, Option, Some, None, refl, sym, ap, ◌∙◌, subst, subst₂}
-use Rattle.std.proofs.Common.{codes}
+use Rattle.std.proofs.Common.{◌≡◌, ℕ, zero, suc, Bool, true, false, true≢false, ◌&&◌, List, [], ◌∷◌, Option, Some, None, refl, sym, ap, ◌∙◌, subst, subst₂, codes}
 use Rattle.std.{specs.Option.option_map_or, proofs.lemmas.Bool.{false_from_ne_true, and_parts}}
 use Rattle.ix_label.specs.{Category.{Categories, bottom, leq}, Lattice.leq-trans}
-use Rattle.ix_model.specs.{world.World.{Object, Process, Frame, World, at}, opening.Opening.opening_world}
-use Rattle.ix_model.specs.history.{Step.{Given, step_of}, Events.Event, Lowering.{Lowered, Crosses}}
+use Rattle.ix_model.specs.{world.World.{Object, Process, Frame, World, at}, opening.Opening.opening_world, history.{Step.{Given, step_of}, Events.Event, Lowering.{Lowered, Crosses}}}
+use Rattle.ix_worked.{specs.{PairsOfRuns.{before, after, LowersNowhere, CrossesNowhere}, floating.TwoLevels.{two_levels, writing}}, proofs.worked.{lowering_moves, lowering_goes}}
+use Rattle.ix_worked.proofs.{Chains.{Steps, number, bytes, stepped}, Computing.running, Labels.labels, Moves.{world_after, comes_to}}
 use Rattle.ix_model.specs.history.Lowering as lowering
 use Rattle.ix_worked.specs.privileges.Downgrading as session
-use Rattle.ix_worked.specs.{PairsOfRuns.{before, after, LowersNowhere, CrossesNowhere}, floating.TwoLevels.{two_levels, writing}}
-use Rattle.ix_worked.proofs.{Chains.{Steps, number, bytes, stepped}, Computing.running, Labels.labels, Moves.{world_after, comes_to}}
-use Rattle.ix_worked.proofs.worked.{lowering_moves, lowering_goes}
 use Rattle.ix_worked.proofs.TwoBytes as two
 
 -- ---- a label is lowered
@@ -30,11 +27,11 @@ third n = world_after session.one_line session.lowering lowering_moves n
 
 lowers_there : Lowered (third 2).frame (third 3).frame
 unfolding running
-lowers_there = object_falls (third 2).frame (third 3).frame 1 (at (third 2).frame.objects 1) (at (third 3).frame.objects 1) refl refl (simp labels refl)
+lowers_there = object_falls _ _ 1 _ _ refl refl (simp labels refl)
 
 crosses_there : Crosses bottom (third 2).frame (third 3).frame
 unfolding running
-crosses_there = object_crosses bottom (third 2).frame (third 3).frame 1 (at (third 2).frame.objects 1) (at (third 3).frame.objects 1) refl refl (simp labels refl) (simp labels refl)
+crosses_there = object_crosses _ _ _ 1 _ _ refl refl (simp labels refl) (simp labels refl)
 
 -- what is so from the world before an entry to the one after it
 from_to : (R : World → World → Type 0) → R (third 2) (third 3) → R (before session.one_line session.lowering 3) (after session.one_line session.lowering 3)
@@ -62,31 +59,31 @@ holds_at : {A : Type 0} (p : A → A → Bool) (t u : List (Option A)) (n : ℕ)
 holds_at p [] u n h = refl
 holds_at p (None ∷ t) [] zero h = refl
 holds_at p (Some x ∷ t) [] zero h = refl
-holds_at p (x ∷ t) [] (suc n) h = nothing (at t n)
+holds_at p (x ∷ t) [] (suc n) h = nothing _
   where
     nothing : (a : Option _) → pair p a None ≡ true
     nothing None = refl
     nothing (Some y) = refl
-holds_at p (x ∷ t) (y ∷ u) zero h = (and_parts (pair p x y) (pairs p t u) h).0
-holds_at p (x ∷ t) (y ∷ u) (suc n) h = holds_at p t u n ((and_parts (pair p x y) (pairs p t u) h).1)
+holds_at p (x ∷ t) (y ∷ u) zero h = (and_parts _ _ h).0
+holds_at p (x ∷ t) (y ∷ u) (suc n) h = holds_at p t u n ((and_parts _ _ h).1)
 
 rises : (f g : Frame) → pairs {A = Object} (λ x y. leq x.label y.label) f.objects g.objects ≡ true → pairs {A = Process} (λ x y. leq x.label y.label) f.processes g.processes ≡ true → Lowered f g → ⊥
 rises f g objects processes (lowering.Lowered.OfObject o x y is_x is_y falls) =
-    true≢false (sym (holds_at {A = Object} (λ a b. leq a.label b.label) f.objects g.objects o objects)
-    ∙ ap (λ a. pair {A = Object} (λ c d. leq c.label d.label) a (at g.objects o)) is_x
-    ∙ ap (λ b. pair {A = Object} (λ c d. leq c.label d.label) (Some x) b) is_y ∙ falls)
+    true≢false (sym (holds_at _ _ _ o objects)
+    ∙ ap (λ a. pair (λ c d. leq c.label d.label) a (at g.objects o)) is_x
+    ∙ ap (λ b. pair (λ c d. leq c.label d.label) (Some x) b) is_y ∙ falls)
 rises f g objects processes (lowering.Lowered.OfProcess p x y is_x is_y falls) =
-    true≢false (sym (holds_at {A = Process} (λ a b. leq a.label b.label) f.processes g.processes p processes)
-    ∙ ap (λ a. pair {A = Process} (λ c d. leq c.label d.label) a (at g.processes p)) is_x
-    ∙ ap (λ b. pair {A = Process} (λ c d. leq c.label d.label) (Some x) b) is_y ∙ falls)
+    true≢false (sym (holds_at _ _ _ p processes)
+    ∙ ap (λ a. pair (λ c d. leq c.label d.label) a (at g.processes p)) is_x
+    ∙ ap (λ b. pair (λ c d. leq c.label d.label) (Some x) b) is_y ∙ falls)
 
 -- what crosses a label lowers one
 falls_across : (l a b : Categories) → leq a l ≡ false → leq b l ≡ true → leq a b ≡ false
 falls_across l a b above below = false_from_ne_true _ (λ h. true≢false (sym (leq-trans a b l h below) ∙ above))
 
 crosses_lowers : (l : Categories) (f g : Frame) → Crosses l f g → Lowered f g
-crosses_lowers l f g (lowering.Crosses.OfObject o x y is_x is_y above below) = lowering.Lowered.OfObject o x y is_x is_y (falls_across l x.label y.label above below)
-crosses_lowers l f g (lowering.Crosses.OfProcess p x y is_x is_y above below) = lowering.Lowered.OfProcess p x y is_x is_y (falls_across l x.label y.label above below)
+crosses_lowers l f g (lowering.Crosses.OfObject o x y is_x is_y above below) = lowering.Lowered.OfObject o x y is_x is_y (falls_across l _ _ above below)
+crosses_lowers l f g (lowering.Crosses.OfProcess p x y is_x is_y above below) = lowering.Lowered.OfProcess p x y is_x is_y (falls_across l _ _ above below)
 
 crosses_nowhere : (l : Categories) (w : World) (place : ℕ) (events : List Event) → LowersNowhere w place events → CrossesNowhere l w place events
 crosses_nowhere l w place [] h = tt
@@ -96,7 +93,7 @@ crosses_nowhere l w place (e ∷ events) h = (λ c. h.0 (crosses_lowers l w.fram
 lowers_on : (w : World) (place : ℕ) (e : Event) (g : Given) (events : List Event) → Steps w place e.pid e.op g → (Lowered w.frame g.world.frame → ⊥)
     → LowersNowhere g.world (suc place) events → LowersNowhere w place (e ∷ events)
 lowers_on w place e g events link here rest =
-    subst (λ (x : Given). (Lowered w.frame x.world.frame → ⊥) × LowersNowhere x.world (suc place) events) (sym (stepped w place e.pid e.op g link)) (here, rest)
+    subst (λ x. (Lowered w.frame x.world.frame → ⊥) × LowersNowhere x.world (suc place) events) (sym (stepped w _ _ _ g link)) (here, rest)
 
 -- ---- session by session
 rises_1 : Lowered two.at_first.frame two.one_open.frame → ⊥

@@ -2,11 +2,10 @@
 use Rattle.std.{proofs.Common.{◌≡◌, ℕ, suc, Bool, true, false, List, [], ◌∷◌, map, take, length, refl, ap, ◌∙◌}, specs.List.range_with_len}
 use Rattle.ix_model.specs.{world.World.World, declared.config.Config.Config, opening.Opening.opening_world}
 use Rattle.ix_model.specs.history.{Step.Given, Events.Event, Freshness.{Way, fresh_after, fresh_from, is_fresh}}
-use Rattle.ix_model.specs.history.Freshness as way
 use Rattle.ix_worked.specs.{floating.LooksAnew.{held_low, reading_twice}, short.OnEntries.{shared_desk, seeking_high}, PairsOfRuns.fresh_along, Sessions.calls}
-use Rattle.ix_worked.specs.files.SharedEntry.{one_file, sharing}
+use Rattle.ix_worked.{specs.files.SharedEntry.{one_file, sharing}, proofs.{short.{seeking_high_moves, seeking_high_go}, worked.{twice_moves, twice_goes, sharing_moves, sharing_goes}}}
 use Rattle.ix_worked.proofs.{Chains.{◌⨾◌, Gives, stepped, gives_some}, Computing.{running, auditing}, Labels.labels, Moves.{Move, GoesBy, given}}
-use Rattle.ix_worked.proofs.{short.{seeking_high_moves, seeking_high_go}, worked.{twice_moves, twice_goes, sharing_moves, sharing_goes}}
+use Rattle.ix_model.specs.history.Freshness as way
 
 -- whether a descriptor is fresh after a history that gives this
 abbrev fresh_by : Bool → World → List Event → List Given → ℕ → ℕ → Way → Bool
@@ -35,7 +34,7 @@ fresh_each w events gs pid fd way h (n ∷ ns) =
 -- along a session that goes by these moves
 fresh_on : (c : Config) (events : List Event) (moves : List Move) (pid fd : ℕ) (way : Way) → GoesBy c events moves → fresh_along c events pid fd way
     ≡ map (λ n. fresh_by false (opening_world c) (take n events) (take n (given (opening_world c) moves)) pid fd way) (range_with_len 1 (length events))
-fresh_on c events moves pid fd way h = fresh_each (opening_world c) events (given (opening_world c) moves) pid fd way h (range_with_len 1 (length events))
+fresh_on c events moves pid fd way h = fresh_each _ _ _ _ fd _ h _
 
 -- ---- a file is raised
 pub read_is_fresh : fresh_along held_low reading_twice 1 0 way.Way.Reading ≡ false ∷ false ∷ true ∷ false ∷ false ∷ []
