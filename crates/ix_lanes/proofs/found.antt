@@ -3,7 +3,5 @@ pub mod Keyed
 pub mod Near
 pub mod Placing
 pub mod Indexed
-pub mod LaneCount
-pub mod SeatSearch
 pub mod Numbering
 pub mod Roles

@@ -14,4 +14,3 @@ pub mod SideBySide
 pub mod InOrder
 pub mod Stretching
 pub mod Among
-pub mod Turns

@@ -1,11 +1,11 @@
 ghost use Rattle.std.specs.Prelude.{◌≡◌, ◌+◌, ◌<◌, ◌≤◌, IfOk, OnOk, length};
-ghost use Rattle.ix_script.specs.{lines.{Before.{lanes_of, proc_name_told}, Roles.{role_of}}, scripts.Schedule.{seat_from, seat_after}};
+ghost use Rattle.ix_script.specs.lines.Before.{proc_name_told};
 ghost use Rattle.ix_lanes.specs.histories.{Indexed.{line_in}, Serial.{header_of, numbered}};
 
 use crate::asking::bindings::Bindings;
 use crate::lines::{line_at, role_at};
 use ix_model::NoMemory;
-use ix_script::{Line, NameWord, Role, Script};
+use ix_script::{Line, Role, Script};
 use std::alloc::Global;
 
 /// Lets the name of the line at an index, where that is a `proc` line, stand for the pid after so many. The line is made only where
@@ -41,36 +41,4 @@ pub fn header_of(alloc: Global, script: &Script<'_>) -> Result<Bindings<u32>, No
         count = add_proc(&mut header, count, script, index)?;
     }
     Ok(header)
-}
-
-/// The seat of the lane of a name.
-fn seat_of(script: &Script<'_>, name: &NameWord<'_>) -> Option<u32>
-    ensures { result ≡ seat_from 0 name.now (lanes_of script.now) }
-{
-    for seat in 0..script.len() {
-        let Some(lane) = script.lane(seat) else {
-            return None;
-        };
-        if name.as_bytes() == lane {
-            return Some(seat);
-        }
-    }
-    None
-}
-
-/// The seat of the lane in which the line after the one at an index stands. Of the lines only one that begins a lane's part of a phase is
-/// made for it.
-pub fn seat_past(script: &Script<'_>, seat: Option<u32>, index: u32, role: Role) -> Option<u32>
-    requires within { index < length script.now }
-    requires role { role ≡ role_of (line_in script.now index) }
-    ensures { result ≡ seat_after (lanes_of script.now) seat (line_in script.now index) }
-{
-    match role {
-        Role::Phase => None,
-        Role::Lane => match &line_at(script, index) {
-            Line::Lane { name } => seat_of(script, name),
-            _ => seat,
-        },
-        _ => seat,
-    }
 }

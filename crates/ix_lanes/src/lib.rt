@@ -9,7 +9,7 @@ mod running;
 
 pub use asking::bindings::Bindings;
 pub use asking::caller::Caller;
-pub use lanes::{header_of, seat_past};
+pub use lanes::header_of;
 pub use lines::{line_at, role_at};
 pub use running::lane_calls::LaneCalls;
 pub use running::lane_run::LaneRun;

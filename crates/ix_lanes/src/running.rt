@@ -9,4 +9,3 @@ pub mod part;
 pub mod phases;
 pub mod serial_calls;
 pub mod side_by_side;
-pub mod turns;

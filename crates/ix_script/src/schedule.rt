@@ -1,5 +1,5 @@
-ghost use Rattle.std.specs.{Prelude.{◌≡◌, ℕ, ◌++◌, ◌+◌, ◌<◌, ◌≤◌, [], length, drop, slice_index_or, OnOk, IfOk}, Option.{option_map_or}};
-ghost use Rattle.ix_script.specs.{scripts.Held.{IsSchedule}, scripts.Schedule.{SeatsDiffer, begins_part, begun_in, part_len, seat_from, stretch_in}};
+ghost use Rattle.std.specs.{Prelude.{◌≡◌, ℕ, ◌++◌, ◌+◌, ◌<◌, ◌≤◌, ◌==◌, [], None, length, drop, slice_get, slice_index_or, OnOk, IfOk, if◌then◌else◌}, Option.{option_map_or}};
+ghost use Rattle.ix_script.specs.{scripts.Held.{IsSchedule}, scripts.Schedule.{SeatsDiffer, begins_part, begun_in, part_len, seat_begun, seat_from, seat_marked, stretch_in}};
 
 use crate::packed::Lines;
 use crate::role::Role;
@@ -25,7 +25,12 @@ pub(crate) struct Schedule {
     pub phases: u32,
     /// The stretches of each lane, in order.
     pub stretches: Vec<List<Stretch>>,
+    /// By the index of a line: the seat of the lane that it begins, or [`NO_SEAT`].
+    pub seats: Vec<u8>,
 }
+
+/// It stands for no seat.
+pub(crate) const NO_SEAT: u8 = 255;
 
 /// So many lists of no stretch.
 fn no_stretches(alloc: Global, count: usize) -> Result<Vec<List<Stretch>>, NoMemory>
@@ -70,9 +75,10 @@ fn part_end(lines: &Lines<'_>, first: usize) -> usize
 }
 
 /// Takes the line at an index, before which so many phases have begun, and answers how many have begun behind it. The stretch
-/// behind a `lane` line is put to those of its lane. The seat that the next `lane` line is likely to have is kept.
+/// behind a `lane` line is put to those of its lane, and its seat is marked. The seat that the next `lane` line is likely to have is kept.
 fn add_line(
     stretches: &mut Vec<List<Stretch>>,
+    seats: &mut Vec<u8>,
     lanes: &[Name],
     lines: &Lines<'_>,
     index: usize,
@@ -84,7 +90,12 @@ fn add_line(
     requires begun { begun ≤ index }
     requires lanes { length stretches.old.items ≡ length lanes.now }
     requires differ { SeatsDiffer lanes.now }
+    requires few_lanes { length lanes.now ≤ 64 }
+    requires seats { length seats.old.items ≡ length lines.now.said }
+    requires unset { seat_marked (slice_index_or seats.old.items index 255) ≡ None }
     ensures lanes { length stretches.new.items ≡ length lanes.now }
+    ensures seats { length seats.new.items ≡ length lines.now.said }
+    ensures marked { OnOk result ((i : ℕ) → seat_marked (slice_index_or seats.new.items i 255) ≡ (if i == index then seat_begun lanes.now (slice_get lines.now.said i) else seat_marked (slice_index_or seats.old.items i 255))) }
     ensures begun { IfOk result (λ after. after ≡ begun_in begun index lines.now.said) }
     ensures more { OnOk result ((seat : ℕ) → slice_index_or stretches.new.items seat [] ≡ slice_index_or stretches.old.items seat [] ++ stretch_in lanes.now seat begun index lines.now.said) }
 {
@@ -102,6 +113,7 @@ fn add_line(
         return Ok(begun);
     };
     *next = seat.saturating_add(1);
+    seats[index] = seat as u8;
     stretches[seat].push(Stretch {
         phase: begun.saturating_sub(1),
         first: index as u32 + 1,
@@ -115,17 +127,20 @@ impl Schedule {
     pub fn of(alloc: Global, lines: &Lines<'_>, lanes: &[Name]) -> Result<Schedule, NoMemory>
         requires few { length lines.now.said ≤ 16777216 }
         requires differ { SeatsDiffer lanes.now }
+        requires few_lanes { length lanes.now ≤ 64 }
         ensures { IfOk result (λ s. IsSchedule s lines.now.said lanes.now) }
     {
         let mut stretches = no_stretches(alloc, lanes.len())?;
-        let mut begun = 0;
-        let mut next = 0;
+        let mut seats = Vec::new(alloc);
+        seats.resize(lines.len(), NO_SEAT)?;
+        let (mut begun, mut next) = (0, 0);
         'lines: for index in 0..lines.len() {
-            begun = add_line(&mut stretches, lanes, lines, index, begun, &mut next)?;
+            begun = add_line(&mut stretches, &mut seats, lanes, lines, index, begun, &mut next)?;
         }
         Ok(Schedule {
             phases: begun.max(1),
             stretches,
+            seats,
         })
     }
 }

@@ -1,12 +1,12 @@
 ghost use Rattle.std.{specs.Prelude.{◌≡◌, ◌≤◌, ◌-◌, ◌==◌, length, slice_get, true, None, if◌then◌else◌, IfOk, IsTrue}, proofs.Common.{option_map}};
 ghost use Rattle.ix_script.specs.{lines.Before.{form_told, lanes_of, commands}, lines.Roles.{EndsHeader, role_of}, scripts.Need.{need}};
-ghost use Rattle.{ix_script.specs.{scripts.Schedule.{LanesOnce, phases, stretches_of}, scripts.Scripts.{config_of, policy_of}}, ix_model.specs.opening.Valid.{is_valid}};
+ghost use Rattle.{ix_script.specs.{scripts.Schedule.{LanesOnce, phases, seat_begun, stretches_of}, scripts.Scripts.{config_of, policy_of}}, ix_model.specs.opening.Valid.{is_valid}};
 
 use crate::line::Line;
 use crate::packed::Lines;
 use crate::plan::config;
 use crate::role::Role;
-use crate::schedule::{Schedule, Stretch};
+use crate::schedule::{NO_SEAT, Schedule, Stretch};
 use ix_label::Form;
 use ix_model::{Config, List, Name, NoMemory};
 use std::alloc::Global;
@@ -77,6 +77,17 @@ impl<'a> Script<'a> {
         ensures { result ≡ option_map role_of (if number == 0 then None else slice_get self.now (number - 1)) }
     {
         self.lines.role((number as usize).checked_sub(1)?)
+    }
+
+    /// The seat of the lane that the line of a number from 1 begins; `None` exactly where it begins none.
+    #[inline(always)]
+    pub fn seat(&self, number: u32) -> Option<u32>
+        ensures { result ≡ seat_begun (lanes_of self.now) (if number == 0 then None else slice_get self.now (number - 1)) }
+    {
+        match self.schedule.seats.get((number as usize).checked_sub(1)?) {
+            Some(seat) if *seat != NO_SEAT => Some(u32::from(*seat)),
+            _ => None,
+        }
     }
 
     /// How many lanes it has: each stands at most once in a phase.

@@ -1,7 +1,7 @@
 -- A list, as it is gone through by index.
 use Rattle.std.proofs.Common.{◌≡◌, unwrap_or, slice_index_or, ℕ, ◌+◌, ◌-◌, ◌<◌, ◌≤◌, ◌==◌, List, [], ◌∷◌, length, drop, Option, Some, None, refl, sym, ap, ◌∙◌}
 use Rattle.std.proofs.Common.{arith, slice_get, add-one, false, inl, inr, if◌then◌else◌}
-use Rattle.std.specs.{Prelude.IfSome, Option.option_map}
+use Rattle.std.specs.Prelude.{IfSome}
 use Rattle.std.proofs.{Math.Seq.drop-cons, lemmas.{List.drop_all, Option.{slice_get_within, slice_get_cases, get_or_from_slice_get, unwrap_or-slice_get}}}
 
 -- the item at an index, and those after it
@@ -35,10 +35,6 @@ counted_from_one xs i =
 pub if_some_below : (o : Option ℕ) (n m : ℕ) → n ≤ m → IfSome o (λ s. s < n) → IfSome o (λ s. s < m)
 if_some_below None n m h k = tt
 if_some_below (Some s) n m h k = omega (arith, h, k)
-
--- nothing is nothing, however it is seen
-pub none_mapped : {A B : Type 0} (f : A → B) (o : Option A) → o ≡ None → option_map f o ≡ None
-none_mapped f o none = ap (option_map f) none
 
 -- an item that isn't there
 pub or_default : {A : Type 0} (xs : List A) (i : ℕ) (d : A) → slice_get xs i ≡ None → d ≡ slice_index_or xs i d

@@ -2,7 +2,7 @@
 use Rattle.std.proofs.Common.{◌≡◌, ℕ, ◌<◌, true, false, true≢false, List, [], length, Option, Some, None, refl, sym, slice_get}
 use Rattle.std.proofs.lemmas.Option.{get_or_from_slice_get, slice_get-get_or}
 use Rattle.ix_script.specs.{declared.line.Line.Line, lines.{Before.{new_fds, new_procs, proc_name_told, is_phase}, Roles.role_of}}
-use Rattle.ix_script.specs.scripts.Schedule.{begins_part, seat_after}
+use Rattle.ix_script.specs.scripts.Schedule.{begins_part, seat_after, seat_begun}
 use Rattle.ix_script.specs.declared.line.Line.TheVariants as line
 use Rattle.ix_script.specs.declared.role.Role.TheVariants as role
 use Rattle.ix_lanes.specs.{declared.asking.places.Places.Places, asking.Places.has_places, histories.Indexed.line_in, running.Serially.role_begins}
@@ -53,12 +53,11 @@ seat-stays lanes at line.Phase begins = absurd (true≢false begins)
 seat-stays lanes at (line.Lane name) begins = absurd (true≢false begins)
 seat-stays lanes at _ begins = refl
 
--- a line that begins a lane's part of a phase names the lane
-pub seat-named : (lanes : List (List ℕ)) (at : Option ℕ) (l : Line) → role_of l ≡ role.Lane → ((name : List ℕ) → l ≡ line.Lane name → ⊥)
-    → seat_after lanes at l ≡ at
+-- the lane of a line that begins a lane's part of a phase is the one that it names
+pub seat-named : (lanes : List (List ℕ)) (at : Option ℕ) (l : Line) → role_of l ≡ role.Lane → seat_after lanes at l ≡ seat_begun lanes (Some l)
 unfolding role_of
-seat-named lanes at (line.Lane name) is not = absurd (not name refl)
-seat-named lanes at _ is not = cc
+seat-named lanes at (line.Lane name) is = refl
+seat-named lanes at _ is = cc
 
 -- ---- names
 -- a line that doesn't stand in the header names no process of it

@@ -18,7 +18,6 @@ use crate::running::beginning::begin;
 use crate::running::hearing::heard;
 use crate::running::lane_calls::places_of;
 use crate::running::part::Part;
-use crate::running::turns::Turns;
 use ix_asking::{Asks, Copying, Step};
 use ix_model::{Buf, Call, Entry, NoMemory, Reply};
 use ix_policy::Policy;
@@ -50,7 +49,6 @@ struct Place<'a> {
     seat: Option<u32>,
     /// The line itself, where it stands in one.
     line: Option<Line<'a>>,
-    turns: Turns,
 }
 
 /// The seat of the lane in which a line may ask for calls: one that begins a phase, or a lane's part of it, asks for none.
@@ -74,8 +72,10 @@ impl<'a> Place<'a> {
         ensures line { self.new.line ≡ self.old.line }
     {
         let _count = script.len();
-        if let Role::Phase | Role::Lane = role {
-            self.seat = self.turns.seat_past(script, self.seat, self.at, role);
+        match role {
+            Role::Phase => self.seat = None,
+            Role::Lane => self.seat = script.seat(self.at + 1),
+            _ => {}
         }
         self.at += 1;
     }
@@ -196,7 +196,6 @@ impl<'a> SerialCalls<'a> {
             at: 0,
             seat: None,
             line: None,
-            turns: Turns::new(),
         };
         here.find(
             script,

@@ -1,13 +1,13 @@
 -- The schedule of lines, made line after line.
-use Rattle.std.proofs.Common.{◌≡◌, ℕ, zero, suc, ◌+◌, ◌-◌, ◌<◌, ◌≤◌, ◌==◌, Bool, true, false, ◌||◌, cond, List, [], ◌∷◌, ◌++◌, length, drop, set, get_or, max}
+use Rattle.std.proofs.Common.{◌≡◌, ℕ, zero, suc, ◌+◌, ◌-◌, ◌<◌, ◌≤◌, ◌==◌, nat_lt, replicate, Bool, true, false, ◌||◌, cond, List, [], ◌∷◌, ◌++◌, length, drop, take, set, get_or, max}
 use Rattle.std.proofs.Common.{count_by, Option, Some, None, option_map, refl, sym, ap, ◌∙◌, subst, ◌⊎◌, arith, append_assoc, add-one, inl, inr}
-use Rattle.std.{specs.{List.slice_get, Option.option_map_or}, proofs.lemmas.List.{append-nil, drop_all, length-drop, get_or-set_same, get_or-set_other}}
-use Rattle.std.proofs.{Math.{Nat.max_comm, Seq.drop-cons}, lemmas.{Bool.{cases_Bool, cases_eq, eq-eqb, ne_eqb, false≢true}, List.Sums.sum_by-cons}}
-use Rattle.std.proofs.lemmas.Option.{none-some, same_Some, slice_get-get_or}
+use Rattle.std.{specs.{List.slice_get, Option.option_map_or}, proofs.lemmas.List.{append-nil, drop_all, length-drop, length-replicate, get_or-set_same, get_or-set_other}}
+use Rattle.std.proofs.{Math.{Nat.max_comm, Seq.{drop-cons, take-nil}}, lemmas.{Bool.{cases_Bool, cases_eq, cases_lt, eq-eqb, le-ltb, lt-ltb, ne_eqb, false≢true}, List.Sums.sum_by-cons}}
+use Rattle.std.proofs.lemmas.Option.{none-some, same_Some, slice_get-get_or, slice_get_past}
 use Rattle.ix_model.specs.world.Naming.{same_bytes}
 use Rattle.ix_script.{specs.{lines.{Before.{is_phase, lanes_of}, Roles.role_of}, scripts.{Held.IsSchedule, Schedule.stretches_of}}, proofs.reader.Walking.next_line}
 use Rattle.ix_script.specs.declared.{line.Line.Line, role.Role.Role, schedule.{Schedule.Schedule, Stretch.Stretch}}
-use Rattle.ix_script.specs.scripts.Schedule.{phases, seat_from, begins_part, part_len, stretch_by, begun_after, begun_in, stretches_from, stretch_in}
+use Rattle.ix_script.specs.scripts.Schedule.{phases, seat_begun, seat_from, seat_marked, begins_part, part_len, stretch_by, begun_after, begun_in, stretches_from, stretch_in}
 use Rattle.ix_script.specs.declared.line.Line.TheVariants as line
 use Rattle.ix_script.specs.declared.role.Role.TheVariants as role
 
@@ -153,12 +153,35 @@ phases_next begun i lines low =
     let at = at_line _ i low in
     rw (next_line lines i at.0 at.1, at.1) (one_begun _ at.0 (drop _ lines))
 
+-- the seats of the first lines are marked
+abbrev pub Marked : List (List ℕ) → List Line → List ℕ → ℕ → Type 0
+Marked names lines seats i = (j : ℕ) → seat_marked (get_or seats j 255) ≡ cond (nat_lt j i) (seat_begun names (slice_get lines j)) None
+
+marked_next : (names : List (List ℕ)) (lines : List Line) (old new : List ℕ) (i : ℕ) → Marked names lines old i
+    → ((j : ℕ) → seat_marked (get_or new j 255) ≡ cond (j == i) (seat_begun names (slice_get lines j)) (seat_marked (get_or old j 255))) → Marked names lines new (i + 1)
+marked_next names lines old new i was set j = elim (cases_eq j i) [
+  | inl e ↦ set j ∙ rw (e, eq-eqb i i refl, lt-ltb i (i + 1) (omega arith)) refl
+  | inr ne ↦ elim (cases_lt j i) [
+    | inl low ↦ set j ∙ rw (ne_eqb j i ne, was j, lt-ltb j i low, lt-ltb j (i + 1) (omega (arith, low))) refl
+    | inr high ↦ set j ∙ rw (ne_eqb j i ne, was j, le-ltb j i high, le-ltb j (i + 1) (omega (arith, high, ne))) refl
+  ]
+]
+
+all_marked : (names : List (List ℕ)) (lines : List Line) (seats : List ℕ) (i : ℕ) → length lines ≤ i → Marked names lines seats i
+    → (j : ℕ) → seat_marked (get_or seats j 255) ≡ seat_begun names (slice_get lines j)
+all_marked names lines seats i past m j = elim (cases_lt j i) [
+  | inl low ↦ m j ∙ rw (lt-ltb j i low) refl
+  | inr high ↦ m j ∙ rw (le-ltb j i high, slice_get_past lines j (omega (arith, past, high))) refl
+]
+
 -- what is made of the first lines, where the rest is still to be made
-pub record Made (names : List (List ℕ)) (lines : List Line) (made : List (List Stretch)) (begun i : ℕ) : Type 0 where
+pub record Made (names : List (List ℕ)) (lines : List Line) (made : List (List Stretch)) (seats : List ℕ) (begun i : ℕ) : Type 0 where
   pub stretches : (seat : ℕ) → get_or made seat [] ++ stretches_from names seat begun i (drop i lines) ≡ stretches_from names seat 0 0 lines
   pub phases : begun + count_by is_phase (drop i lines) ≡ count_by is_phase lines
   pub lanes : length made ≡ length names
   pub few : begun ≤ i
+  pub marked : Marked names lines seats i
+  pub marks : length seats ≡ length lines
 
 begun_few : (begun i : ℕ) (lines : List Line) → begun ≤ i → begun_in begun i lines ≤ i + 1
 begun_few begun i lines few = elim (slice_get lines i) as (λ found. option_map_or (begun_after begun) found begun ≤ i + 1) [
@@ -169,18 +192,22 @@ begun_few begun i lines few = elim (slice_get lines i) as (λ found. option_map_
   | None ↦ omega (arith, few)
 ]
 
-pub made_next : (lanes : List (List ℕ)) (lines : List Line) (old new : List (List Stretch)) (begun after i : ℕ) → i < length lines → after ≡ begun_in begun i lines → length new ≡ length old
-    → ((seat : ℕ) → get_or new seat [] ≡ get_or old seat [] ++ stretch_in lanes seat begun i lines) → Made lanes lines old begun i → Made lanes lines new after (i + 1)
-made_next lanes lines old new begun after i low is long more was =
-    let next : Made lanes lines new (begun_in begun i lines) (i + 1) =
+pub made_next : (lanes : List (List ℕ)) (lines : List Line) (old new : List (List Stretch)) (seats marks : List ℕ) (begun after i : ℕ) → i < length lines → after ≡ begun_in begun i lines
+    → length new ≡ length old → ((seat : ℕ) → get_or new seat [] ≡ get_or old seat [] ++ stretch_in lanes seat begun i lines) → length marks ≡ length lines
+    → ((j : ℕ) → seat_marked (get_or marks j 255) ≡ cond (j == i) (seat_begun lanes (slice_get lines j)) (seat_marked (get_or seats j 255)))
+    → Made lanes lines old seats begun i → Made lanes lines new marks after (i + 1)
+made_next lanes lines old new seats marks begun after i low is long more count set was =
+    let next : Made lanes lines new marks (begun_in begun i lines) (i + 1) =
     record {
       stretches = λ seat. rw (more) (append_assoc (get_or old seat []) (stretch_in lanes seat begun i lines) _)
           ∙ ap (λ ts. get_or old seat [] ++ ts) (sym (stretches_next _ _ _ i _ low)) ∙ was.stretches seat;
       phases = sym (phases_next _ i _ low) ∙ was.phases;
       lanes = long ∙ was.lanes;
       few = begun_few _ i _ was.few;
+      marked = marked_next _ _ _ _ i was.marked set;
+      marks = count;
     } in
-    subst (λ n. Made lanes lines new n (i + 1)) (sym is) next
+    subst (λ n. Made lanes lines new marks n (i + 1)) (sym is) next
 
 -- what a line does by its role
 begun_by : (begun : ℕ) (found : Option Line) (r : Role) → Some r ≡ option_map role_of found → option_map_or (begun_after begun) found begun ≡ cond (phase_role r) (begun + 1) begun
@@ -207,15 +234,28 @@ pub other_lane : (r : Role) → (r ≡ role.Lane → ⊥) → lane_role r ≡ fa
 other_lane role.Lane h = absurd (h refl)
 other_lane _ h = refl
 
-pub start_made : (names : List (List ℕ)) (lines : List Line) (made : List (List Stretch)) → length made ≡ length names → ((seat : ℕ) → get_or made seat [] ≡ []) → Made names lines made 0 0
-start_made names lines made long none = record {
+blank : (n j : ℕ) → seat_marked (get_or (replicate n 255) j 255) ≡ None
+blank zero j = refl
+blank (suc n) zero = refl
+blank (suc n) (suc j) = blank n j
+
+pub blanked : (items : List ℕ) (n m k : ℕ) → items ≡ [] → k ≡ 0 → n ≡ m → take n items ++ replicate (n - k) 255 ≡ replicate m 255
+blanked items n m k none short is =
+    let whole : m - 0 ≡ m = omega arith in
+    rw (none, short, is, take-nil, whole) refl
+
+pub start_made : (names : List (List ℕ)) (lines : List Line) (made : List (List Stretch)) (seats : List ℕ) → length made ≡ length names → ((seat : ℕ) → get_or made seat [] ≡ [])
+    → seats ≡ replicate (length lines) 255 → Made names lines made seats 0 0
+start_made names lines made seats long none all = record {
   stretches = λ seat. ap (λ ts. ts ++ stretches_from names seat 0 0 lines) (none seat);
   phases = omega arith;
   lanes = long;
   few = omega arith;
+  marked = λ j. rw (le-ltb j 0 (omega arith)) (ap (λ ms. seat_marked (get_or ms j 255)) all ∙ blank (length lines) j);
+  marks = ap length all ∙ length-replicate _ _;
 }
 
-pub all_made : (names : List (List ℕ)) (lines : List Line) (s : Schedule) (begun i : ℕ) → length lines ≤ i → s.phases ≡ max begun 1 → Made names lines s.stretches.items begun i
+pub all_made : (names : List (List ℕ)) (lines : List Line) (s : Schedule) (begun i : ℕ) → length lines ≤ i → s.phases ≡ max begun 1 → Made names lines s.stretches.items s.seats.items begun i
     → IsSchedule s lines names
 unfolding phases
 all_made names lines s begun i past count m =
@@ -224,7 +264,36 @@ all_made names lines s begun i past count m =
     record {
       phases = count ∙ max_comm begun 1 ∙ ap (max 1) all;
       stretches = λ seat. let e : get_or s.stretches.items seat [] ++ [] ≡ stretches_from names seat 0 0 lines = rw none at m.stretches seat in sym (append-nil _) ∙ e;
+      seats = all_marked _ _ _ i past m.marked;
     }
+
+-- what a line marks by its role
+no_seat : (lanes : List (List ℕ)) (l : Line) → lane_role (role_of l) ≡ false → seat_begun lanes (Some l) ≡ None
+unfolding role_of
+no_seat lanes (line.Lane name) h = absurd (false≢true (sym h))
+no_seat lanes _ h = refl
+
+none_begun : (lanes : List (List ℕ)) (found : Option Line) (r : Role) → Some r ≡ option_map role_of found → lane_role r ≡ false → seat_begun lanes found ≡ None
+none_begun lanes None r is other = refl
+none_begun lanes (Some l) r is other = no_seat lanes l (ap lane_role (same_Some _ r (sym is)) ∙ other)
+
+pub still_marked : (lanes : List (List ℕ)) (lines : List Line) (seats : List ℕ) (i j : ℕ) → seat_begun lanes (slice_get lines i) ≡ None → seat_marked (get_or seats i 255) ≡ None
+    → seat_marked (get_or seats j 255) ≡ cond (j == i) (seat_begun lanes (slice_get lines j)) (seat_marked (get_or seats j 255))
+still_marked lanes lines seats i j none unset = elim (cases_eq j i) [
+  | inl e ↦ rw (e, eq-eqb i i refl, none) unset
+  | inr ne ↦ rw (ne_eqb j i ne) refl
+]
+
+pub none_marked : (lanes : List (List ℕ)) (lines : List Line) (seats : List ℕ) (i : ℕ) (r : Role) (j : ℕ) → Some r ≡ option_map role_of (slice_get lines i) → lane_role r ≡ false
+    → seat_marked (get_or seats i 255) ≡ None → seat_marked (get_or seats j 255) ≡ cond (j == i) (seat_begun lanes (slice_get lines j)) (seat_marked (get_or seats j 255))
+none_marked lanes lines seats i r j is other unset = still_marked _ _ seats i j (none_begun _ _ r is other) unset
+
+pub seat_set : (lanes : List (List ℕ)) (lines : List Line) (seats : List ℕ) (i seat j : ℕ) (name : List ℕ) → i < length seats → seat < 64 → slice_get lines i ≡ Some (line.Lane name)
+    → seat_from 0 name lanes ≡ Some seat → seat_marked (get_or (set seats i seat) j 255) ≡ cond (j == i) (seat_begun lanes (slice_get lines j)) (seat_marked (get_or seats j 255))
+seat_set lanes lines seats i seat j name low few is place = elim (cases_eq j i) [
+  | inl e ↦ rw (e, eq-eqb i i refl, get_or-set_same seats i seat 255 low, is, place, ne_eqb seat 255 (λ same. omega (arith, few, same))) refl
+  | inr ne ↦ rw (ne_eqb j i ne, get_or-set_other seats i j seat 255 ne) refl
+]
 
 pub stretch_at : (names : List (List ℕ)) (lines whole : List Line) (s : Schedule) (seat n : ℕ) → lines ≡ whole → names ≡ lanes_of lines → IsSchedule s lines names
     → slice_get (get_or s.stretches.items seat []) n ≡ slice_get (stretches_of whole seat) n

@@ -1,8 +1,8 @@
 -- What holds of every script.
-use Rattle.std.specs.Prelude.{◌≡◌, ℕ, ◌≤◌, true, List, [], length, slice_index_or}
+use Rattle.std.specs.Prelude.{◌≡◌, ℕ, ◌≤◌, true, List, [], length, slice_get, slice_index_or}
 use Rattle.ix_model.specs.opening.Valid.{is_valid}
 use Rattle.ix_script.specs.lines.Before.{lanes_of, commands, fss_told, limits_of, procs_of, objects_of}
-use Rattle.ix_script.specs.scripts.Schedule.{LanesOnce, phases, stretches_from}
+use Rattle.ix_script.specs.scripts.Schedule.{LanesOnce, phases, seat_begun, seat_marked, stretches_from}
 use Rattle.ix_script.specs.scripts.Scripts.{config_of}
 use Rattle.ix_script.specs.declared.line.Line.{Line}
 use Rattle.ix_script.specs.declared.plan.Plan.{Plan}
@@ -22,6 +22,7 @@ pub record IsScript (lines : List Line) (names : List (List ℕ)) : Type 0 where
 pub record IsSchedule (s : Schedule) (lines : List Line) (names : List (List ℕ)) : Type 0 where
   pub phases : s.phases ≡ phases lines
   pub stretches : (seat : ℕ) → slice_index_or s.stretches.items seat [] ≡ stretches_from names seat 0 0 lines
+  pub seats : (i : ℕ) → seat_marked (slice_index_or s.seats.items i 255) ≡ seat_begun names (slice_get lines i)
 
 -- what lines tell of the machine that starts
 pub record IsPlan (p : Plan) (lines : List Line) : Type 0 where

@@ -25,6 +25,15 @@ seat_after lanes seat line.Phase = None
 seat_after lanes seat (line.Lane name) = seat_from 0 name lanes
 seat_after lanes seat _ = seat
 
+-- the seat of the lane that a line begins, where it begins one
+abbrev pub seat_begun : List (List ℕ) → Option Line → Option ℕ
+seat_begun lanes (Some (line.Lane name)) = seat_from 0 name lanes
+seat_begun lanes _ = None
+
+-- the seat that a mark stands for: 255 stands for none
+abbrev pub seat_marked : ℕ → Option ℕ
+seat_marked mark = if mark == 255 then None else Some mark
+
 -- whether it is that seat
 abbrev pub is_seat : ℕ → Option ℕ → Bool
 is_seat seat at = option_map_or (λ s. s == seat) at false
