@@ -182,11 +182,11 @@ impl<'a> Draft<'a> {
         if let Err(rule) = check_text(printable, text) {
             return Err(self.fault(rule));
         }
-        if self.lines.len() == 0 || is_skipped(text) || is_policy_line(text) {
-            return self.add_whole(alloc, text);
-        }
         if self.is_next_lane(text) {
             return Ok(self.add_next_lane(text)?);
+        }
+        if self.lines.len() == 0 || is_skipped(text) || is_policy_line(text) {
+            return self.add_whole(alloc, text);
         }
         words.cut(text);
         match self.form_by_words(words) {

@@ -28,6 +28,11 @@ pub some_lines : {A : Type 0} (lines : List A) (n : ℕ) → n ≡ length lines 
 some_lines [] n h ne = absurd (ne h)
 some_lines (l ∷ lines) n h ne = refl
 
+pub begun_some : (lines : List Line) → in_body lines ≡ true → is_empty lines ≡ false
+unfolding in_body
+begun_some [] h = absurd (true≢false (sym h))
+begun_some (l ∷ lines) h = refl
+
 pub none_there : {A : Type 0} (n : ℕ) (lines : List A) → n ≡ length lines → (n == 0) ≡ is_empty lines
 none_there n [] h = rw h refl
 none_there n (l ∷ lines) h = ne_eqb n 0 (λ e. let k = sym h ∙ e in absurd (omega arith))

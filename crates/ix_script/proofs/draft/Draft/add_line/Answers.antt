@@ -3,11 +3,15 @@ use Rattle.ix_text.specs.Bytes.{is_empty}
 use Rattle.ix_script.specs.{texts.Cutting.{words_of, is_skipped, is_policy_line}, declared.{form.Form.Form, line.Line.Line}}
 use Rattle.ix_script.specs.lines.{Before.form_told, Faults.{said_fault, command_fault}}
 use Rattle.ix_script.specs.{lines.Forms.places, reader.{Placing.command_cost, Readers.{FormRight, IsFormed}}}
-use Rattle.ix_script.proofs.{lines.Deciding.{some_lines, text_broken, by_words, said_by_form, said_is}, lines.Readings.stand, reader.Commands.command_said}
+use Rattle.ix_script.proofs.{lines.Deciding.{begun_some, some_lines, text_broken, by_words, said_by_form, said_is}, lines.Readings.stand, reader.Commands.command_said}
 use Rattle.ix_script.proofs.draft.Draft.add_line.Goals as goal
 
 pub returns-in-Err-clause-fail : goal.returns-in-Err-clause-fail
 returns-in-Err-clause-fail g c = rw (text_broken c.args.self.now.lines.said c.args.text.now _ c.in-Err.ensures) c.fault.ensures
+
+pub add_next_lane-requires-clause-later : goal.add_next_lane-requires-clause-later
+add_next_lane-requires-clause-later g c =
+    begun_some c.args.self.now.lines.said (sym c.requires.grows.told.body.started ∙ (c.is_next_lane.ensures c.if-is_next_lane.true).started)
 
 pub add_command-requires-clause-plain : goal.add_command-requires-clause-plain
 add_command-requires-clause-plain g c =
