@@ -1,9 +1,9 @@
 ghost use Rattle.std.specs.{Prelude.{◌≡◌, ℕ, ◌++◌, ◌+◌, ◌<◌, ◌≤◌, ◌==◌, [], None, length, drop, slice_get, slice_index_or, OnOk, IfOk, if◌then◌else◌}, Option.{option_map_or}};
-ghost use Rattle.ix_script.specs.{scripts.Held.{IsSchedule}, scripts.Schedule.{SeatsDiffer, begins_part, begun_in, part_len, seat_begun, seat_from, seat_marked, stretch_in}};
+ghost use Rattle.ix_script.specs.{scripts.Held.{IsSchedule, own_of}, scripts.Schedule.{SeatsDiffer, begins_part, begun_in, part_len, seat_begun, seat_from, seat_marked, stretch_in}};
 
 use crate::packed::Lines;
 use crate::role::Role;
-use ix_model::{List, Name, NoMemory};
+use ix_model::{Name, NoMemory};
 use ix_text::is;
 use std::alloc::Global;
 
@@ -24,7 +24,7 @@ pub(crate) struct Schedule {
     /// How many phases there are.
     pub phases: u32,
     /// The stretches of each lane, in order.
-    pub stretches: Vec<List<Stretch>>,
+    pub stretches: Vec<Vec<Stretch>>,
     /// By the index of a line: the seat of the lane that it begins, or [`NO_SEAT`].
     pub seats: Vec<u8>,
 }
@@ -32,14 +32,14 @@ pub(crate) struct Schedule {
 /// It stands for no seat.
 pub(crate) const NO_SEAT: u8 = 255;
 
-/// So many lists of no stretch.
-fn no_stretches(alloc: Global, count: usize) -> Result<Vec<List<Stretch>>, NoMemory>
+/// So many lists of no stretch, with room for so many in each.
+fn no_stretches(alloc: Global, count: usize, room: usize) -> Result<Vec<Vec<Stretch>>, NoMemory>
     ensures len { IfOk result (λ lists. length lists.items ≡ count) }
-    ensures none { IfOk result (λ lists. (seat : ℕ) → slice_index_or lists.items seat [] ≡ []) }
+    ensures none { IfOk result (λ lists. (seat : ℕ) → own_of lists.items seat ≡ []) }
 {
     let mut lists = Vec::new(alloc);
     'lists: for _ in 0..count {
-        lists.push(List::new(alloc))?;
+        lists.push(Vec::with_capacity(alloc, room)?)?;
     }
     Ok(lists)
 }
@@ -77,7 +77,7 @@ fn part_end(lines: &Lines<'_>, first: usize) -> usize
 /// Takes the line at an index, before which so many phases have begun, and answers how many have begun behind it. The stretch
 /// behind a `lane` line is put to those of its lane, and its seat is marked. The seat that the next `lane` line is likely to have is kept.
 fn add_line(
-    stretches: &mut Vec<List<Stretch>>,
+    stretches: &mut Vec<Vec<Stretch>>,
     seats: &mut Vec<u8>,
     lanes: &[Name],
     lines: &Lines<'_>,
@@ -97,7 +97,7 @@ fn add_line(
     ensures seats { length seats.new.items ≡ length lines.now.said }
     ensures marked { OnOk result ((i : ℕ) → seat_marked (slice_index_or seats.new.items i 255) ≡ (if i == index then seat_begun lanes.now (slice_get lines.now.said i) else seat_marked (slice_index_or seats.old.items i 255))) }
     ensures begun { IfOk result (λ after. after ≡ begun_in begun index lines.now.said) }
-    ensures more { OnOk result ((seat : ℕ) → slice_index_or stretches.new.items seat [] ≡ slice_index_or stretches.old.items seat [] ++ stretch_in lanes.now seat begun index lines.now.said) }
+    ensures more { OnOk result ((seat : ℕ) → own_of stretches.new.items seat ≡ own_of stretches.old.items seat ++ stretch_in lanes.now seat begun index lines.now.said) }
 {
     let role = lines.role(index).unwrap();
     if let Role::Phase = role {
@@ -130,12 +130,22 @@ impl Schedule {
         requires few_lanes { length lanes.now ≤ 64 }
         ensures { IfOk result (λ s. IsSchedule s lines.now.said lanes.now) }
     {
-        let mut stretches = no_stretches(alloc, lanes.len())?;
+        // Lanes stand mostly in each phase: so each has about as many stretches.
+        let room = lines.parts() / lanes.len().max(1);
+        let mut stretches = no_stretches(alloc, lanes.len(), room)?;
         let mut seats = Vec::new(alloc);
         seats.resize(lines.len(), NO_SEAT)?;
         let (mut begun, mut next) = (0, 0);
         'lines: for index in 0..lines.len() {
-            begun = add_line(&mut stretches, &mut seats, lanes, lines, index, begun, &mut next)?;
+            begun = add_line(
+                &mut stretches,
+                &mut seats,
+                lanes,
+                lines,
+                index,
+                begun,
+                &mut next,
+            )?;
         }
         Ok(Schedule {
             phases: begun.max(1),

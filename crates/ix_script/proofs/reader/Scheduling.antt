@@ -1,11 +1,12 @@
 -- The schedule of lines, made line after line.
-use Rattle.std.proofs.Common.{◌≡◌, ℕ, zero, suc, ◌+◌, ◌-◌, ◌<◌, ◌≤◌, ◌==◌, nat_lt, replicate, Bool, true, false, ◌||◌, cond, List, [], ◌∷◌, ◌++◌, length, drop, take, set, get_or, max}
+use Rattle.std.proofs.Common.{◌≡◌, ℕ, zero, suc, ◌+◌, ◌-◌, ◌<◌, ◌≤◌, ◌==◌, nat_lt, map, replicate, Bor, Bool, true, false, ◌||◌, cond, List, [], ◌∷◌, ◌++◌, length, drop, take, set, get_or, max}
 use Rattle.std.proofs.Common.{count_by, Option, Some, None, option_map, refl, sym, ap, ◌∙◌, subst, ◌⊎◌, arith, append_assoc, add-one, inl, inr}
-use Rattle.std.{specs.{List.slice_get, Option.option_map_or}, proofs.lemmas.List.{append-nil, drop_all, length-drop, length-replicate, get_or-set_same, get_or-set_other}}
+use Rattle.std.{specs.{List.slice_get, Option.{option_copied, option_map_or}, Slice.IsItemAt, Vec.vec_items}, proofs.lemmas.List.{append-nil, get_or-map, get_or_past, drop_all, length-drop, length-map, length-replicate, map-append, map-set, get_or-set_same, get_or-set_other}}
 use Rattle.std.proofs.{Math.{Nat.max_comm, Seq.{drop-cons, take-nil}}, lemmas.{Bool.{cases_Bool, cases_eq, cases_lt, eq-eqb, le-ltb, lt-ltb, ne_eqb, false≢true}, List.Sums.sum_by-cons}}
 use Rattle.std.proofs.lemmas.Option.{none-some, same_Some, slice_get-get_or, slice_get_past}
+use Rattle.std.specs.declared.vec.Vec.{Vec}
 use Rattle.ix_model.specs.world.Naming.{same_bytes}
-use Rattle.ix_script.{specs.{lines.{Before.{is_phase, lanes_of}, Roles.role_of}, scripts.{Held.IsSchedule, Schedule.stretches_of}}, proofs.reader.Walking.next_line}
+use Rattle.ix_script.{specs.{lines.{Before.{is_phase, lanes_of}, Roles.role_of}, scripts.{Held.{IsSchedule, own_of}, Schedule.stretches_of}}, proofs.reader.Walking.next_line}
 use Rattle.ix_script.specs.declared.{line.Line.Line, role.Role.Role, schedule.{Schedule.Schedule, Stretch.Stretch}}
 use Rattle.ix_script.specs.scripts.Schedule.{phases, seat_begun, seat_from, seat_marked, begins_part, part_len, stretch_by, begun_after, begun_in, stretches_from, stretch_in}
 use Rattle.ix_script.specs.declared.line.Line.TheVariants as line
@@ -104,8 +105,8 @@ pub part_within : (lines : List Line) (i : ℕ) → i ≤ length lines → i + p
 part_within lines i low = omega (arith, part_few (drop i lines), length-drop i lines)
 
 -- ---- no stretches
-pub none_yet : (items : List (List Stretch)) → items ≡ [] → (seat : ℕ) → get_or items seat [] ≡ []
-none_yet items none seat = ap (λ xs. get_or xs seat []) none
+pub none_yet : {Z : Type 0} (items : List (Vec Stretch Z)) → items ≡ [] → (seat : ℕ) → own_of items seat ≡ []
+none_yet items none seat = ap (λ xs. own_of xs seat) none
 
 one_none : (items : List (List Stretch)) (seat : ℕ) → get_or (items ++ [] ∷ []) seat [] ≡ get_or items seat []
 one_none [] zero = refl
@@ -113,16 +114,34 @@ one_none [] (suc seat) = refl
 one_none (x ∷ items) zero = refl
 one_none (x ∷ items) (suc seat) = one_none items _
 
-pub none_more : (items more : List (List Stretch)) (own : List Stretch) → own ≡ [] → more ≡ items ++ own ∷ [] → ((seat : ℕ) → get_or items seat [] ≡ []) → (seat : ℕ) → get_or more seat [] ≡ []
-none_more items more own none is before seat = ap (λ xs. get_or xs seat []) (is ∙ ap (λ o. items ++ o ∷ []) none) ∙ one_none items seat ∙ before seat
+pub none_more : {Z : Type 0} (items more : List (Vec Stretch Z)) (own : Vec Stretch Z) → own.items ≡ [] → more ≡ items ++ own ∷ [] → ((seat : ℕ) → own_of items seat ≡ [])
+    → (seat : ℕ) → own_of more seat ≡ []
+none_more items more own none is before seat =
+    ap (λ xs. own_of xs seat) is ∙ ap (λ xs. get_or xs seat []) (map-append vec_items items (own ∷ []) ∙ ap (λ o. map vec_items items ++ o ∷ []) none)
+    ∙ one_none (map vec_items items) seat ∙ before seat
 
 -- ---- line after line
-pub added : (items : List (List Stretch)) (at seat : ℕ) (t : Stretch) (own : List Stretch) → at < length items → own ≡ get_or items at [] ++ t ∷ []
+added : (items : List (List Stretch)) (at seat : ℕ) (t : Stretch) (own : List Stretch) → at < length items → own ≡ get_or items at [] ++ t ∷ []
     → get_or (set items at own) seat [] ≡ get_or items seat [] ++ cond (at == seat) (t ∷ []) []
 added items at seat t own low is = elim (cases_eq seat at) [
   | inl e ↦ rw (e, eq-eqb) (get_or-set_same items at own [] low ∙ is)
   | inr ne ↦ rw (ne_eqb at seat (λ e. ne (sym e))) (get_or-set_other items at seat own [] ne ∙ sym (append-nil _))
 ]
+
+pub item_is : {X : Type 0} (xs : List X) (i : ℕ) (r : Option (Bor X)) → IsItemAt xs i r → option_copied r ≡ slice_get xs i
+item_is xs i None h = sym (slice_get_past xs i h.3)
+item_is xs i (Some x) h = ap Some h.1 ∙ sym (slice_get-get_or xs i x.now h.3.0)
+
+pub own_here : {Z : Type 0} (items : List (Vec Stretch Z)) (at : ℕ) (own : Vec Stretch Z) → at < length items → own ≡ get_or items at own → own.items ≡ own_of items at
+own_here items at own low is = ap vec_items is ∙ sym (get_or-map vec_items items at own [] low)
+
+pub own_past : {Z : Type 0} (items : List (Vec Stretch Z)) (at : ℕ) → length items ≤ at → own_of items at ≡ []
+own_past items at past = get_or_past (map vec_items items) at [] (omega (arith, past, length-map items vec_items))
+
+pub added_own : {Z : Type 0} (items : List (Vec Stretch Z)) (at seat : ℕ) (t : Stretch) (own : Vec Stretch Z) → at < length items → own.items ≡ own_of items at ++ t ∷ []
+    → own_of (set items at own) seat ≡ own_of items seat ++ cond (at == seat) (t ∷ []) []
+added_own items at seat t own low is = ap (λ xs. get_or xs seat []) (map-set vec_items items at own)
+    ∙ added (map vec_items items) at seat t own.items (omega (arith, low, length-map items vec_items)) is
 
 pub stretch_here : (lanes : List (List ℕ)) (seat begun i at phase end : ℕ) (lines : List Line) (name : List ℕ) → slice_get lines i ≡ Some (line.Lane name) → seat_from 0 name lanes ≡ Some at
     → phase ≡ begun - 1 → end ≡ (i + 1) + part_len (drop (i + 1) lines) → cond (at == seat) (record { phase = phase; first = i + 1; end = end } ∷ []) [] ≡ stretch_in lanes seat begun i lines
@@ -255,7 +274,7 @@ start_made names lines made seats long none all = record {
   marks = ap length all ∙ length-replicate _ _;
 }
 
-pub all_made : (names : List (List ℕ)) (lines : List Line) (s : Schedule) (begun i : ℕ) → length lines ≤ i → s.phases ≡ max begun 1 → Made names lines s.stretches.items s.seats.items begun i
+pub all_made : (names : List (List ℕ)) (lines : List Line) (s : Schedule) (begun i : ℕ) → length lines ≤ i → s.phases ≡ max begun 1 → Made names lines (map vec_items s.stretches.items) s.seats.items begun i
     → IsSchedule s lines names
 unfolding phases
 all_made names lines s begun i past count m =
@@ -263,7 +282,7 @@ all_made names lines s begun i past count m =
     let all : begun ≡ count_by is_phase lines = let e : begun + count_by is_phase [] ≡ count_by is_phase lines = rw none at m.phases in omega (arith, e) in
     record {
       phases = count ∙ max_comm begun 1 ∙ ap (max 1) all;
-      stretches = λ seat. let e : get_or s.stretches.items seat [] ++ [] ≡ stretches_from names seat 0 0 lines = rw none at m.stretches seat in sym (append-nil _) ∙ e;
+      stretches = λ seat. let e : own_of s.stretches.items seat ++ [] ≡ stretches_from names seat 0 0 lines = rw none at m.stretches seat in sym (append-nil _) ∙ e;
       seats = all_marked _ _ _ i past m.marked;
     }
 
@@ -296,7 +315,7 @@ seat_set lanes lines seats i seat j name low few is place = elim (cases_eq j i) 
 ]
 
 pub stretch_at : (names : List (List ℕ)) (lines whole : List Line) (s : Schedule) (seat n : ℕ) → lines ≡ whole → names ≡ lanes_of lines → IsSchedule s lines names
-    → slice_get (get_or s.stretches.items seat []) n ≡ slice_get (stretches_of whole seat) n
+    → slice_get (own_of s.stretches.items seat) n ≡ slice_get (stretches_of whole seat) n
 unfolding stretches_of
 stretch_at names lines whole s seat n is lanes m =
     ap (λ ts. slice_get ts n) (m.stretches seat ∙ ap (λ ns. stretches_from ns seat 0 0 lines) lanes) ∙ ap (λ ls. slice_get (stretches_from (lanes_of ls) seat 0 0 ls) n) is

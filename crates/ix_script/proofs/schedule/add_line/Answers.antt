@@ -1,9 +1,9 @@
 use Rattle.std.proofs.Common.{◌≡◌, ℕ, ◌+◌, ◌<◌, ◌++◌, ◌∷◌, [], List, length, drop, get_or, None, Some, slice_get, Bool, cond, sym, ap, ◌∙◌, arith}
-use Rattle.std.proofs.lemmas.List.{get_or_default, take_rest}
+use Rattle.std.proofs.lemmas.List.{take_rest}
 use Rattle.ix_script.specs.{declared.{role.Role.Role, line.Line.Line, schedule.Stretch.Stretch}, lines.Before.form_told, scripts.Schedule.{seat_begun, seat_from}}
-use Rattle.ix_script.proofs.back.LaneBack.{lane_at}
+use Rattle.ix_script.{specs.scripts.Held.own_of, proofs.back.LaneBack.lane_at}
 use Rattle.ix_script.specs.declared.line.Line.TheVariants as line
-use Rattle.ix_script.proofs.reader.Scheduling.{phase_role, lane_role, begun_here, none_here, unseated, other_phase, other_lane, seat_low, part_within, added, none_marked, still_marked, seat_set}
+use Rattle.ix_script.proofs.reader.Scheduling.{phase_role, lane_role, begun_here, none_here, unseated, other_phase, other_lane, seat_low, part_within, added_own, own_here, none_marked, still_marked, seat_set}
 use Rattle.ix_script.proofs.reader.Scheduling.{stretch_here}
 use Rattle.ix_script.proofs.schedule.add_line.Goals as goal
 
@@ -88,9 +88,8 @@ returns-clause-begun c =
 
 pub returns-clause-more : goal.returns-clause-more
 returns-clause-more c =
-    let items : List (List Stretch) = c.args.stretches.now.items in
+    let items = c.args.stretches.now.items in
     let at : ℕ = c.in-Some.seat in
-    let own : List Stretch = c.index_mut-2.result.now in
     let stretch : Stretch = record { phase = c.saturating_sub.result; first = c.args.index + 1; end = c.part_end.result } in
     let lane = lane_at (form_told c.args.lines.now.said) c.args.lines.now.said c.args.index c.unwrap-text.result.now c.unwrap-role.result (rw c.unwrap-text.ensures at c.text_at.ensures).0 (rw c.unwrap-text.ensures at c.text_at.ensures).1
     (sym c.unwrap-role.ensures ∙ c.role.ensures) c.in-Lane.is in
@@ -99,10 +98,10 @@ returns-clause-more c =
     sym (c.seat_of.ensures ∙ ap (λ n. seat_from 0 n c.args.lanes.now) (take_rest c.unwrap-text.result.now 5)) ∙ c.in-Some.is in
     let low : at < length items = omega (arith, seat_low 0 name c.args.lanes.now at place, c.requires.lanes) in
     let is : slice_get c.args.lines.now.said c.args.index ≡ Some (line.Lane name) = (rw c.unwrap-text.ensures at c.text_at.ensures).1 ∙ ap (λ (l : Line). Some l) lane.says in
-    let before : own ≡ get_or items at [] = c.index_mut-2.ensures.value ∙ get_or_default items at own [] low in
     λ seat.
-    added items at seat stretch c.push.new.self low (c.in_ok-push.ensures.ok ∙ ap (λ (ts : List Stretch). ts ++ stretch ∷ []) before)
-    ∙ ap (λ (ts : List Stretch). get_or items seat [] ++ ts) (stretch_here c.args.lanes.now seat c.args.begun c.args.index at _ _ c.args.lines.now.said name is place
+    added_own items at seat stretch c.push.new.self low (c.in_ok-push.ensures.items
+    ∙ ap (λ (ts : List Stretch). ts ++ stretch ∷ []) (own_here items at c.index_mut-2.result.now low c.index_mut-2.ensures.value))
+    ∙ ap (λ (ts : List Stretch). own_of items seat ++ ts) (stretch_here c.args.lanes.now seat c.args.begun c.args.index at _ _ c.args.lines.now.said name is place
     c.saturating_sub.ensures c.part_end.ensures)
 
 pub returns-clause-marked : goal.returns-clause-marked

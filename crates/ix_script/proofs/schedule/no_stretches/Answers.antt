@@ -7,6 +7,6 @@ lists-init c = (ap length c.new-lists.ensures.items, none_yet _ c.new-lists.ensu
 
 pub lists-preserved : goal.lists-preserved
 lists-preserved c = (
-  omega (arith, ap length c.in_ok-push.ensures.items, length-append c.lists.lists.items (c.new.result ∷ []), c.lists.invariant.0),
-  none_more _ _ _ c.new.ensures c.in_ok-push.ensures.items c.lists.invariant.1,
+  omega (arith, ap length c.in_ok-push.ensures.items, length-append c.lists.lists.items (c.in_ok-with_capacity.field-0 ∷ []), c.lists.invariant.0),
+  none_more _ _ _ c.in_ok-with_capacity.ensures.items c.in_ok-push.ensures.items c.lists.invariant.1,
 )
