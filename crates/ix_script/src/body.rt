@@ -32,6 +32,7 @@ pub(crate) struct Body<'a> {
     /// The names of processes that stand after `as`.
     pub procs: Given<'a>,
     pub commands: u32,
+    pub phases: usize,
 }
 
 fn add_name(lanes: &mut List<Name>, name: &NameWord<'_>) -> Result<(), NoMemory>
@@ -60,6 +61,7 @@ impl<'a> Body<'a> {
             fds: Given::new(alloc),
             procs: Given::new(alloc),
             commands: 0,
+            phases: 0,
         }
     }
 
@@ -90,6 +92,7 @@ impl<'a> Body<'a> {
         self.commands += u32::from(is_command(line));
         match line {
             Line::Phase => {
+                self.phases = self.phases.saturating_add(1);
                 self.started = true;
                 self.lane = None;
                 self.in_order = 0;

@@ -182,12 +182,6 @@ impl<'a> Lines<'a> {
         self.header.min(self.len())
     }
 
-    /// How many lines begin a lane's part of a phase.
-    pub fn parts(&self) -> usize {
-        let is_part = |role: &&Role| matches!(role, Role::Lane);
-        self.roles.as_slice().iter().filter(is_part).count()
-    }
-
     pub fn need(&self) -> u64
         ensures { result ≡ need self.now.said }
     {

@@ -89,7 +89,7 @@ fn read_with<L: Ledger>(alloc: Global, bytes: &[u8], blank: Blank) -> Result<Scr
     let mut draft = Draft::new(alloc, bytes)?;
     draft.add_lines(alloc, bytes, &mut steps)?;
     let body = draft.body;
-    let script = Script::of(alloc, draft.lines, body.lanes)?;
+    let script = Script::of(alloc, draft.lines, body.lanes, body.phases)?;
     Ok(script)
 }
 

@@ -123,15 +123,20 @@ fn add_line(
 }
 
 impl Schedule {
-    /// The schedule of lines, whose lanes have these names. `NoMemory` where there was none for it.
-    pub fn of(alloc: Global, lines: &Lines<'_>, lanes: &[Name]) -> Result<Schedule, NoMemory>
+    /// The schedule of lines, whose lanes have these names, with room for about so many phases. `NoMemory` where there was none for it.
+    pub fn of(
+        alloc: Global,
+        lines: &Lines<'_>,
+        lanes: &[Name],
+        phases: usize,
+    ) -> Result<Schedule, NoMemory>
         requires few { length lines.now.said ≤ 16777216 }
         requires differ { SeatsDiffer lanes.now }
         requires few_lanes { length lanes.now ≤ 64 }
         ensures { IfOk result (λ s. IsSchedule s lines.now.said lanes.now) }
     {
-        // Lanes stand mostly in each phase: so each has about as many stretches.
-        let room = lines.parts() / lanes.len().max(1);
+        // Lanes mostly stand in each phase with a line or more.
+        let room = phases.min(lines.len() / 2 / lanes.len().max(1));
         let mut stretches = no_stretches(alloc, lanes.len(), room)?;
         let mut seats = Vec::new(alloc);
         seats.resize(lines.len(), NO_SEAT)?;

@@ -36,11 +36,12 @@ impl<'a> Model for Script<'a> {
 }
 
 impl<'a> Script<'a> {
-    /// The script of these lines, whose lanes have these names.
+    /// The script of these lines, whose lanes have these names, and which has about so many phases.
     pub(crate) fn of(
         alloc: Global,
         lines: Lines<'a>,
         lanes: List<Name>,
+        phases: usize,
     ) -> Result<Script<'a>, NoMemory>
         requires named { lanes ≡ lanes_of lines.said }
         requires valid { is_valid (config_of lines.said) ≡ true }
@@ -50,7 +51,7 @@ impl<'a> Script<'a> {
         requires once { LanesOnce lines.said }
         ensures { IfOk result (λ s. s ≡ lines.entry.said) }
     {
-        let schedule = Schedule::of(alloc, &lines, lanes.as_slice())?;
+        let schedule = Schedule::of(alloc, &lines, lanes.as_slice(), phases)?;
         Ok(Script {
             lines,
             lanes,

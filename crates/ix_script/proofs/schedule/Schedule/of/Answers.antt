@@ -3,7 +3,7 @@ use Rattle.ix_script.proofs.reader.Scheduling.{blanked, start_made, made_next, a
 use Rattle.ix_script.proofs.schedule.Schedule.of.Goals as goal
 
 pub lines-init : goal.lines-init
-lines-init c = start_made c.args.lanes.now c.args.lines.now.said _ _ (length-map _ vec_items ∙ c.in_ok-stretches.ensures.len) c.in_ok-stretches.ensures.none (c.in_ok-resize.ensures.items ∙ blanked c.new-seats.result.items _ _ _ c.new-seats.ensures.items c.new-seats.ensures.len c.len.ensures)
+lines-init c = start_made c.args.lanes.now c.args.lines.now.said _ _ (length-map _ vec_items ∙ c.in_ok-stretches.ensures.len) c.in_ok-stretches.ensures.none (c.in_ok-resize.ensures.items ∙ blanked c.new-seats.result.items _ _ _ c.new-seats.ensures.items c.new-seats.ensures.len c.len-2.ensures)
 
 pub lines-preserved : goal.lines-preserved
 lines-preserved c =
