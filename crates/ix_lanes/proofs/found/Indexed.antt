@@ -1,8 +1,9 @@
 -- A list, as it is gone through by index.
-use Rattle.std.proofs.Common.{◌≡◌, unwrap_or, slice_index_or, ℕ, ◌+◌, ◌-◌, ◌<◌, ◌≤◌, ◌==◌, ◌≢◌, List, [], ◌∷◌, length, drop, set, Option, Some, None, refl, sym, ap, ◌∙◌}
-use Rattle.std.proofs.Common.{arith, subst, slice_get, add-one, false, inl, inr, ⊎_elim, get_or-set_other, length-set, if◌then◌else◌}
+use Rattle.std.proofs.Common.{◌≡◌, ◌≢◌, unwrap_or, slice_index_or, ℕ, ◌+◌, ◌-◌, ◌<◌, ◌≤◌, ◌==◌, List, [], ◌∷◌, length, drop, set, Option, Some, None, refl, sym, ap, ◌∙◌}
+use Rattle.std.proofs.Common.{arith, subst, slice_get, add-one, false, inl, inr, ⊎_elim, if◌then◌else◌, get_or-set_other, length-set}
 use Rattle.std.specs.Prelude.{IfSome}
-use Rattle.std.proofs.{Math.Seq.drop-cons, lemmas.{Bool.Decides.eqb_tells, Grind.get_or-set_at, List.drop_all, Option.{slice_get_within, slice_get_cases, slice_get-get_or, get_or_from_slice_get, unwrap_or-slice_get}}}
+use Rattle.std.proofs.{Math.Seq.drop-cons, lemmas.{Bool.Decides.eqb_tells, Grind.get_or-set_at, List.drop_all}}
+use Rattle.std.proofs.lemmas.Option.{slice_get_within, slice_get_cases, slice_get-get_or, get_or_from_slice_get, unwrap_or-slice_get}
 
 -- the item at an index, and those after it
 pub rest_is : {A : Type 0} (xs : List A) (i : ℕ) (x : A) → slice_get xs i ≡ Some x → drop i xs ≡ x ∷ drop (i + 1) xs

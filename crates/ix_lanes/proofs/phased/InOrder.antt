@@ -1,9 +1,8 @@
 -- A serial run that asks for one call at a time: the entries that are left, line by line and call by call.
-use Rattle.std.proofs.Common.{◌≡◌, ◌≢◌, ℕ, suc, ◌+◌, ◌<◌, Bool, true, false, true≢false, List, [], ◌∷◌, length, map, take, drop, set, Option, Some, None, inl}
-use Rattle.std.proofs.Common.{IfSome, is_some, inr, if◌then◌else◌, option_map, refl, sym, ap, ◌∙◌, subst, arith, slice_get, slice_index_or, length-set, ⊎_elim}
-use Rattle.std.proofs.Common.{get_or-set_same, get_or-set_other}
+use Rattle.std.proofs.Common.{◌≡◌, ℕ, suc, ◌+◌, ◌<◌, Bool, true, false, true≢false, List, [], ◌∷◌, length, map, take, drop, set, Option, Some, None, inl}
+use Rattle.std.proofs.Common.{IfSome, is_some, inr, if◌then◌else◌, option_map, refl, sym, ap, ◌∙◌, subst, arith, slice_get, slice_index_or, length-set}
 use Rattle.std.specs.{List.fold, Option.option_map_or}
-use Rattle.std.proofs.{Math.Seq.drop-cons, lemmas.Bool.cases_Bool, lemmas.Bool.Decides.{Decides-eqb, eqb_tells}, lemmas.List.{get_or-map, map-set, set-get_or}}
+use Rattle.std.proofs.{Math.Seq.drop-cons, lemmas.Bool.cases_Bool, lemmas.Bool.Decides.Decides-eqb, lemmas.List.{get_or-map, map-set, set-get_or}}
 use Rattle.std.proofs.lemmas.Option.{get_or_from_slice_get, slice_get-get_or, slice_get_within}
 use Rattle.ix_model.specs.{history.{Events.Event, Step.step_of}, world.World.World}
 use Rattle.ix_policy.specs.declared.rule.Rule.{Rule}

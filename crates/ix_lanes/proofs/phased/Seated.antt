@@ -1,5 +1,6 @@
 -- The places of all lanes, line by line.
-use Rattle.std.proofs.Common.{◌≡◌, ℕ, ◌+◌, ◌<◌, true, true≢false, List, length, map, take, set, Option, Some, None, inl, inr, refl, sym, ap, ◌∙◌, arith, slice_get}
+use Rattle.std.proofs.Common.{◌≡◌, ℕ, ◌+◌, ◌<◌, true, true≢false, List, length, map, take, set, Some, None, inl, inr, refl, sym, ap}
+use Rattle.std.proofs.Common.{◌∙◌, arith, slice_get}
 use Rattle.std.proofs.lemmas.{Bool.{cases_Bool, eq-eqb, ne_eqb}, List.{length-map, length-replicate}, Option.slice_get_within}
 use Rattle.ix_script.specs.{lines.Before.lanes_of, declared.line.Line.Line, scripts.Schedule.is_seat}
 use Rattle.ix_lanes.specs.{asking.{Asked.no_names, Places.{KeepsPlaces, has_places, standing}}, declared.asking.places.Places.Places, histories.Serial.first_names}
@@ -34,7 +35,8 @@ module _ (s : List Line) (i : ℕ) (l : Line) (line : slice_get s i ≡ Some l) 
   none-seated none = has-passed (λ k p mine. absurd (true≢false (sym mine ∙ ap (is_seat k) none)))
 
   -- whose names were added to those of its lane
-  pub names-added : (k : ℕ) (p q : Places) → seat_at s (take i s) ≡ Some k → slice_get all k ≡ Some p → KeepsPlaces p q → has_places q l ≡ true → PlacedTo s (i + 1) (set all k q)
+  pub names-added : (k : ℕ) (p q : Places) → seat_at s (take i s) ≡ Some k → slice_get all k ≡ Some p → KeepsPlaces p q → has_places q l ≡ true
+      → PlacedTo s (i + 1) (set all k q)
   names-added k p q is there keeps has =
       let mine : is_seat k (seat_at s (take i s)) ≡ true = ap (is_seat k) is ∙ eq-eqb k k refl in
       each_set (λ seat names. all_placed names (lane_among s seat (take (i + 1) s)) ≡ true) all k q (slice_get_within all k p there)

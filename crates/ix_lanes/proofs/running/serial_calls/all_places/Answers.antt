@@ -2,13 +2,15 @@ use Rattle.std.proofs.Common.{◌≡◌, ◌+◌, ◌<◌, ℕ, List, Some, leng
 use Rattle.std.proofs.Math.Seq.{map-set_same}
 use Rattle.ix_script.specs.{lines.Before.lanes_of, declared.line.Line.Line, scripts.Schedule.seat_after}
 use Rattle.ix_lanes.specs.{asking.Places.{has_places, standing}, declared.asking.places.Places.Places, histories.Indexed.line_in, running.Phases.seat_at}
-use Rattle.ix_lanes.proofs.{found.Roles.{line-there, no-places}, phased.{InOrder.indexed, LaneLines.seat_one_more, Seated.{PlacedTo, lane-there, names-added, none-given, none-seated}}}
+use Rattle.ix_lanes.proofs.{found.Roles.{line-there, no-places}, phased.{InOrder.indexed, LaneLines.seat_one_more}}
+use Rattle.ix_lanes.proofs.phased.Seated.{PlacedTo, lane-there, names-added, none-given, none-seated}
 use Rattle.ix_lanes.proofs.running.serial_calls.all_places.Goals.{in-Naming, in_default, then-matches+in-Some+in_ok-add, then-matches+in_default-seat, else-matches}
 use Rattle.ix_lanes.proofs.running.serial_calls.all_places.Goals as goal
 
 pub index_mut-requires : goal.index_mut-requires
 index_mut-requires c =
-    let low = lane-there c.args.script.now c.loop-here.all.items c.loop-here.here.at c.in-Some.seat c.loop-here.invariant.names (sym c.loop-here.invariant.seat ∙ c.in-Some.is) in
+    let is = sym c.loop-here.invariant.seat ∙ c.in-Some.is in
+    let low = lane-there c.args.script.now c.loop-here.all.items c.loop-here.here.at c.in-Some.seat c.loop-here.invariant.names is in
     omega (arith, low, c.loop-here.all.ok)
 
 pub loop-here-preserved : goal.loop-here-preserved
