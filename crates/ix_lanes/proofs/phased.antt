@@ -6,6 +6,7 @@ pub mod TakingPart
 pub mod Making
 pub mod Between
 pub mod Placed
+pub mod Seated
 pub mod Served
 pub mod PhaseRuns
 pub mod Standing

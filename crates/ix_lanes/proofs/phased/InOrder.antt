@@ -1,9 +1,8 @@
 -- A serial run that asks for one call at a time: the entries that are left, line by line and call by call.
-use Rattle.std.proofs.Common.{◌≡◌, ◌≢◌, ℕ, suc, ◌+◌, ◌<◌, Bool, true, false, true≢false, List, [], ◌∷◌, length, map, take, drop, set, Option, Some, None, inl}
-use Rattle.std.proofs.Common.{IfSome, is_some, inr, if◌then◌else◌, option_map, refl, sym, ap, ◌∙◌, subst, arith, slice_get, slice_index_or, length-set, ⊎_elim}
-use Rattle.std.proofs.Common.{get_or-set_same, get_or-set_other}
+use Rattle.std.proofs.Common.{◌≡◌, ℕ, suc, ◌+◌, ◌<◌, Bool, true, false, true≢false, List, [], ◌∷◌, length, map, take, drop, set, Option, Some, None, inl}
+use Rattle.std.proofs.Common.{IfSome, is_some, inr, if◌then◌else◌, option_map, refl, sym, ap, ◌∙◌, subst, arith, slice_get, slice_index_or, length-set}
 use Rattle.std.specs.{List.fold, Option.option_map_or}
-use Rattle.std.proofs.{Math.Seq.drop-cons, lemmas.Bool.cases_Bool, lemmas.Bool.Decides.{Decides-eqb, eqb_tells}, lemmas.List.{get_or-map, map-set, set-get_or}}
+use Rattle.std.proofs.{Math.Seq.drop-cons, lemmas.Bool.cases_Bool, lemmas.Bool.Decides.Decides-eqb, lemmas.List.{get_or-map, map-set, set-get_or}}
 use Rattle.std.proofs.lemmas.Option.{get_or_from_slice_get, slice_get-get_or, slice_get_within}
 use Rattle.ix_model.specs.{history.{Events.Event, Step.step_of}, world.World.World}
 use Rattle.ix_policy.specs.declared.rule.Rule.{Rule}
@@ -20,7 +19,7 @@ use Rattle.ix_lanes.specs.declared.asking.handed.Handed.TheVariants as handed
 use Rattle.ix_lanes.specs.declared.running.part.Part.TheVariants as part
 use Rattle.ix_lanes.specs.running.Serially.{ArePlaced, IsWithin, SerialLeft, after_line, entries_left, entry_next, line_left, most_entries, next_entry}
 use Rattle.ix_lanes.specs.running.Serially.{role_begins}
-use Rattle.ix_lanes.proofs.{found.Roles.begins-role, phased.{Among.{part_asks, part_names}, Lefts.{due_here, pending_due}, Placed.keeps-lines}}
+use Rattle.ix_lanes.proofs.{found.{Indexed.each_set, Roles.begins-role}, phased.{Among.{part_asks, part_names}, Lefts.{due_here, pending_due}, Placed.keeps-lines}}
 use Rattle.ix_lanes.proofs.serially.LaneSteps.{seat_within}
 
 -- ---- seats
@@ -80,23 +79,9 @@ module _ (all : List Places) (k : ℕ) (p : Places) (there : slice_get all k ≡
   pub placed_set : (s : List Line) (q : Places) → ArePlaced s all → KeepsPlaces p q → ArePlaced s (set all k q)
   placed_set s q placed keeps = record {
     count = length-set all k q ∙ placed.count;
-    placed = λ seat names at. ⊎_elim (λ same. here seat names at same.1) (λ other. there_still seat names at other.1) (eqb_tells seat k);
+    placed = each_set (λ seat names. all_placed names (lane_among s seat s) ≡ true) all k q (slice_get_within all k p there)
+        (keeps-lines p q keeps (lane_among s k s) (placed.placed k p there)) (λ seat names other. placed.placed seat names);
   }
-    where
-      low : k < length all
-      low = slice_get_within all k p there
-
-      here : (seat : ℕ) (names : Places) → slice_get (set all k q) seat ≡ Some names → seat ≡ k → all_placed names (lane_among s seat s) ≡ true
-      here seat names at same =
-          let is : q ≡ names = sym (get_or-set_same all k q q low) ∙ ap (λ n. slice_index_or (set all k q) n q) (sym same) ∙ get_or_from_slice_get (set all k q) seat names q at in
-          subst (λ (n : Places). all_placed n (lane_among s seat s) ≡ true) is
-          (subst (λ (m : ℕ). all_placed q (lane_among s m s) ≡ true) (sym same) (keeps-lines p q keeps (lane_among s k s) (placed.placed k p there)))
-
-      there_still : (seat : ℕ) (names : Places) → slice_get (set all k q) seat ≡ Some names → seat ≢ k → all_placed names (lane_among s seat s) ≡ true
-      there_still seat names at other =
-          let within : seat < length all = omega (arith, slice_get_within (set all k q) seat names at, length-set all k q) in
-          let is : slice_index_or all seat q ≡ names = sym (get_or-set_other all k seat q q other) ∙ get_or_from_slice_get (set all k q) seat names q at in
-          placed.placed seat names (slice_get-get_or all seat q within ∙ ap Some is)
 
 -- ---- where a run comes to a line
 module _ (s : List Line) (i : ℕ) (low : i < length s) (all : List Places) (k : ℕ) (p : Places) (there : slice_get all k ≡ Some p) (seat : Option ℕ) (is : seat ≡ Some k)

@@ -1,9 +1,9 @@
-ghost use Rattle.std.specs.Prelude.{◌≡◌, ◌+◌, ◌<◌, ◌≤◌, ℕ, true, map, take, length, IfOk, None, if◌then◌else◌};
+ghost use Rattle.std.specs.Prelude.{◌≡◌, ◌+◌, ◌<◌, ◌≤◌, ℕ, true, map, take, length, replicate, IfOk, None, if◌then◌else◌};
 ghost use Rattle.std.proofs.Common.{option_map};
 ghost use Rattle.ix_script.specs.{lines.{Before.{lanes_of}, Roles.{role_of}}, scripts.Schedule.{seat_after}};
 ghost use Rattle.ix_model.specs.history.Calls.{event_of};
 ghost use Rattle.ix_asking.specs.Asking.{first};
-ghost use Rattle.ix_lanes.specs.{asking.{Asked.{made_by}, Places.{standing}, Ruled.{rules_told}}, histories.{Indexed.{line_in}, Serial.{first_names, header_of}}};
+ghost use Rattle.ix_lanes.specs.{asking.{Asked.{made_by, no_names}, Places.{standing}, Ruled.{rules_told}}, histories.{Indexed.{line_in}, Serial.{first_names, header_of}}};
 ghost use Rattle.ix_lanes.specs.running.{Left.{part_most}, Phases.{seat_at}, Serially.{ArePlaced, IsWithin, LeavesLines, entry_next, role_begins}};
 ghost use Rattle.ix_lanes.specs.declared.running.part.Part.TheVariants as part;
 
@@ -13,10 +13,9 @@ use crate::asking::calls::{bind, call_of};
 use crate::asking::handed::Handed;
 use crate::asking::places::Places;
 use crate::lanes::header_of;
-use crate::lines::{line_kept, role_at};
+use crate::lines::{line_at, line_kept, role_at};
 use crate::running::beginning::begin;
 use crate::running::hearing::heard;
-use crate::running::lane_calls::places_of;
 use crate::running::part::Part;
 use ix_asking::{Asks, Copying, Step};
 use ix_model::{Buf, Call, Entry, NoMemory, Reply};
@@ -25,17 +24,39 @@ use ix_script::{Line, Role, Script};
 use std::alloc::Global;
 use std::marker::Model;
 
-/// What the names of each lane of a script stand for, by seats: none yet, but each has its place.
+/// What the names of so many lanes stand for: none yet.
+fn empty_places(alloc: Global, lanes: u32) -> Result<Vec<Places>, NoMemory>
+    ensures { IfOk result (λ places. map standing places.items ≡ replicate lanes no_names) }
+{
+    let mut all = Vec::new(alloc);
+    for _ in 0..lanes {
+        if all.push(Places::new(alloc)).is_err() {
+            return Err(NoMemory);
+        }
+    }
+    Ok(all)
+}
+
+/// What the names of each lane of a script stand for, by seats: none yet, but each has its place. All lines are gone through once, and of
+/// them only those that may give names are made.
 fn all_places(alloc: Global, script: &Script<'_>) -> Result<Vec<Places>, NoMemory>
     ensures placed { IfOk result (λ places. ArePlaced script.now places.items) }
     ensures names { IfOk result (λ places. map standing places.items ≡ first_names script.now) }
 {
-    let mut all = Vec::new(alloc);
-    for seat in 0..script.lanes() {
-        let places = places_of(alloc, script, seat)?;
-        if all.push(places).is_err() {
-            return Err(NoMemory);
+    let mut all = empty_places(alloc, script.lanes())?;
+    let mut here = Place {
+        at: 0,
+        seat: None,
+        line: None,
+    };
+    while here.at < script.len() {
+        let role = role_at(script, here.at);
+        if matches!(role, Role::Naming | Role::Server) {
+            if let Some(seat) = here.seat {
+                all[seat as usize].add(&line_at(script, here.at))?;
+            }
         }
+        here.pass(script, role);
     }
     Ok(all)
 }

@@ -1,10 +1,15 @@
-use Rattle.std.proofs.Common.{◌≡◌, ◌<◌, ℕ, true, length, map, replicate, slice_index_or}
-use Rattle.ix_lanes.specs.{asking.{Asked.no_names, Places.standing}, declared.asking.places.Places.Places, running.{Fields.all_placed, Phases.lane_among}}
+use Rattle.std.proofs.Common.{◌≡◌, ◌≤◌, ◌-◌, length, map, take}
+use Rattle.ix_lanes.specs.{asking.Places.standing, histories.Serial.first_names, running.Phases.seat_at}
+use Rattle.ix_lanes.proofs.phased.Seated.{PlacedTo}
 use Rattle.ix_lanes.proofs.running.serial_calls.all_places.Given as goal
 
-abbrev pub invariant-loop-seat : goal.invariant-loop-seat
-invariant-loop-seat l = record {
-  count : length l.all.items ≡ l.seat;
-  placed : (none : Places) (k : ℕ) → k < l.seat → all_placed (slice_index_or l.all.items k none) (lane_among l.script k l.script) ≡ true;
-  names : map standing l.all.items ≡ replicate l.seat no_names;
+abbrev pub invariant-loop-here : goal.invariant-loop-here
+invariant-loop-here l = record {
+  within : l.here.at ≤ length l.script;
+  seat : l.here.seat ≡ seat_at l.script (take l.here.at l.script);
+  placed : PlacedTo l.script l.here.at l.all.items;
+  names : map standing l.all.items ≡ first_names l.script;
 }
+
+abbrev pub decreases-loop-here : goal.decreases-loop-here
+decreases-loop-here l = length l.script - l.here.at

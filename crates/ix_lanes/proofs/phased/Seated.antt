@@ -1,0 +1,44 @@
+-- The places of all lanes, line by line.
+use Rattle.std.proofs.Common.{◌≡◌, ℕ, ◌+◌, ◌<◌, true, true≢false, List, length, map, take, set, Some, None, inl, inr, refl, sym, ap}
+use Rattle.std.proofs.Common.{◌∙◌, arith, slice_get}
+use Rattle.std.proofs.lemmas.{Bool.{cases_Bool, eq-eqb, ne_eqb}, List.{length-map, length-replicate}, Option.slice_get_within}
+use Rattle.ix_script.specs.{lines.Before.lanes_of, declared.line.Line.Line, scripts.Schedule.is_seat}
+use Rattle.ix_lanes.specs.{asking.{Asked.no_names, Places.{KeepsPlaces, has_places, standing}}, declared.asking.places.Places.Places, histories.Serial.first_names}
+use Rattle.ix_lanes.specs.running.{Fields.all_placed, Phases.{lane_among, seat_at}}
+use Rattle.ix_lanes.proofs.{found.Indexed.each_set, phased.{InOrder.seat_low, Placed.{placed-here, placed-not}}}
+
+-- each name that one of so many first lines gives has its place among those of the line's lane
+abbrev pub PlacedTo : List Line → ℕ → List Places → Type 0
+PlacedTo s i all = (k : ℕ) (p : Places) → slice_get all k ≡ Some p → all_placed p (lane_among s k (take i s)) ≡ true
+
+-- a line stands in a lane that has its names
+pub lane-there : (s : List Line) (all : List Places) (i k : ℕ) → map standing all ≡ first_names s → seat_at s (take i s) ≡ Some k → k < length all
+lane-there s all i k names is =
+    let count : length all ≡ length (lanes_of s) = sym (length-map all standing) ∙ ap length names ∙ length-replicate (length (lanes_of s)) no_names in
+    omega (arith, count, seat_low s (take i s) k is)
+
+-- ---- one line more
+module _ (s : List Line) (i : ℕ) (l : Line) (line : slice_get s i ≡ Some l) (all : List Places) (placed : PlacedTo s i all) where
+  -- whose names have their places
+  has-passed : ((k : ℕ) (p : Places) → is_seat k (seat_at s (take i s)) ≡ true → has_places p l ≡ true) → PlacedTo s (i + 1) all
+  has-passed has k p at = elim (cases_Bool (is_seat k (seat_at s (take i s)))) [
+    | inl mine ↦ placed-here s k i l line p p mine (placed k p at) (λ m h. h) (has k p mine)
+    | inr not ↦ placed-not s k i l line p not (placed k p at)
+  ]
+
+  -- which gives none
+  pub none-given : ((p : Places) → has_places p l ≡ true) → PlacedTo s (i + 1) all
+  none-given has = has-passed (λ k p mine. has p)
+
+  -- which is of no lane
+  pub none-seated : seat_at s (take i s) ≡ None → PlacedTo s (i + 1) all
+  none-seated none = has-passed (λ k p mine. absurd (true≢false (sym mine ∙ ap (is_seat k) none)))
+
+  -- whose names were added to those of its lane
+  pub names-added : (k : ℕ) (p q : Places) → seat_at s (take i s) ≡ Some k → slice_get all k ≡ Some p → KeepsPlaces p q → has_places q l ≡ true
+      → PlacedTo s (i + 1) (set all k q)
+  names-added k p q is there keeps has =
+      let mine : is_seat k (seat_at s (take i s)) ≡ true = ap (is_seat k) is ∙ eq-eqb k k refl in
+      each_set (λ seat names. all_placed names (lane_among s seat (take (i + 1) s)) ≡ true) all k q (slice_get_within all k p there)
+      (placed-here s k i l line p q mine (placed k p there) keeps has)
+      (λ seat names other at. placed-not s seat i l line names (ap (is_seat seat) is ∙ ne_eqb k seat (λ same. other (sym same))) (placed seat names at))
