@@ -108,17 +108,17 @@ impl<'a> Body<'a> {
                 }
                 self.others.push(name.name())
             }
-            Line::Open { named, .. } => self.fds.add_any(self.lane, named),
-            Line::Dup { named, .. } => self.fds.add_any(self.lane, named),
+            Line::Open { named, .. } => self.fds.add(self.lane, named.as_ref()),
+            Line::Dup { named, .. } => self.fds.add(self.lane, named.as_ref()),
             Line::Pipe { named, .. } => match named {
                 Some((first, second)) => {
-                    self.fds.add(self.lane, first)?;
-                    self.fds.add(self.lane, second)
+                    self.fds.add(self.lane, Some(first))?;
+                    self.fds.add(self.lane, Some(second))
                 }
                 None => Ok(()),
             },
-            Line::Fork { named, .. } => self.procs.add_any(self.lane, named),
-            Line::Login { named, .. } => self.procs.add_any(self.lane, named),
+            Line::Fork { named, .. } => self.procs.add(self.lane, named.as_ref()),
+            Line::Login { named, .. } => self.procs.add(self.lane, named.as_ref()),
             _ => Ok(()),
         }
     }

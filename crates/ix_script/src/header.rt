@@ -1,5 +1,5 @@
 ghost use Rattle.std.specs.Prelude.{◌≡◌, ℕ, ◌<◌, ◌+◌, ◌^◌, slice_index, ◌==◌, if◌then◌else◌, ◌++◌, ◌∷◌, ◌≤◌, [], true, None, List, length, false, OnOk, IfOk};
-ghost use Rattle.ix_script.specs.{declared.line.Line.{Line}, lines.Before.{form_by, fs_told, default_fs, default_limits, limits_after, object_told, group}};
+ghost use Rattle.ix_script.specs.{declared.line.Line.{Line}, lines.Before.{form_by, fs_told, default_fs, limits_after, object_told, group}};
 ghost use Rattle.{std.specs.Option.{option_map_or}, ix_model.specs.opening.Valid.{is_valid}, ix_text.specs.Bytes.{is_empty}, ix_script.specs.{lines.Faults.{said_fault}, reader.Told.{HeaderTold, Takes, fss_after}, scripts.Scripts.{config_of}}};
 
 use crate::index::{Names, Tree};
@@ -100,18 +100,14 @@ pub(crate) fn default_fs(form: Form) -> FsSpec
     }
 }
 
-#[tactic(auto, unfolding(crate::specs::lines::Before::default_limits))]
-pub(crate) fn default_limits() -> Limits
-    ensures { result ≡ default_limits }
-{
-    Limits {
-        procs: 64,
-        opens: 256,
-        pipes: 32,
-        names: 4096,
-        log: 1024,
-    }
-}
+/// The limits of a script that tells none.
+pub(crate) const DEFAULT_LIMITS: Limits = Limits {
+    procs: 64,
+    opens: 256,
+    pipes: 32,
+    names: 4096,
+    log: 1024,
+};
 
 pub(crate) fn fs_spec(line: &Line<'_>) -> Option<FsSpec>
     ensures { fs_told line.now ≡ option_map_or (λ fs. fs ∷ []) result [] }
@@ -169,7 +165,7 @@ fn take(taken: &mut Taken, fss: &[FsSpec], line: &Line<'_>)
 
 impl<'a> Header<'a> {
     /// The header of a script of which no line was read yet: one file system is there. `NoMemory` where there was none for it.
-    #[tactic(auto, unfolding(crate::specs::lines::Before::fss_told, crate::specs::lines::Before::limits_of, crate::specs::lines::Before::whats_told, crate::specs::lines::Before::proc_names, crate::specs::lines::Before::objects_of, crate::specs::lines::Before::has_policy))]
+    #[tactic(auto, unfolding(crate::specs::lines::Before::fss_told, crate::specs::lines::Before::limits_of, crate::specs::lines::Before::default_limits, crate::specs::lines::Before::whats_told, crate::specs::lines::Before::proc_names, crate::specs::lines::Before::objects_of, crate::specs::lines::Before::has_policy))]
     pub fn new(alloc: Global) -> Result<Header<'a>, NoMemory>
         ensures { IfOk result (λ h. HeaderTold h []) }
     {
@@ -178,7 +174,7 @@ impl<'a> Header<'a> {
         Ok(Header {
             told: 0,
             fss,
-            limits: default_limits(),
+            limits: DEFAULT_LIMITS,
             whats: List::new(alloc),
             procs: Names::new(alloc),
             made: Tree::new(alloc),

@@ -76,11 +76,15 @@ impl<'a> Given<'a> {
         }
     }
 
-    /// One name more, if a lane is open. After an error the names aren't used.
-    pub fn add(&mut self, lane: Option<&'a [u8]>, name: &NameWord<'a>) -> Result<(), NoMemory>
-        ensures { OnOk result ((items : List (List ℕ × List ℕ)) → AreIndexed self.old items → AreIndexed self.new (items ++ in_lane (option_map (λ s. s.now) lane.entry) (name.now ∷ []))) }
+    /// The name more, if there is one and a lane is open. After an error the names aren't used.
+    pub fn add(
+        &mut self,
+        lane: Option<&'a [u8]>,
+        named: Option<&NameWord<'a>>,
+    ) -> Result<(), NoMemory>
+        ensures { OnOk result ((items : List (List ℕ × List ℕ)) → AreIndexed self.old items → AreIndexed self.new (items ++ in_lane (option_map (λ s. s.now) lane.entry) (listed (option_map (λ n. n.now) named.entry)))) }
     {
-        let Some(lane) = lane else {
+        let (Some(lane), Some(name)) = (lane, named) else {
             return Ok(());
         };
         let place = place_of(lane, name.word());
@@ -90,20 +94,6 @@ impl<'a> Given<'a> {
         }
         self.index.insert(place)?;
         Ok(())
-    }
-
-    /// The name more, if there is one and a lane is open. After an error the names aren't used.
-    pub fn add_any(
-        &mut self,
-        lane: Option<&'a [u8]>,
-        named: &Option<NameWord<'a>>,
-    ) -> Result<(), NoMemory>
-        ensures { OnOk result ((items : List (List ℕ × List ℕ)) → AreIndexed self.old items → AreIndexed self.new (items ++ in_lane (option_map (λ s. s.now) lane.entry) (listed named.now))) }
-    {
-        match named {
-            Some(name) => self.add(lane, name),
-            None => Ok(()),
-        }
     }
 }
 
@@ -145,7 +135,7 @@ impl<'a> Names<'a> {
         ensures names { OnOk result ((names : List (List ℕ)) → AreNames self.old names → AreNames self.new (names ++ name.now ∷ [])) }
         ensures count { OnOk result (self.new.count ≡ self.old.count + 1) }
     {
-        self.given.add(Some(&[]), name)?;
+        self.given.add(Some(&[]), Some(name))?;
         self.count += 1;
         Ok(())
     }

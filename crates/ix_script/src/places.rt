@@ -1,10 +1,10 @@
 ghost use Rattle.std.specs.Prelude.{◌≡◌, ◌≤◌, ◌<◌, ◌+◌, [], ◌∷◌, Some, None, IsSome, length, map, take, if◌then◌else◌};
-ghost use Rattle.ix_script.specs.{lines.Forms.{arity, kinds, places, places_from}, lines.Kinds.{places_fault}, lines.Said.{said, plain_line, path_line, fd_line, counted_line}};
+ghost use Rattle.ix_script.specs.{lines.Forms.{arity, kinds, places, places_from}, lines.Kinds.{places_fault}, lines.Said.{said, plain_line, path_line, fd_line}};
 ghost use Rattle.ix_script.specs.{reader.Placing.{kind_in, least, Stand}, reader.Readers.{IsFault}, texts.Cutting.{word_at}};
 
 use crate::fail::Rule;
 use crate::form::{Counted, Form, Kind, OnFd, OnPath, Plain};
-use crate::line::{FdWord, Line};
+use crate::line::Line;
 use crate::paths::{MadePath, PathWord, is_made_path, is_path_word};
 use crate::payload::{Payload, payload_fault};
 use crate::values::{
@@ -102,21 +102,6 @@ macro_rules! say_by {
     };
 }
 
-fn counted_line<'a>(
-    command: Counted,
-    proc: NameWord<'a>,
-    fd: FdWord<'a>,
-    n: u32,
-) -> Option<Line<'a>>
-    ensures { result ≡ Some (counted_line command proc.entry fd.entry n) }
-{
-    match command {
-        Counted::Read => return Some(Line::Read { proc, fd, count: n }),
-        Counted::Cut => return Some(Line::Cut { proc, fd, len: n }),
-        Counted::Seek => return Some(Line::Seek { proc, fd, at: n }),
-    }
-}
-
 /// What a word says, by what stands there; `named` stands at a place and behind it.
 macro_rules! at {
     ($labels:ident, $words:ident, name, $word:expr) => { NameWord::of($word) };
@@ -177,12 +162,11 @@ pub(crate) fn line_said<'a>(labels: LabelForm, form: Form, words: &Words<'a>) ->
             Create Mkdir Unlink Rmdir Chdir Stat Exec Labelof Freeze Thaw),
         Form::OnFd(command) => say_by!(command: OnFd,
             { proc: NameWord::of(one), fd: fd(two) }, Close Pex Unpex Priv),
-        Form::Counted(command) => return counted_line(
-            command,
-            NameWord::of(one),
-            fd(two),
-            number(0, 4_294_967_295, three),
-        ),
+        Form::Counted(Counted::Read) => say!(Read {
+            proc: name one, fd: fd two, count: number three
+        }),
+        Form::Counted(Counted::Cut) => say!(Cut { proc: name one, fd: fd two, len: number three }),
+        Form::Counted(Counted::Seek) => say!(Seek { proc: name one, fd: fd two, at: number three }),
         Form::Open => say!(Open {
             proc: name one, path: path two, mode: mode three, named: named 4
         }),

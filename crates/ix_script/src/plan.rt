@@ -1,7 +1,7 @@
 ghost use Rattle.std.specs.Prelude.{◌≡◌, ◌++◌, ◌∷◌, ◌+◌, ◌<◌, [], List, length, take, OnOk, IfOk};
 ghost use Rattle.ix_script.specs.{declared.line.Line.{Line}, lines.Before.{proc_told, object_told}, scripts.Held.{IsPlan}, scripts.Scripts.{config_of}};
 
-use crate::header::{default_fs, default_limits, fs_spec, limits_after};
+use crate::header::{DEFAULT_LIMITS, default_fs, fs_spec, limits_after};
 use crate::line::Line;
 use crate::packed::Lines;
 use crate::payload::Payload;
@@ -76,18 +76,15 @@ fn add_object(alloc: Global, objects: &mut List<ObjSpec>, line: &Line<'_>) -> Re
             cap,
             lic,
             bytes,
-        } => {
-            let contents = contents_of(alloc, bytes)?;
-            objects.push(ObjSpec {
-                path: PathBuf::from_path(&path.path()),
-                dir: false,
-                label: label.label(),
-                frozen: *frozen,
-                cap: *cap,
-                lic: *lic,
-                bytes: contents,
-            })
-        }
+        } => objects.push(ObjSpec {
+            path: PathBuf::from_path(&path.path()),
+            dir: false,
+            label: label.label(),
+            frozen: *frozen,
+            cap: *cap,
+            lic: *lic,
+            bytes: contents_of(alloc, bytes)?,
+        }),
         _ => Ok(()),
     }
 }
@@ -102,18 +99,17 @@ impl Plan {
         }
         self.limits = limits_after(&self.limits, line);
         add_proc(&mut self.procs, line)?;
-        add_object(alloc, &mut self.objects, line)?;
-        Ok(())
+        add_object(alloc, &mut self.objects, line)
     }
 
     /// What lines tell. No line is made but those of the header: no other tells anything.
-    #[tactic(auto, unfolding(crate::specs::lines::Before::fss_told, crate::specs::lines::Before::limits_of, crate::specs::lines::Before::procs_of, crate::specs::lines::Before::objects_of))]
+    #[tactic(auto, unfolding(crate::specs::lines::Before::fss_told, crate::specs::lines::Before::limits_of, crate::specs::lines::Before::default_limits, crate::specs::lines::Before::procs_of, crate::specs::lines::Before::objects_of))]
     fn of(alloc: Global, lines: &Lines<'_>) -> Result<Plan, NoMemory>
         ensures { IfOk result (λ p. IsPlan p lines.now.said) }
     {
         let mut plan = Plan {
             fss: List::new(alloc),
-            limits: default_limits(),
+            limits: DEFAULT_LIMITS,
             procs: List::new(alloc),
             objects: List::new(alloc),
         };

@@ -84,10 +84,8 @@ fn first_line(text: &[u8]) -> Result<Line<'_>, Rule>
         words.cut(text);
         words.check()?;
     }
-    match version_of(text) {
-        Some(form) => Ok(Line::Version { form }),
-        None => Err(Rule::NO_VERSION),
-    }
+    let form = version_of(text).ok_or(Rule::NO_VERSION)?;
+    Ok(Line::Version { form })
 }
 
 impl<'a> Draft<'a> {

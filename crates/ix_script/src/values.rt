@@ -30,10 +30,7 @@ pub(crate) fn place_of(byte: u8, text: &[u8]) -> Option<usize>
 pub(crate) fn begins_with_digit(word: &[u8]) -> bool
     ensures { result ≡ begins_with is_digit word.now }
 {
-    match word {
-        [] => false,
-        [b, ..] => is_digit(*b),
-    }
+    matches!(word, [b, ..] if is_digit(*b))
 }
 
 /// The name of a file system, process, lane or descriptor, as a word of a script. It borrows the word; contracts see its bytes.

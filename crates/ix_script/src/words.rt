@@ -117,11 +117,7 @@ fn first_word(text: &[u8]) -> (&[u8], Option<&[u8]>, bool)
     };
     let word = &text[..end];
     let open = quoted && !is_closed(word);
-    if end < text.len() {
-        (word, Some(&text[end + 1..]), open)
-    } else {
-        (word, None, open)
-    }
+    (word, text.get(end + 1..), open)
 }
 
 /// Whether the quote that closes a word is its last byte.

@@ -153,10 +153,7 @@ fn shortest_text(out: &mut Vec<u8>, bytes: &[u8]) -> Result<(), NoMemory>
     let in_quotes = quoted_len(bytes);
     if let Some(byte) = repeated(bytes) {
         let by_times = times_len(bytes.len(), byte);
-        if by_times < by_pairs {
-            if in_quotes < by_times {
-                return quoted(out, bytes);
-            }
+        if by_times < by_pairs && by_times <= in_quotes {
             return times(out, bytes.len(), byte);
         }
     }

@@ -1,7 +1,7 @@
 -- Which rules look at a line, by where it stands and how it begins.
-use Rattle.std.proofs.Common.{◌≡◌, ◌≢◌, ℕ, zero, suc, ◌<◌, ◌≤◌, ◌==◌, true, false, true≢false, List, [], ◌∷◌, length, drop, Option, Some, None, Result}
+use Rattle.std.proofs.Common.{◌≡◌, ◌≢◌, ℕ, zero, suc, ◌<◌, ◌≤◌, ◌==◌, true, false, true≢false, List, [], ◌∷◌, length, drop, Option, Some, None, Result, Ok}
 use Rattle.std.proofs.Common.{codes, refl, sym, ap, ◌∙◌, subst, arith, inl, inr}
-use Rattle.std.{specs.{Cmp.Lexicographic.same_text, Option.is_none}, proofs.lemmas.{Bool.ne_eqb, List.drop_all, Option.{same_Some, none-some}}}
+use Rattle.std.{specs.{Cmp.Lexicographic.same_text, Option.{is_none, ok_or}}, proofs.lemmas.{Bool.ne_eqb, List.drop_all, Option.{same_Some, none-some}}}
 use Rattle.ix_label.specs.declared.form.Form.{Form, TheVariants.{One, Two}}
 use Rattle.ix_script.{specs.lines.{Before.{form_told, in_body, has_policy}, Rules.{has_empty_word, has_open_quote}}, proofs.{lines.Faultless.one_kept, reader.Told.neither}}
 use Rattle.ix_script.specs.{lines.Said.{said, version_of, line_of}, reader.Readers.{LineRight, Tells}, declared.{fail.Rule.Rule, line.Line.Line}}
@@ -73,6 +73,11 @@ first_right text form h = subst (λ t. LineRight [] (line.Version form) (first_l
 some_form : (o : Option Form) → is_none o ≡ false → (form : Form) × (o ≡ Some form)
 some_form None h = absurd (true≢false h)
 some_form (Some form) h = (form, refl)
+
+-- what is there, where no error stands for its lack
+pub some_told : {A E : Type 0} (o : Option A) (e : E) (x : A) → ok_or o e ≡ Ok x → o ≡ Some x
+some_told None e x h = cc
+some_told (Some y) e x h = cc
 
 -- a first line without a fault tells a form
 pub first_version : (text : List ℕ) → first_line_fault text ≡ None → (form : Form) × (version_of text ≡ Some form)

@@ -1,7 +1,7 @@
 -- Cutting the first word off.
 use Rattle.std.proofs.Common.{◌≡◌, ℕ, zero, suc, ◌+◌, ◌<◌, ◌≤◌, ◌==◌, Bool, true, false, slice_index, sym, cond, List, [], ◌∷◌, length, take, drop, get_or, ap}
-use Rattle.std.proofs.Common.{Option, Some, None, refl, ◌∙◌, arith, add-one, add-zero, drop-cons, length-drop}
-use Rattle.std.{specs.Option.option_map_or, proofs.lemmas.{Bool.{eq-eqb, ne_eqb}, List.{drop_all, length-take-le, take_all}}}
+use Rattle.std.proofs.Common.{Option, Some, None, Bor, refl, ◌∙◌, arith, inl, inr, add-one, add-zero, drop-cons, length-drop}
+use Rattle.std.{specs.{Option.option_map_or, Slice.IsGetRangeResult}, proofs.lemmas.{Bool.{eq-eqb, ne_eqb}, List.{drop_all, length-take-le, take_all, take_rest}}}
 use Rattle.memchr.specs.Find.{IsFirstByte, is_byte}
 use Rattle.ix_model.specs.world.Texts.{with_front}
 use Rattle.ix_script.specs.{texts.Cutting.{pieces, parts_words, after_byte, closes, is_closed}, reader.Cut.end_from, declared.words.Spot.Spot}
@@ -30,7 +30,17 @@ cut_within at text k is low = cut_end at _ ∙ rw (← is, drop-cons text k 0, a
 pub cut_whole : (at : Spot) (text : List ℕ) (k : ℕ) → k ≡ end_from at text → length text ≤ k → pieces at text ≡ text ∷ []
 cut_whole at text k is high = cut_end at _ ∙ rw (← is, drop_all, take_all) refl
 
-end_low : (at : Spot) (text : List ℕ) → end_from at text ≤ length text
+-- with what stands behind the space that ends the first word
+pub cut_by_get : (text : List ℕ) (end : ℕ) (rest : Option (Bor (List ℕ))) → end ≡ end_from spot.Front text → IsGetRangeResult text (end + 1) (length text) rest
+    → pieces spot.Front text ≡ take end text ∷ option_map_or (λ more. pieces spot.Front more.now) rest []
+cut_by_get text end None is h = elim h.0 [
+  | inl e ↦ cut_whole _ _ _ is (omega (arith, e)) ∙ ap (λ word. word ∷ []) (sym (take_all end text (omega (arith, e))))
+  | inr e ↦ absurd (omega (arith, e))
+]
+cut_by_get text end (Some more) is h =
+    cut_within _ _ _ is (omega (arith, h.0.0)) ∙ ap (λ ws. take end text ∷ pieces spot.Front ws) (sym (h.0.2 ∙ take_rest text (end + 1)))
+
+pub end_low : (at : Spot) (text : List ℕ) → end_from at text ≤ length text
 end_low at [] = omega arith
 end_low at (b ∷ text) = elim (parts_words at b) as (λ t. cond t 0 (suc (end_from (after_byte at b) text)) ≤ suc (length text)) [
   | true ↦ omega arith

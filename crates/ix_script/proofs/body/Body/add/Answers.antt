@@ -20,19 +20,19 @@ returns-in-Open c =
     let x = c.args.line.now in
     let b = c.args.self.now in
     let at = option_map (λ s. s.now) b.lane in
-    on_ok c.add_any.result (λ given lines told. body_next b _ lines x told (rw c.in-Open.is (sym (or_false b.started))) (rw c.in-Open.is refl) told.within told.named (rw c.in-Open.is refl) (rw c.in-Open.is refl)
-    (λ items h. rw c.in-Open.is (given items h)) (λ items h. no_more b.procs items (items ++ in_lane at (new_procs x)) at (new_procs x) (rw c.in-Open.is refl) refl h)
-    (one_counted _ _ _ _ c.from.ensures c.is_command.ensures)) c.add_any.ensures
+    on_ok c.add.result (λ given lines told. body_next b _ lines x told (rw c.in-Open.is (sym (or_false b.started))) (rw c.in-Open.is refl) told.within told.named (rw c.in-Open.is refl) (rw c.in-Open.is refl)
+    (λ items h. rw c.in-Open.is (rw c.as_ref.ensures.value at (given items h))) (λ items h. no_more b.procs items (items ++ in_lane at (new_procs x)) at (new_procs x) (rw c.in-Open.is refl) refl h)
+    (one_counted _ _ _ _ c.from.ensures c.is_command.ensures)) c.add.ensures
 
 pub returns-in-Dup : goal.returns-in-Dup
 returns-in-Dup c =
     let x = c.args.line.now in
     let b = c.args.self.now in
     let at = option_map (λ s. s.now) b.lane in
-    on_ok c.add_any-in-Dup.result (λ given lines told. body_next b _ lines x told (rw c.in-Dup.is (sym (or_false b.started))) (rw c.in-Dup.is refl) told.within told.named
+    on_ok c.add-in-Dup.result (λ given lines told. body_next b _ lines x told (rw c.in-Dup.is (sym (or_false b.started))) (rw c.in-Dup.is refl) told.within told.named
     (rw c.in-Dup.is refl) (rw c.in-Dup.is refl)
-    (λ items h. rw c.in-Dup.is (given items h)) (λ items h. no_more b.procs items (items ++ in_lane at (new_procs x)) at (new_procs x) (rw c.in-Dup.is refl) refl h)
-    (one_counted _ _ _ _ c.from.ensures c.is_command.ensures)) c.add_any-in-Dup.ensures
+    (λ items h. rw c.in-Dup.is (rw c.as_ref-in-Dup.ensures.value at (given items h))) (λ items h. no_more b.procs items (items ++ in_lane at (new_procs x)) at (new_procs x) (rw c.in-Dup.is refl) refl h)
+    (one_counted _ _ _ _ c.from.ensures c.is_command.ensures)) c.add-in-Dup.ensures
 
 pub returns-in_ok-add-in-Some : goal.returns-in_ok-add-in-Some
 returns-in_ok-add-in-Some c =
@@ -42,11 +42,11 @@ returns-in_ok-add-in-Some c =
     let first = c.in-Some.first in
     let second = c.in-Some.second in
     let is = c.in-Pipe.is ∙ ap (line.Pipe c.in-Pipe.proc) c.in-Some.is in
-    on_ok c.add-in-Some.result (λ given lines told. body_next b _ lines x told (rw is (sym (or_false b.started))) (rw is refl) told.within told.named (rw is refl) (rw is refl)
-    (λ items h. rw is (subst (λ xs. AreIndexed c.add-in-Some.new.self xs) (two_in_lane _ at _ _)
+    on_ok c.add-in-Some-2.result (λ given lines told. body_next b _ lines x told (rw is (sym (or_false b.started))) (rw is refl) told.within told.named (rw is refl) (rw is refl)
+    (λ items h. rw is (subst (λ xs. AreIndexed c.add-in-Some-2.new.self xs) (two_in_lane _ at _ _)
     (given (items ++ in_lane at (first ∷ [])) (c.in_ok-add-in-Some.ensures items h))))
     (λ items h. no_more b.procs items (items ++ in_lane at (new_procs x)) at (new_procs x) (rw is refl) refl h)
-    (one_counted _ _ _ _ c.from.ensures c.is_command.ensures)) c.add-in-Some.ensures
+    (one_counted _ _ _ _ c.from.ensures c.is_command.ensures)) c.add-in-Some-2.ensures
 
 pub returns-in-None : goal.returns-in-None
 returns-in-None c = λ lines told.
@@ -64,20 +64,20 @@ returns-in-Fork c =
     let x = c.args.line.now in
     let b = c.args.self.now in
     let at = option_map (λ s. s.now) b.lane in
-    on_ok c.add_any-in-Fork.result (λ given lines told. body_next b _ lines x told (rw c.in-Fork.is (sym (or_false b.started))) (rw c.in-Fork.is refl) told.within told.named
+    on_ok c.add-in-Fork.result (λ given lines told. body_next b _ lines x told (rw c.in-Fork.is (sym (or_false b.started))) (rw c.in-Fork.is refl) told.within told.named
     (rw c.in-Fork.is refl) (rw c.in-Fork.is refl)
-    (λ items h. no_more b.fds items (items ++ in_lane at (new_fds x)) at (new_fds x) (rw c.in-Fork.is refl) refl h) (λ items h. rw c.in-Fork.is (given items h))
-    (one_counted _ _ _ _ c.from.ensures c.is_command.ensures)) c.add_any-in-Fork.ensures
+    (λ items h. no_more b.fds items (items ++ in_lane at (new_fds x)) at (new_fds x) (rw c.in-Fork.is refl) refl h) (λ items h. rw c.in-Fork.is (rw c.as_ref-in-Fork.ensures.value at (given items h)))
+    (one_counted _ _ _ _ c.from.ensures c.is_command.ensures)) c.add-in-Fork.ensures
 
 pub returns-in-Login : goal.returns-in-Login
 returns-in-Login c =
     let x = c.args.line.now in
     let b = c.args.self.now in
     let at = option_map (λ s. s.now) b.lane in
-    on_ok c.add_any-in-Login.result (λ given lines told. body_next b _ lines x told (rw c.in-Login.is (sym (or_false b.started)))
+    on_ok c.add-in-Login.result (λ given lines told. body_next b _ lines x told (rw c.in-Login.is (sym (or_false b.started)))
     (rw c.in-Login.is refl) told.within told.named (rw c.in-Login.is refl) (rw c.in-Login.is refl)
-    (λ items h. no_more b.fds items (items ++ in_lane at (new_fds x)) at (new_fds x) (rw c.in-Login.is refl) refl h) (λ items h. rw c.in-Login.is (given items h))
-    (one_counted _ _ _ _ c.from.ensures c.is_command.ensures)) c.add_any-in-Login.ensures
+    (λ items h. no_more b.fds items (items ++ in_lane at (new_fds x)) at (new_fds x) (rw c.in-Login.is refl) refl h) (λ items h. rw c.in-Login.is (rw c.as_ref-in-Login.ensures.value at (given items h)))
+    (one_counted _ _ _ _ c.from.ensures c.is_command.ensures)) c.add-in-Login.ensures
 
 pub returns-then-is_next : goal.returns-then-is_next
 returns-then-is_next c = λ lines told.

@@ -1,10 +1,10 @@
 use Rattle.std.proofs.{Common.{◌≡◌, ◌∙◌, ◌++◌, refl, sym, ap}, lemmas.List.append-nil}
 use Rattle.ix_script.specs.lines.Before.{fs_told, limits_after, proc_told, object_told}
-use Rattle.ix_script.proofs.{reader.Pushed.{fss_push, limits_push, procs_push, objects_push}, plan.Plan.add.Goals.{in-Some+in_ok-push, in_default}}
+use Rattle.ix_script.proofs.{reader.Commands.on_ok, reader.Pushed.{fss_push, limits_push, procs_push, objects_push}, plan.Plan.add.Goals.{in-Some+in_ok-push, in_default}}
 use Rattle.ix_script.proofs.plan.Plan.add.Goals as goal
 
 pub returns : goal.returns
-returns c = λ lines was.
+returns c = on_ok c.add_object.result (λ added lines was.
     let x = c.args.line.now in
     let fss : c.match-fs_spec.self.fss ≡ c.args.self.now.fss ++ fs_told x = elim c.match-fs_spec.branch [
       | in-Some+in_ok-push w ↦ rw (w.self-is, c.fs_spec.ensures, w.in-Some.is) w.in_ok-push.ensures.ok
@@ -17,5 +17,5 @@ returns c = λ lines was.
       fss = fss ∙ ap (λ fs. fs ++ fs_told x) was.fss ∙ sym (fss_push _ x);
       limits = c.limits_after-self.ensures ∙ ap (λ l. limits_after l x) (limits ∙ was.limits) ∙ sym (limits_push _ x);
       procs = c.in_ok-add_proc.ensures ∙ ap (λ ps. ps ++ proc_told x) (procs ∙ was.procs) ∙ sym (procs_push _ x);
-      objects = c.in_ok-add_object.ensures ∙ ap (λ os. os ++ object_told x) (objects ∙ was.objects) ∙ sym (objects_push _ x);
-    }
+      objects = added ∙ ap (λ os. os ++ object_told x) (objects ∙ was.objects) ∙ sym (objects_push _ x);
+    }) c.add_object.ensures
