@@ -201,19 +201,14 @@ impl<'a> Header<'a> {
         self.limits = limits_after(&self.limits, line);
         self.latest = self.latest.max(group(line));
         match line {
-            Line::Limit { what, .. } => self.whats.push(*what),
-            Line::Fs { .. } => {
-                self.told += 1;
-                Ok(())
-            }
-            Line::Proc { name, .. } => self.procs.push(name),
-            Line::Dir { path, .. } => self.made.push(&path.path(), true),
-            Line::File { path, .. } => self.made.push(&path.path(), false),
-            Line::Policy { .. } => {
-                self.policy = true;
-                Ok(())
-            }
-            _ => Ok(()),
+            Line::Limit { what, .. } => self.whats.push(*what)?,
+            Line::Fs { .. } => self.told += 1,
+            Line::Proc { name, .. } => self.procs.push(name)?,
+            Line::Dir { path, .. } => self.made.push(&path.path(), true)?,
+            Line::File { path, .. } => self.made.push(&path.path(), false)?,
+            Line::Policy { .. } => self.policy = true,
+            _ => {}
         }
+        Ok(())
     }
 }

@@ -120,10 +120,6 @@ pub on_ok : {X E P Q : Type 0} (r : Result X E) → (P → Q) → OnOk r P → O
 on_ok (Ok x) f h = f h
 on_ok (Err e) f h = h
 
-pub on_both : {X E P Q R : Type 0} (r : Result X E) → (P → Q → R) → OnOk r P → OnOk r Q → OnOk r R
-on_both (Ok x) f p q = f p q
-on_both (Err e) f p q = p
-
 pub one_counted : (n k : ℕ) (b c : Bool) → k ≡ bool_byte b → b ≡ c → n + k ≡ cond c (n + 1) n
 one_counted n k true c h e = rw (sym e) (omega (arith, h))
 one_counted n k false c h e = rw (sym e) (omega (arith, h))
