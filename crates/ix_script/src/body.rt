@@ -39,7 +39,7 @@ fn add_name(lanes: &mut List<Name>, name: &NameWord<'_>) -> Result<(), NoMemory>
     ensures lanes { OnOk result (lanes.new ≡ (if is_known name.now lanes.old then lanes.old else lanes.old ++ name.now ∷ [])) }
     ensures named { OnOk result (list_all is_script_name lanes.old ≡ true → list_all is_script_name lanes.new ≡ true) }
 {
-    if is_known(name.word(), lanes.as_slice()) {
+    if is_known(name.as_bytes(), lanes.as_slice()) {
         Ok(())
     } else {
         lanes.push(name.name())

@@ -87,7 +87,7 @@ impl<'a> Given<'a> {
         let (Some(lane), Some(name)) = (lane, named) else {
             return Ok(());
         };
-        let place = place_of(lane, name.word());
+        let place = place_of(lane, name.as_bytes());
         if self.near.len() < 4 {
             self.near.push(place)?;
             return Ok(());

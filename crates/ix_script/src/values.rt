@@ -59,15 +59,8 @@ impl<'a> NameWord<'a> {
         NameWord { word }
     }
 
-    /// Its bytes.
-    pub fn as_bytes(&self) -> &'a [u8]
-        ensures { result.now ≡ self.now }
-    {
-        self.word
-    }
-
     /// Its bytes, which are well formed.
-    pub(crate) fn word(&self) -> &'a [u8]
+    pub fn as_bytes(&self) -> &'a [u8]
         ensures bytes { result.now ≡ self.now }
         ensures name { is_script_name result.now ≡ true }
     {

@@ -117,7 +117,11 @@ fn first_word(text: &[u8]) -> (&[u8], Option<&[u8]>, bool)
     };
     let word = &text[..end];
     let open = quoted && !is_closed(word);
-    (word, text.get(end + 1..), open)
+    if end < text.len() {
+        (word, Some(&text[end + 1..]), open)
+    } else {
+        (word, None, open)
+    }
 }
 
 /// Whether the quote that closes a word is its last byte.

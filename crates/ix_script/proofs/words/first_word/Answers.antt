@@ -1,6 +1,6 @@
-use Rattle.std.proofs.Common.{◌≡◌, sym, ◌∙◌, arith}
-use Rattle.ix_script.specs.reader.Cut.{end_from}
-use Rattle.ix_script.proofs.{texts.Pieces.{cut_by_get, end_low, ends_within, plain_end}, words.first_word.Goals.{then-quoted, else-quoted}}
+use Rattle.std.proofs.{Common.{◌≡◌, ◌∷◌, ◌+◌, [], take, sym, ap, ◌∙◌}, lemmas.List.{take_all, take_rest}}
+use Rattle.ix_script.specs.{reader.Cut.end_from, texts.Cutting.pieces}
+use Rattle.ix_script.proofs.{texts.Pieces.{cut_within, cut_whole, ends_within, plain_end}, words.first_word.Goals.{then-quoted, else-quoted}}
 use Rattle.ix_script.specs.declared.words.Spot.TheVariants as spot
 use Rattle.ix_script.proofs.words.first_word.Goals as goal
 
@@ -12,20 +12,22 @@ slice_bounds-word-end c =
       | else-quoted w ↦ w.end-is ∙ w.end_of_plain-end.ensures ∙ sym (plain_end text (sym c.begins-quoted.ensures ∙ w.if-quoted.false))
     ])
 
-pub overflow_add-end : goal.overflow_add-end
-overflow_add-end c =
+pub returns-then-end-text-clause-pieces : goal.returns-then-end-text-clause-pieces
+returns-then-end-text-clause-pieces c =
     let text = c.args.text.now in
-    let is : c.if-quoted.end ≡ end_from spot.Front text = elim c.if-quoted.branch [
+    let end = c.if-quoted.end in
+    let is : end ≡ end_from spot.Front text = elim c.if-quoted.branch [
       | then-quoted w ↦ w.end-is ∙ w.end_of_quoted-end.ensures
       | else-quoted w ↦ w.end-is ∙ w.end_of_plain-end.ensures ∙ sym (plain_end text (sym c.begins-quoted.ensures ∙ w.if-quoted.false))
     ] in
-    omega (arith, is, end_low spot.Front text)
+    cut_within _ _ _ is c.if-end-text.true ∙ ap (λ more. take end text ∷ pieces spot.Front more) (sym (take_rest text (end + 1)))
 
-pub returns-clause-pieces : goal.returns-clause-pieces
-returns-clause-pieces c =
+pub returns-else-end-text-clause-pieces : goal.returns-else-end-text-clause-pieces
+returns-else-end-text-clause-pieces c =
     let text = c.args.text.now in
-    let is : c.if-quoted.end ≡ end_from spot.Front text = elim c.if-quoted.branch [
+    let end = c.if-quoted.end in
+    let is : end ≡ end_from spot.Front text = elim c.if-quoted.branch [
       | then-quoted w ↦ w.end-is ∙ w.end_of_quoted-end.ensures
       | else-quoted w ↦ w.end-is ∙ w.end_of_plain-end.ensures ∙ sym (plain_end text (sym c.begins-quoted.ensures ∙ w.if-quoted.false))
     ] in
-    cut_by_get text _ c.get.result is c.get.ensures.lookup
+    cut_whole _ _ _ is c.if-end-text.false ∙ ap (λ word. word ∷ []) (sym (take_all end text c.if-end-text.false))

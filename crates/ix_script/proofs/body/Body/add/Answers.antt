@@ -85,8 +85,8 @@ returns-then-is_next c = λ lines told.
     let name = c.in-Lane.name in
     let known = c.in_ok-add_name-in-Lane.ensures.lanes in
     let next =
-    comes_next _ _ _ _ (rw c.as_bytes-in-Lane.ensures at (sym c.is_next.ensures.next ∙ c.if-is_next.true)) in
-    rw c.in-Lane.is (lane_added b _ _ _ told refl (ap (λ n. Some n) c.as_bytes.ensures) known (c.in_ok-add_name-in-Lane.ensures.named told.named) (next_more _ _ _ _ _ known told.within next) refl refl
+    comes_next _ _ _ _ (rw c.as_bytes-in-Lane.ensures.bytes at (sym c.is_next.ensures.next ∙ c.if-is_next.true)) in
+    rw c.in-Lane.is (lane_added b _ _ _ told refl (ap (λ n. Some n) c.as_bytes.ensures.bytes) known (c.in_ok-add_name-in-Lane.ensures.named told.named) (next_more _ _ _ _ _ known told.within next) refl refl
     (one_counted _ _ _ _ c.from.ensures (c.is_command.ensures ∙ ap is_command c.in-Lane.is)))
 
 pub returns-else-is_next : goal.returns-else-is_next
@@ -98,7 +98,7 @@ returns-else-is_next c =
     let others = pushed ∙ ap (λ n. b.others ++ n ∷ []) c.name.ensures in
     let more =
     subst (λ os. OneMore b.in_order c.add_name.new.lanes os (phase_lanes_in b) name) (sym others) (other_more _ _ _ _ _ known told.within) in
-    rw c.in-Lane.is (lane_added b _ _ _ told refl (ap (λ n. Some n) c.as_bytes.ensures) known (c.in_ok-add_name-in-Lane.ensures.named told.named) more refl refl
+    rw c.in-Lane.is (lane_added b _ _ _ told refl (ap (λ n. Some n) c.as_bytes.ensures.bytes) known (c.in_ok-add_name-in-Lane.ensures.named told.named) more refl refl
     (one_counted _ _ _ _ c.from.ensures (c.is_command.ensures ∙ ap is_command c.in-Lane.is)))) c.push.ensures.ok
 
 pub returns-in_default : goal.returns-in_default

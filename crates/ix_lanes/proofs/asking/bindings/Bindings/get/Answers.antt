@@ -7,7 +7,7 @@ returns-in-Some g c =
     let i = c.self.inside in
     let name = c.args.name.now in
     let d = c.index.result.now in
-    let found : position (is_of name) i.near.items ≡ Some c.in-Some.place = sym (c.place_of.ensures ∙ (λ j. position (is_of (c.as_bytes.ensures j)) (c.as_slice.ensures.value j))) ∙ c.in-Some.is in
+    let found : position (is_of name) i.near.items ≡ Some c.in-Some.place = sym (c.place_of.ensures ∙ (λ j. position (is_of (c.as_bytes.ensures.bytes j)) (c.as_slice.ensures.value j))) ∙ c.in-Some.is in
     let at = position-Some (is_of name) i.near.items c.in-Some.place d found in
     rw (← c.self.view_is) (ap (λ e. Some e.1) c.index.ensures ∙ sym (near_value name i.near.items i.numbers.entries c.in-Some.place d at.0 at.1 at.2)
     ∙ sym (get-pairs name (i.near.items ++ i.numbers.entries)))
@@ -17,6 +17,6 @@ returns-in-None g c =
     let i = c.self.inside in
     let name = c.args.name.now in
     let none : list_any (is_of name) i.near.items ≡ false =
-    no_place (is_of name) i.near.items (sym (c.place_of.ensures ∙ (λ j. position (is_of (c.as_bytes.ensures j)) (c.as_slice.ensures.value j))) ∙ c.in-None.is) in
-    rw (c.beyond.ensures, c.as_bytes-in-None.ensures, ← c.self.view_is)
+    no_place (is_of name) i.near.items (sym (c.place_of.ensures ∙ (λ j. position (is_of (c.as_bytes.ensures.bytes j)) (c.as_slice.ensures.value j))) ∙ c.in-None.is) in
+    rw (c.beyond.ensures, c.as_bytes-in-None.ensures.bytes, ← c.self.view_is)
     (sym (get-pairs name (i.near.items ++ i.numbers.entries) ∙ far_value name i.near.items i.numbers.entries none))

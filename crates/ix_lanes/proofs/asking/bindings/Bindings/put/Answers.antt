@@ -9,7 +9,7 @@ returns-in-Some g c =
     let name = c.args.name.now in
     let d = c.index_mut.result.now in
     let there = subst (λ m. contains_key m name ≡ true) (sym c.self.view_is) c.requires in
-    let found : position (is_of name) i.near.items ≡ Some c.in-Some.place = sym (c.place_of.ensures ∙ (λ j. position (is_of (c.as_bytes.ensures j)) (c.as_slice.ensures.value j))) ∙ c.in-Some.is in
+    let found : position (is_of name) i.near.items ≡ Some c.in-Some.place = sym (c.place_of.ensures ∙ (λ j. position (is_of (c.as_bytes.ensures.bytes j)) (c.as_slice.ensures.value j))) ∙ c.in-Some.is in
     let at = position-Some (is_of name) i.near.items c.in-Some.place d found in
     rw (← c.self.view_is) (map-put name c.args.number (i.near.items ++ i.numbers.entries) _ there
     (ap (λ e. set i.near.items c.in-Some.place (e.0, c.args.number) ++ i.numbers.entries) c.index_mut.ensures.value
@@ -21,9 +21,9 @@ returns-in-Some-get_mut g c =
     let name = c.args.name.now in
     let there = subst (λ m. contains_key m name ≡ true) (sym c.self.view_is) c.requires in
     let none : list_any (is_of name) i.near.items ≡ false =
-    no_place (is_of name) i.near.items (sym (c.place_of.ensures ∙ (λ j. position (is_of (c.as_bytes.ensures j)) (c.as_slice.ensures.value j))) ∙ c.in-None.is) in
+    no_place (is_of name) i.near.items (sym (c.place_of.ensures ∙ (λ j. position (is_of (c.as_bytes.ensures.bytes j)) (c.as_slice.ensures.value j))) ∙ c.in-None.is) in
     rw (← c.self.view_is) (map-put name c.args.number (i.near.items ++ i.numbers.entries) _ there
-    (ap (λ xs. i.near.items ++ xs) ((c.get_mut.follows.holds c.args.number).0 ∙ ap (λ (q : List ℕ). with_value q i.numbers.entries c.args.number) c.as_bytes-in-None.ensures)
+    (ap (λ xs. i.near.items ++ xs) ((c.get_mut.follows.holds c.args.number).0 ∙ ap (λ (q : List ℕ). with_value q i.numbers.entries c.args.number) c.as_bytes-in-None.ensures.bytes)
     ∙ far_set name c.args.number i.near.items i.numbers.entries none))
 
 pub returns-in_default : goal.returns-in_default
@@ -32,6 +32,6 @@ returns-in_default g c =
     let name = c.args.name.now in
     let there = subst (λ m. contains_key m name ≡ true) (sym c.self.view_is) c.requires in
     let none : list_any (is_of name) i.near.items ≡ false =
-    no_place (is_of name) i.near.items (sym (c.place_of.ensures ∙ (λ j. position (is_of (c.as_bytes.ensures j)) (c.as_slice.ensures.value j))) ∙ c.in-None.is) in
+    no_place (is_of name) i.near.items (sym (c.place_of.ensures ∙ (λ j. position (is_of (c.as_bytes.ensures.bytes j)) (c.as_slice.ensures.value j))) ∙ c.in-None.is) in
     absurd (not_there name (i.near.items ++ i.numbers.entries) (far_value name i.near.items i.numbers.entries none
-    ∙ (rw c.as_bytes-in-None.ensures at (sym c.get_mut.ensures.value ∙ ap option_copied_mut c.in_default.is))) there)
+    ∙ (rw c.as_bytes-in-None.ensures.bytes at (sym c.get_mut.ensures.value ∙ ap option_copied_mut c.in_default.is))) there)

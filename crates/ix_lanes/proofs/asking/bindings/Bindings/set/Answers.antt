@@ -9,7 +9,7 @@ returns-then-len-lt-NEAR-clause-ok g c =
     let none : list_any (is_of name) i.near.items ≡ false = new_name name i.near.items i.numbers.entries
     (subst (λ m. contains_key m name ≡ false) (sym c.self.view_is) (sym (c.is_some.ensures ∙ ap is_some c.get.ensures) ∙ c.if-is_some.false)) in
     let went : is_ok c.push.result ≡ true = c.is_err.ensures.negation ∙ ap not c.if-is_err.false in
-    rw (← c.self.view_is) (map-pushed c.in-Ok.bytes name c.args.number i.near.items c.push.new.self.items i.numbers.entries none (c.in-Ok.ensures.items ∙ c.as_bytes.ensures)
+    rw (← c.self.view_is) (map-pushed c.in-Ok.bytes name c.args.number i.near.items c.push.new.self.items i.numbers.entries none (c.in-Ok.ensures.items ∙ c.as_bytes.ensures.bytes)
     (c.push.ensures.items ∙ ap (λ b. if b then i.near.items ++ (c.in-Ok.bytes, c.args.number) ∷ [] else i.near.items) went))
 
 pub returns-clause-ok : goal.returns-clause-ok
@@ -19,5 +19,5 @@ returns-clause-ok g c =
     let none : list_any (is_of name) i.near.items ≡ false = new_name name i.near.items i.numbers.entries
     (subst (λ m. contains_key m name ≡ false) (sym c.self.view_is) (sym (c.is_some.ensures ∙ ap is_some c.get.ensures) ∙ c.if-is_some.false)) in
     let went : is_ok c.insert.result ≡ true = c.is_err-2.ensures.negation ∙ ap not c.if-is_err-2.false in
-    rw (← c.self.view_is) (map-far c.in-Ok.bytes name c.args.number i.near.items i.numbers.entries c.insert.new.self.entries none (c.in-Ok.ensures.items ∙ c.as_bytes.ensures)
+    rw (← c.self.view_is) (map-far c.in-Ok.bytes name c.args.number i.near.items i.numbers.entries c.insert.new.self.entries none (c.in-Ok.ensures.items ∙ c.as_bytes.ensures.bytes)
     (from_ok c.insert.result went c.insert.ensures.entries))
