@@ -78,7 +78,6 @@ impl<'a> Draft<'a> {
         if self.body.commands >= 200_000 {
             return Err(self.fault(Rule::TOO_MANY));
         }
-        self.header.latest = self.header.latest.max(5);
         self.body.commands += 1;
         self.lines
             .push(self.lines.form(), text, Role::Command, cost)?;
@@ -102,7 +101,6 @@ impl<'a> Draft<'a> {
         ensures line { OnOk result (LineMore self.old.lines self.new.lines text.now) }
     {
         let (_, name) = text.split_at(5);
-        self.header.latest = self.header.latest.max(5);
         self.body.lane = Some(name);
         self.body.in_order += 1;
         self.lines.push(self.lines.form(), text, Role::Lane, 0)

@@ -1,16 +1,16 @@
 -- A command that gives no name and is no server's tells nothing but that it is one.
-use Rattle.std.proofs.Common.{◌≡◌, ℕ, ◌+◌, ◌≤◌, nat_le, Bool, true, false, ◌||◌, cond, List, [], ◌∷◌, ◌++◌, length, max, Option, Some, None, option_map, Result}
-use Rattle.std.{proofs.{Common.{Ok, Err, refl, sym, ap, ◌∙◌, subst, arith}, lemmas.{Bool.{le-leb, lt-leb}, List.append-nil, Option.same_Some}}, specs.{List.list_all, Option.IsSome, Result.OnOk}}
+use Rattle.std.proofs.Common.{◌≡◌, ◌⊎◌, inl, inr, true≢false, ℕ, ◌+◌, ◌≤◌, nat_le, nat_lt, Bool, true, false, ◌||◌, cond, List, [], ◌∷◌, ◌++◌, length, max, Option, Some, None, option_map, Result}
+use Rattle.std.{proofs.{Common.{Ok, Err, refl, sym, ap, ◌∙◌, subst, arith}, lemmas.{Bool.{le-leb, lt-leb, ltb-true}, List.append-nil, Option.same_Some}}, specs.{List.{fold, list_all, list_any}, Option.{IsSome, is_none}, Result.OnOk}}
 use mir.Val.{bool_byte}
-use Rattle.ix_text.specs.{Bytes.is_empty, Names.is_script_name}
-use Rattle.ix_script.specs.{lines.{Kinds.places_fault, Forms.places, Roles.role_of}, declared.{line.{FdWord.FdWord, KeepWord.KeepWord}, header.Header.Header, body.Body.Body}}
+use Rattle.ix_text.{specs.{Bytes.is_empty, Names.is_script_name}, proofs.Tests.bool_cases}
+use Rattle.ix_script.specs.{lines.{Kinds.places_fault, Forms.places, Roles.role_of, Rules.is_outside}, declared.{line.{FdWord.FdWord, KeepWord.KeepWord}, header.Header.Header, body.Body.Body}}
 use Rattle.ix_script.specs.{lines.{Said.{both, said, plain_line, path_line, counted_line}, Faults.said_fault}, scripts.{Need.cost_of_line, Scripts.config_of}}
 use Rattle.ix_script.specs.{reader.{Placing.command_cost, Indexed.{AreIndexed, AreNames, AreSites}}, declared.form.{Form.Form, Plain.Plain, OnPath.OnPath}}
 use Rattle.ix_script.specs.{reader.Told.{HeaderTold, BodyTold, MakesMore, NamesMore, phase_lanes_in}, declared.form.{Counted.Counted}}
 use Rattle.ix_script.specs.declared.{index.{Given.Given, Names.Names, Tree.Tree}, line.Line.Line}
 use Rattle.ix_model.specs.{declared.{call.Mode.Mode, config.{Limits.Limits, ObjSpec.ObjSpec}}, world.Naming.PathOf, opening.Valid.is_valid, history.Cost.cost_of_path}
 use Rattle.ix_script.proofs.{lines.{Readings.stand, Follows.follows}, reader.{PhaseLanes.OneMore, Keeping.header_next, Validity.fits_of}}
-use Rattle.ix_script.specs.lines.Before.{form_told, fs_told, limits_after, what_told, proc_name_told, object_told, is_policy, group, is_phase, lane_after}
+use Rattle.ix_script.specs.lines.Before.{form_told, fs_told, limits_after, what_told, proc_name_told, object_told, is_policy, group, is_phase, in_body, lane_after, lane_now}
 use Rattle.ix_script.specs.lines.Before.{phase_lanes_after, lanes_after, new_fds, new_procs, fds_given, procs_given, in_lane, is_command, commands}
 use Rattle.ix_script.proofs.reader.Pushed.{body_push, lane_push, phase_lanes_push, lanes_push, fds_push, procs_given_push, commands_push}
 use Rattle.ix_label.specs.declared.form.Form as spelled
@@ -99,15 +99,58 @@ pub or_false : (b : Bool) → (b || false) ≡ b
 or_false true = refl
 or_false false = refl
 
-pub header_quiet : (h n : Header) (before : List Line) (l : Line) → Behind l → is_empty before ≡ false → HeaderTold h before
-    → is_valid (config_of before) ≡ true → said_fault before l ≡ None → n ≡ record h { latest = max h.latest 5 } → HeaderTold n (before ++ l ∷ [])
-header_quiet h n before l q later was valid fault is =
-    let new : Header = record h { latest = max h.latest 5 } in
-    let told =
-    header_next h _ _ _ l (sym later) was (fits_of _ valid) (follows _ l fault) (rw q.fs (omega arith)) (rw q.fs refl)
+-- ---- a lane line and a phase are of the last group of lines
+late : Line → Bool
+late l = nat_lt 4 (group l)
+
+lane_or_before : (at : Option (List ℕ)) (l : Line) → is_none (lane_after at l) ≡ false → (late l ≡ true) ⊎ (is_none at ≡ false)
+unfolding late
+lane_or_before at line.Phase h = inl refl
+lane_or_before at (line.Lane name) h = inl refl
+lane_or_before at _ h = inr h
+
+lane_from : (at : Option (List ℕ)) (lines : List Line) → is_none (fold lane_after at lines) ≡ false → (list_any late lines ≡ true) ⊎ (is_none at ≡ false)
+lane_from at [] h = inr h
+lane_from at (l ∷ lines) h = elim (lane_from (lane_after at l) lines h) [
+  | inl p ↦ inl (rw p (or_true (late l)))
+  | inr p ↦ elim (lane_or_before at l p) [ inl q ↦ inl (rw q refl) | inr q ↦ inr q ]
+]
+
+phase_late : (l : Line) (b : Bool) → is_phase l ≡ true → (late l || b) ≡ true
+unfolding late
+phase_late line.Phase b h = refl
+phase_late _ b h = cc
+
+phase_from : (lines : List Line) → list_any is_phase lines ≡ true → list_any late lines ≡ true
+phase_from [] h = cc
+phase_from (l ∷ lines) h = elim (bool_cases (is_phase l)) [
+  | inl p ↦ phase_late l _ p
+  | inr p ↦ rw (phase_from lines (rw p at h)) (or_true (late l))
+]
+
+-- the body has begun, so that a line more of it changes nothing of the header
+pub record Begun (before : List Line) : Type 0 where
+  pub some : is_empty before ≡ false
+  pub later : list_any (λ b. nat_lt 4 (group b)) before ≡ true
+
+pub begun_lane : (before : List Line) → is_empty before ≡ false → is_none (lane_now before) ≡ false → Begun before
+unfolding lane_now late
+begun_lane before some h = record {
+  some = some;
+  later = elim (lane_from None before h) [ inl p ↦ p | inr p ↦ absurd (true≢false p) ];
+}
+
+pub begun_body : (before : List Line) → is_empty before ≡ false → in_body before ≡ true → Begun before
+unfolding in_body late
+begun_body before some h = record { some = some; later = phase_from before h }
+
+pub header_quiet : (h : Header) (before : List Line) (l : Line) → Behind l → Begun before → HeaderTold h before
+    → is_valid (config_of before) ≡ true → said_fault before l ≡ None → HeaderTold h (before ++ l ∷ [])
+header_quiet h before l q begun was valid fault =
+    header_next h _ _ _ l (sym begun.some) was (fits_of _ valid) (follows _ l fault) (rw q.fs (omega arith)) (rw q.fs refl)
     (sym (q.limits h.limits)) (rw q.whats (sym (append-nil h.whats)))
-    (same_names _ _ q.names) (same_sites _ _ q.objects) (rw q.objects refl) (rw q.group_is refl) (rw q.policy (sym (or_false _))) in
-    subst (λ m. HeaderTold m (before ++ l ∷ [])) (sym is) told
+    (same_names _ _ q.names) (same_sites _ _ q.objects) (rw q.objects refl)
+    (rw q.group_is (omega (arith, ltb-true 4 h.latest (sym (was.latest 4) ∙ begun.later)))) (rw q.policy (sym (or_false _)))
 
 pub no_more : (given : Given) (items more : List (List ℕ × List ℕ)) (at : Option (List ℕ)) (names : List (List ℕ)) → names ≡ []
     → more ≡ items ++ in_lane at names → AreIndexed given items → AreIndexed given more
@@ -202,6 +245,17 @@ pub record CommandSaid (labels : spelled.Form) (f : Form) (words : List (List �
   pub says : said labels f words ≡ Some line
   pub is_command : role_of line ≡ role.Command
   pub costs : cost_of_line line ≡ cost
+
+-- a command stands in a lane
+pub stands_in_lane : (before : List Line) (f : Form) (words : List (List ℕ)) (cost : ℕ) → command_cost f words ≡ Some cost → is_outside before f ≡ false → is_none (lane_now before) ≡ false
+stands_in_lane before form.Limit words cost h inside = cc
+stands_in_lane before form.Fs words cost h inside = cc
+stands_in_lane before form.Proc words cost h inside = cc
+stands_in_lane before form.Dir words cost h inside = cc
+stands_in_lane before form.File words cost h inside = cc
+stands_in_lane before form.Phase words cost h inside = cc
+stands_in_lane before form.Lane words cost h inside = cc
+stands_in_lane before _ words cost h inside = inside
 
 plain_kind : (c : Plain) (proc : List ℕ) → (role_of (plain_line c proc) ≡ role.Command) × (cost_of_line (plain_line c proc) ≡ 128)
 unfolding role_of cost_of_line

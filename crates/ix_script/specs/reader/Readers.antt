@@ -1,5 +1,5 @@
 -- What a reader of the code tells of what it was given.
-use Rattle.std.specs.Prelude.{◌≡◌, ℕ, ◌==◌, Bool, ◌||◌, List, [], ◌∷◌, ◌++◌, Option, Some, None, Result, Ok, Err}
+use Rattle.std.specs.Prelude.{◌≡◌, ℕ, ◌==◌, Bool, false, ◌||◌, List, [], ◌∷◌, ◌++◌, Option, Some, None, is_none, Result, Ok, Err}
 use Rattle.std.specs.Option.{option_map_or}
 use Rattle.ix_model.specs.opening.Valid.{is_within}
 use Rattle.ix_text.specs.Bytes.{is_empty}
@@ -13,9 +13,9 @@ use Rattle.ix_script.specs.declared.role.Role.TheVariants as role
 use Rattle.ix_script.specs.declared.form.Form.{Form}
 use Rattle.std.proofs.Common.{option_map}
 use Rattle.ix_script.specs.lines.Kinds.{Place, places_fault}
-use Rattle.ix_script.specs.lines.Before.{form_told}
+use Rattle.ix_script.specs.lines.Before.{form_told, lane_now}
 use Rattle.ix_script.specs.lines.Faults.{said_fault, command_fault, line_fault}
-use Rattle.ix_script.specs.lines.Rules.{first_of, object_above, object_is_misplaced, object_exceeds_limits}
+use Rattle.ix_script.specs.lines.Rules.{first_of, is_outside, object_above, object_is_misplaced, object_exceeds_limits}
 use Rattle.ix_model.specs.declared.config.ObjSpec.{ObjSpec}
 use Rattle.ix_script.specs.lines.Said.{line_of}
 use Rattle.ix_script.specs.declared.fail.ReadFail.{ReadFail}
@@ -47,6 +47,7 @@ in_printable_lines b = is_within 32 126 b || b == 10
 -- the words are a line of that form, and break no rule but those on what a line says
 pub record FormRight (before : List Line) (f : Form) (words : List (List ℕ)) : Type 0 where
   pub first : form_of (word_at words 0) ≡ Some f
+  pub inside : is_outside before f ≡ false
   pub faultless : places_fault (places (form_told before) f words) ≡ None
   pub fault : command_fault before words ≡ option_map_or (said_fault before) (said (form_told before) f words) None
 
@@ -70,8 +71,9 @@ pub record IsFormed (before : List Line) (text : List ℕ) (f : Form) (words : L
   pub meant : line_of (form_told before) text ≡ said (form_told before) f words
   pub fault : line_fault before text ≡ option_map_or (said_fault before) (said (form_told before) f words) None
 
--- a command that gives no name and is no server's: the text says it, it costs so much, and breaks none but the last rules
+-- a command that gives no name and is no server's: it stands in a lane, the text says it, it costs so much, and breaks none but the last rules
 pub record IsPlain (before : List Line) (text : List ℕ) (cost : ℕ) : Type 0 where
+  pub in_lane : is_none (lane_now before) ≡ false
   pub line : Line
   pub meant : line_of (form_told before) text ≡ Some line
   pub fault : line_fault before text ≡ said_fault before line

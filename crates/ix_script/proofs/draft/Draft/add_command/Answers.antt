@@ -1,7 +1,7 @@
 use Rattle.std.proofs.Common.{◌≡◌, List, [], ◌∷◌, ◌++◌, None, refl, sym, ap, ◌∙◌, arith}
 use Rattle.ix_script.specs.{lines.{Before.form_told, Faults.{said_fault, line_fault}, Said.line_of}, scripts.Packed.{line_in, with_line}, reader.Readers.LineRight}
 use Rattle.ix_script.specs.declared.line.Line.{Line}
-use Rattle.ix_script.proofs.reader.{Commands.{quiet, too_many, few_enough, later_form, header_quiet, body_quiet}, Packing.right_line}
+use Rattle.ix_script.proofs.reader.{Commands.{quiet, too_many, few_enough, later_form, begun_lane, header_quiet, body_quiet}, Packing.right_line}
 use Rattle.ix_script.proofs.draft.Draft.add_command.Goals as goal
 
 pub returns-then-self-ge200000-clause-fail : goal.returns-then-self-ge200000-clause-fail
@@ -35,6 +35,6 @@ returns-clause-told c =
     let is : line_in c.form.result c.args.text.now ≡ p.line = rw (c.form.ensures, sym (later_form before p.line c.requires.later)) (right_line before p.line c.args.text.now right).1 in
     let lines : c.push.new.self ≡ with_line c.args.self.now.lines p.line c.args.text.now = c.in_ok-push.ensures ∙ ap (λ (l : Line). with_line c.args.self.now.lines l c.args.text.now) is in
     rw lines record {
-      header = header_quiet c.args.self.now.header _ before p.line (quiet p.line p.is_command).behind c.requires.later c.requires.grows.told.header c.requires.grows.valid fits (rw c.max-self.ensures refl);
+      header = header_quiet c.args.self.now.header before p.line (quiet p.line p.is_command).behind (begun_lane before c.requires.later p.in_lane) c.requires.grows.told.header c.requires.grows.valid fits;
       body = body_quiet c.args.self.now.body _ before p.line p.is_command c.requires.grows.told.body refl;
     }

@@ -3,7 +3,7 @@ use Rattle.ix_text.specs.Bytes.{is_empty}
 use Rattle.ix_script.specs.{texts.Cutting.{words_of, is_skipped, is_policy_line}, declared.{form.Form.Form, line.Line.Line}}
 use Rattle.ix_script.specs.lines.{Before.form_told, Faults.{said_fault, command_fault}}
 use Rattle.ix_script.specs.{lines.Forms.places, reader.{Placing.command_cost, Readers.{FormRight, IsFormed}}}
-use Rattle.ix_script.proofs.{lines.Deciding.{begun_some, some_lines, text_broken, by_words, said_by_form, said_is}, lines.Readings.stand, reader.Commands.command_said}
+use Rattle.ix_script.proofs.{lines.Deciding.{begun_some, some_lines, text_broken, by_words, said_by_form, said_is}, lines.Readings.stand, reader.Commands.{command_said, stands_in_lane}}
 use Rattle.ix_script.proofs.draft.Draft.add_line.Goals as goal
 
 pub returns-in-Err-clause-fail : goal.returns-in-Err-clause-fail
@@ -24,6 +24,7 @@ add_command-requires-clause-plain g c =
     let cost : command_cost c.in-Ok.form (words_of text) ≡ Some c.in-Some.cost = ap (command_cost c.in-Ok.form) (sym c.cut.ensures) ∙ sym c.command_cost.ensures ∙ c.in-Some.is in
     let e = command_said (form_told before) c.in-Ok.form (words_of text) c.in-Some.cost cost right.faultless in
     record {
+      in_lane = stands_in_lane before c.in-Ok.form (words_of text) c.in-Some.cost cost right.inside;
       line = e.line;
       meant = said_by_form (form_told before) text c.in-Ok.form e.line not_skipped no_policy right.first e.says;
       fault = by_words before text c.in_default.ensures some not_skipped no_policy ∙ right.fault ∙ ap (λ (o : Option Line). option_map_or (said_fault before) o None) e.says;

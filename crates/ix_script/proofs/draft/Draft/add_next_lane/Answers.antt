@@ -2,7 +2,7 @@ use Rattle.std.proofs.Common.{◌≡◌, ℕ, ◌∷◌, ◌++◌, [], List, Som
 use Rattle.ix_script.specs.{lines.{Before.{form_told, lanes_after}, Faults.line_fault, Roles.role_of, Said.line_of}, reader.Readers.LineRight}
 use Rattle.ix_script.specs.{scripts.{Need.cost_of_line, Packed.{line_in, with_line}}, declared.{draft.Draft.Draft, line.Line.Line}}
 use Rattle.ix_script.specs.declared.line.Line.TheVariants as line
-use Rattle.ix_script.proofs.{reader.Commands.{later_form, header_quiet, lane_behind, lane_added, on_ok}, reader.Packing.right_line}
+use Rattle.ix_script.proofs.{reader.Commands.{later_form, begun_body, header_quiet, lane_behind, lane_added, on_ok}, reader.Packing.right_line}
 use Rattle.ix_script.proofs.{reader.PhaseLanes.{ComesNext, comes_next, next_more}, back.NextLane.{next_right, next_known}}
 use Rattle.ix_script.proofs.draft.Draft.add_next_lane.Goals as goal
 
@@ -53,7 +53,8 @@ returns-clause-told c =
     on_ok c.push.result (λ pushed.
     let lines : c.push.new.self ≡ with_line d.lines lane c.args.text.now = pushed ∙ ap (λ (l : Line). with_line d.lines l c.args.text.now) is in
     rw lines record {
-      header = header_quiet d.header _ d.lines.said lane (lane_behind name) c.requires.later c.requires.grows.told.header c.requires.grows.valid right.fits (rw c.max-self.ensures refl);
+      header = header_quiet d.header d.lines.said lane (lane_behind name) (begun_body d.lines.said c.requires.later (sym c.requires.grows.told.body.started ∙ c.requires.next.started))
+          c.requires.grows.told.header c.requires.grows.valid right.fits;
       body = lane_added d.body _ name d.lines.said c.requires.grows.told.body refl (ap (λ (n : List ℕ). Some n) c.split_at.ensures.back) same c.requires.grows.told.body.named
           (next_more d.body.in_order d.body.lanes d.body.others d.body.lanes name same c.requires.grows.told.body.within next) refl refl refl;
     }) c.push.ensures
