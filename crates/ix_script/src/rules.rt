@@ -142,30 +142,21 @@ impl<'a> Draft<'a> {
                 let fits = label.label().leq(&ceiling.label(), steps);
                 refuse_if!(!fits, Rule::ABOVE_CEILING);
                 refuse_if!(self.header.procs.count >= most, Rule::NO_ROOM);
-                Ok(())
             }
-            Line::Limit { .. } => {
-                refuse_if!(self.header.latest > 2, Rule::OUT_OF_ORDER);
-                Ok(())
-            }
-            Line::Fs { .. } => {
-                refuse_if!(self.header.latest > 3, Rule::OUT_OF_ORDER);
-                refuse_if!(self.header.told >= 16, Rule::TOO_MANY);
-                Ok(())
-            }
-            Line::Dir { path, label, .. } => self.check_object(path, label, 0, steps),
+            Line::Limit { .. } => refuse_if!(self.header.latest > 2, Rule::OUT_OF_ORDER),
+            Line::Fs { .. } => refuse_if!(self.header.latest > 3, Rule::OUT_OF_ORDER),
+            Line::Dir { path, label, .. } => return self.check_object(path, label, 0, steps),
             Line::File {
                 path,
                 label,
                 bytes,
                 ..
-            } => self.check_object(path, label, bytes.len(), steps),
-            _ => {
-                refuse_if!(self.is_one_too_many(line), Rule::TOO_MANY);
-                refuse_if!(self.lacks_policy(line), Rule::NO_POLICY);
-                Ok(())
-            }
+            } => return self.check_object(path, label, bytes.len(), steps),
+            _ => {}
         }
+        refuse_if!(self.is_one_too_many(line), Rule::TOO_MANY);
+        refuse_if!(self.lacks_policy(line), Rule::NO_POLICY);
+        Ok(())
     }
 
     /// A line that isn't cut into words: the first, a skipped one or the policy; `Err` with the least rule, from 4 on, that it breaks.
