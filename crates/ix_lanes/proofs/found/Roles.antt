@@ -1,7 +1,7 @@
 -- What follows of a line from what it is for.
 use Rattle.std.proofs.Common.{◌≡◌, ℕ, ◌<◌, true, false, true≢false, List, [], length, Option, Some, None, refl, sym, slice_get}
 use Rattle.std.proofs.lemmas.Option.{get_or_from_slice_get, slice_get-get_or}
-use Rattle.ix_script.specs.{declared.line.Line.Line, lines.{Before.{new_fds, new_procs, proc_name_told, is_phase}, Roles.role_of}}
+use Rattle.ix_script.specs.{declared.{line.Line.Line, role.Role.Role}, lines.{Before.{new_fds, new_procs, proc_name_told, is_phase}, Roles.role_of}}
 use Rattle.ix_script.specs.scripts.Schedule.{begins_part, seat_after, seat_begun}
 use Rattle.ix_script.specs.declared.line.Line.TheVariants as line
 use Rattle.ix_script.specs.declared.role.Role.TheVariants as role
@@ -33,6 +33,12 @@ begins-role line.Phase = refl
 begins-role (line.Lane name) = refl
 begins-role _ = refl
 
+-- what begins none is for neither
+pub begins-not : (r : Role) → (r ≡ role.Phase → ⊥) → (r ≡ role.Lane → ⊥) → role_begins r ≡ false
+begins-not role.Phase no_phase no_lane = absurd (no_phase refl)
+begins-not role.Lane no_phase no_lane = absurd (no_lane refl)
+begins-not _ no_phase no_lane = refl
+
 -- ---- seats
 -- a phase begins in no lane
 pub seat-begun : (lanes : List (List ℕ)) (at : Option ℕ) (l : Line) → role_of l ≡ role.Phase → seat_after lanes at l ≡ None
@@ -58,6 +64,13 @@ pub seat-named : (lanes : List (List ℕ)) (at : Option ℕ) (l : Line) → role
 unfolding role_of
 seat-named lanes at (line.Lane name) is = refl
 seat-named lanes at _ is = cc
+
+-- the lane of a line that begins a part is the one that it begins, if any
+pub seat-told : (lanes : List (List ℕ)) (at : Option ℕ) (l : Line) → role_begins (role_of l) ≡ true → seat_begun lanes (Some l) ≡ seat_after lanes at l
+unfolding role_of
+seat-told lanes at line.Phase begins = refl
+seat-told lanes at (line.Lane name) begins = refl
+seat-told lanes at _ begins = absurd (true≢false (sym begins))
 
 -- ---- names
 -- a line that doesn't stand in the header names no process of it

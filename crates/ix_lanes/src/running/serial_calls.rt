@@ -44,19 +44,18 @@ fn all_places(alloc: Global, script: &Script<'_>) -> Result<Vec<Places>, NoMemor
     ensures names { IfOk result (λ places. map standing places.items ≡ first_names script.now) }
 {
     let mut all = empty_places(alloc, script.lanes())?;
-    let mut here = Place {
-        at: 0,
-        seat: None,
-        line: None,
-    };
-    while here.at < script.len() {
-        let role = role_at(script, here.at);
-        if matches!(role, Role::Naming | Role::Server) {
-            if let Some(seat) = here.seat {
-                all[seat as usize].add(&line_at(script, here.at))?;
+    // the number of the line that begins the part of a phase in which the next line stands, and 0 before the first
+    let mut begun = 0;
+    for index in 0..script.len() {
+        match role_at(script, index) {
+            Role::Phase | Role::Lane => begun = index + 1,
+            Role::Naming | Role::Server => {
+                if let Some(seat) = script.seat(begun) {
+                    all[seat as usize].add(&line_at(script, index))?;
+                }
             }
+            _ => {}
         }
-        here.pass(script, role);
     }
     Ok(all)
 }
