@@ -1,5 +1,5 @@
 -- A command that gives no name and is no server's tells nothing but that it is one.
-use Rattle.std.proofs.Common.{◌≡◌, ◌⊎◌, inl, inr, true≢false, ℕ, ◌+◌, ◌≤◌, nat_le, nat_lt, Bool, true, false, ◌||◌, cond, List, [], ◌∷◌, ◌++◌, length, max, Option, Some, None, option_map, Result}
+use Rattle.std.proofs.Common.{◌≡◌, ◌⊎◌, inl, inr, true≢false, ℕ, ◌+◌, ◌≤◌, nat_le, nat_lt, Bool, true, false, ◌||◌, cond, List, [], ◌∷◌, ◌++◌, length, Option, Some, None, option_map, Result}
 use Rattle.std.{proofs.{Common.{Ok, Err, refl, sym, ap, ◌∙◌, subst, arith}, lemmas.{Bool.{le-leb, lt-leb, ltb-true}, List.append-nil, Option.same_Some}}, specs.{List.{fold, list_all, list_any}, Option.{IsSome, is_none}, Result.OnOk}}
 use mir.Val.{bool_byte}
 use Rattle.ix_text.{specs.{Bytes.is_empty, Names.is_script_name}, proofs.Tests.bool_cases}

@@ -1,4 +1,4 @@
-use Rattle.std.proofs.Common.{◌≡◌, List, [], ◌∷◌, ◌++◌, None, refl, sym, ap, ◌∙◌, arith}
+use Rattle.std.proofs.Common.{◌≡◌, List, None, refl, sym, ap, ◌∙◌, arith}
 use Rattle.ix_script.specs.{lines.{Before.form_told, Faults.{said_fault, line_fault}, Said.line_of}, scripts.Packed.{line_in, with_line}, reader.Readers.LineRight}
 use Rattle.ix_script.specs.declared.line.Line.{Line}
 use Rattle.ix_script.proofs.reader.{Commands.{quiet, too_many, few_enough, later_form, begun_lane, header_quiet, body_quiet}, Packing.right_line}

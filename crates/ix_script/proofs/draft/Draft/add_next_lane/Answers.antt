@@ -1,4 +1,4 @@
-use Rattle.std.proofs.Common.{◌≡◌, ℕ, ◌∷◌, ◌++◌, [], List, Some, refl, sym, ap, ◌∙◌, drop}
+use Rattle.std.proofs.Common.{◌≡◌, ℕ, List, Some, refl, sym, ap, ◌∙◌, drop}
 use Rattle.ix_script.specs.{lines.{Before.{form_told, lanes_after}, Faults.line_fault, Roles.role_of, Said.line_of}, reader.Readers.LineRight}
 use Rattle.ix_script.specs.{scripts.{Need.cost_of_line, Packed.{line_in, with_line}}, declared.{draft.Draft.Draft, line.Line.Line}}
 use Rattle.ix_script.specs.declared.line.Line.TheVariants as line

@@ -1,4 +1,4 @@
-use Rattle.std.proofs.Common.{◌≡◌, List}
+use Rattle.std.proofs.Common.{List}
 use Rattle.ix_script.specs.{declared.line.Line.Line, reader.Readers.LineRight}
 use Rattle.ix_script.specs.lines.{Before.form_told, Faults.line_fault, Said.line_of}
 use Rattle.ix_script.proofs.lines.Deciding.{whole_fault}
