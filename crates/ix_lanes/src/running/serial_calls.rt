@@ -44,7 +44,7 @@ fn all_places(alloc: Global, script: &Script<'_>) -> Result<Vec<Places>, NoMemor
     ensures names { IfOk result (λ places. map standing places.items ≡ first_names script.now) }
 {
     let mut all = empty_places(alloc, script.lanes())?;
-    // the number of the line that begins the part of a phase in which the next line stands, and 0 before the first
+    // The number of the line that begins the part in which the next line stands; 0 before the first.
     let mut begun = 0;
     for index in 0..script.len() {
         match role_at(script, index) {
