@@ -6,10 +6,10 @@ use ix_core::Core;
 use ix_gate::Machine;
 use ix_model::{Answer, Buf, Call, Config, Kept, Pid};
 
-/// A core, whose history the gate keeps in one line.
+/// A core, whose history the gate keeps in one line. It lies on the heap: who takes a turn takes its address alone.
 #[derive(Drop)]
 pub struct Held {
-    pub(crate) core: Core,
+    pub(crate) core: Box<Core>,
 }
 
 impl Machine for Held {
@@ -19,9 +19,9 @@ impl Machine for Held {
 
     ghost use Rattle.ix_kernel.specs.Seen.{seat_of};
 
-    ghost base = { λ h. h.core.config };
+    ghost base = { λ h. h.core.value.config };
 
-    ghost history = { λ h. h.core.events };
+    ghost history = { λ h. h.core.value.events };
 
     ghost seat = { seat_of };
 }
@@ -36,7 +36,7 @@ impl Held {
         call: &Call<'_>,
         buf: &mut Buf,
     ) -> Answer
-        ensures { StepsAs result self.old.core self.new.core (entry seat line pid (op_of call.now)) buf.old buf.new }
+        ensures { StepsAs result self.old.core.value self.new.core.value (entry seat line pid (op_of call.now)) buf.old buf.new }
     {
         self.core.call(seat, line, pid, call, buf)
     }

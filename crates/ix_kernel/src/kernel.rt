@@ -38,6 +38,7 @@ impl Kernel {
         ensures seats { IfOk result (λ r. (k : ℕ) → k < seats
             → slice_get r.1.items k ≡ Some (new_seat r.0.id seats (Some core.config) k)) }
     {
+        let core = Box::new(alloc, core)?;
         let (gate, seats) = Gate::new(alloc, Held { core }, seats)?;
         let mut all = Vec::with_capacity(alloc, seats.len())?;
         for seat in seats {
@@ -58,6 +59,6 @@ impl Kernel {
         let Kernel { gate } = self;
         let KSeat { seat } = seat;
         let Held { core } = gate.close(seat);
-        core
+        Box::into_inner(core)
     }
 }

@@ -6,16 +6,16 @@ use Rattle.ix_kernel.proofs.seat.KSeat.call.Goals as goal
 
 pub give-requires-clause-history : goal.give-requires-clause-history
 give-requires-clause-history g c κs = (
-  c.take-held.result.core.events,
+  c.take-held.result.core.value.events,
   ap (λ (k : KSeatState). k.taken) c.take-held.ensures.seat,
-  subst (λ (n : ℕ). Grows seat_of n c.take-held.result.core.events c.step-answer.new.self.core.events) c.number-number.ensures.number (step_grows _ _ _ _ _ _ c.step-answer.ensures.step),
+  subst (λ (n : ℕ). Grows seat_of n c.take-held.result.core.value.events c.step-answer.new.self.core.value.events) c.number-number.ensures.number (step_grows _ _ _ _ _ _ c.step-answer.ensures.step),
 )
 
 pub returns : goal.returns
 returns g c =
     let number : c.number-number.result ≡ c.args.self.now.number = c.number-number.ensures.number ∙ ap (λ (k : KSeatState). k.number) c.take-held.ensures.seat
     ∙ ap (λ (k : KSeatState). k.number) c.self.view_is in
-    let turned : Turned c.args.self.now c.self.inside.seat c.take-held.new.self c.give.new.self c.take-held.result.core c.step-answer.new.self.core
+    let turned : Turned c.args.self.now c.self.inside.seat c.take-held.new.self c.give.new.self c.take-held.result.core.value c.step-answer.new.self.core.value
     c.step-answer.result (entry c.number-number.result c.args.line c.args.pid (op_of c.args.call.now)) c.args.buf.now c.step-answer.new.buf = record {
       same = c.self.view_is;
       mine = number;

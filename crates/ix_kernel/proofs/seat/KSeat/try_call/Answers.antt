@@ -6,9 +6,9 @@ use Rattle.ix_kernel.proofs.seat.KSeat.try_call.Goals as goal
 
 pub give-requires-clause-history : goal.give-requires-clause-history
 give-requires-clause-history c κs = (
-  c.in_ok-held.held.core.events,
+  c.in_ok-held.held.core.value.events,
   ap (λ (k : KSeatState). k.taken) c.in_ok-held.ensures.seat,
-  subst (λ (n : ℕ). Grows seat_of n c.in_ok-held.held.core.events c.step-answer.new.self.core.events) c.number.ensures.number (step_grows _ _ _ _ _ _ c.step-answer.ensures.step),
+  subst (λ (n : ℕ). Grows seat_of n c.in_ok-held.held.core.value.events c.step-answer.new.self.core.value.events) c.number.ensures.number (step_grows _ _ _ _ _ _ c.step-answer.ensures.step),
 )
 
 pub returns : goal.returns
@@ -16,7 +16,7 @@ returns c =
     let number : c.number.result ≡ c.args.self.now.number = c.number.ensures.number ∙ ap (λ (k : KSeatState). k.number) c.in_ok-held.ensures.seat ∙ ap (λ (k : KSeatState). k.number) c.self.view_is in
     let looked : c.try_take.new.self.looks ≡ c.self.inside.seat.looks + 2 = ap (λ (k : KSeatState). k.looks) c.in_ok-held.ensures.seat in
     let looks : c.give.new.self.looks ≡ c.args.self.now.looks + 2 = ap (λ (k : KSeatState). k.looks) c.give.ensures ∙ looked ∙ ap (λ (k : KSeatState). k.looks + 2) c.self.view_is in
-    let turned : Turned c.args.self.now c.self.inside.seat c.try_take.new.self c.give.new.self c.in_ok-held.held.core c.step-answer.new.self.core
+    let turned : Turned c.args.self.now c.self.inside.seat c.try_take.new.self c.give.new.self c.in_ok-held.held.core.value c.step-answer.new.self.core.value
     c.step-answer.result (entry c.number.result c.args.line c.args.pid (op_of c.args.call.now)) c.args.buf.now c.step-answer.new.buf = record {
       same = c.self.view_is;
       mine = number;
@@ -27,7 +27,7 @@ returns c =
       free = c.self.invariant;
       looks = omega (arith, looked);
       served = c.in_ok-held.ensures.served;
-      took = c.in_ok-held.ensures.seat ∙ ap (λ n. after_take c.self.inside.seat c.in_ok-held.held.core.events n c.try_take.new.self.look_found) (sym looked);
+      took = c.in_ok-held.ensures.seat ∙ ap (λ n. after_take c.self.inside.seat c.in_ok-held.held.core.value.events n c.try_take.new.self.look_found) (sym looked);
       back = c.give.ensures;
       did = c.step-answer.ensures;
     } in
