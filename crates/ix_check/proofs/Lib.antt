@@ -1,4 +1,5 @@
 pub mod LaneCalls
+pub mod LaneCount
 pub mod Printed
 pub mod Judged
 pub mod LaneTold

@@ -1,11 +1,10 @@
-use Rattle.std.proofs.{Common.{◌≡◌, [], ◌∷◌, ◌++◌, length, ◌∙◌, sym, ap, subst, arith, rules, length-append}, lemmas.Option.slice_get_within}
-use Rattle.ix_lanes.proofs.found.{Indexed.none_mapped, LaneCount.{at_end, lanes_few}}
-use Rattle.ix_check.{specs.Stepping.first_at, proofs.FirstLanes.{AreOf, are_first, is_first, one_more}}
+use Rattle.std.proofs.{Common.{◌≡◌, [], ◌∷◌, ◌++◌, length, option_map, ◌∙◌, sym, ap, subst, arith, rules, length-append}, lemmas.Option.slice_get_within}
+use Rattle.ix_check.{specs.Stepping.first_at, proofs.{FirstLanes.{AreOf, are_first, is_first, one_more}, LaneCount.{at_end, lanes_few}}}
 use Rattle.ix_check.proofs.lane.first_lanes.Goals as goal
 
 pub returns-in_default : goal.returns-in_default
 returns-in_default c =
-    are_first _ _ _ (c.loop-seat.invariant.count ∙ (at_end _ _ (sym c.lane.ensures ∙ none_mapped _ _ c.in_default.is) c.loop-seat.invariant.within)) c.loop-seat.invariant.each
+    are_first _ _ _ (c.loop-seat.invariant.count ∙ (at_end _ _ (sym c.lane.ensures ∙ ap (option_map _) c.in_default.is) c.loop-seat.invariant.within)) c.loop-seat.invariant.each
 
 pub whole-requires-clause-lane : goal.whole-requires-clause-lane
 whole-requires-clause-lane c = slice_get_within _ c.loop-seat.seat _ (sym c.in-Some.ensures)

@@ -1,7 +1,6 @@
-use Rattle.std.proofs.Common.{sym, ◌∙◌, arith}
+use Rattle.std.proofs.Common.{option_map, sym, ap, ◌∙◌, arith}
 use Rattle.ix_script.specs.lines.Before.{lanes_of}
-use Rattle.ix_lanes.proofs.found.{Indexed.none_mapped, LaneCount.lanes_few}
-use Rattle.ix_check.proofs.LaneTold.{lane_here, lane_later, lane_none, lane_past}
+use Rattle.ix_check.proofs.{LaneCount.lanes_few, LaneTold.{lane_here, lane_later, lane_none, lane_past}}
 use Rattle.ix_check.proofs.told.seat_named.Goals as goal
 
 pub returns-then-names_lane : goal.returns-then-names_lane
@@ -21,4 +20,4 @@ returns c =
 
 pub returns-in_default : goal.returns-in_default
 returns-in_default c =
-    lane_past c.args.text.now (lanes_of c.args.script.now) _ c.loop-seat.seat (sym c.lane.ensures ∙ none_mapped _ _ c.in_default.is) c.loop-seat.invariant
+    lane_past c.args.text.now (lanes_of c.args.script.now) _ c.loop-seat.seat (sym c.lane.ensures ∙ ap (option_map _) c.in_default.is) c.loop-seat.invariant
