@@ -1,20 +1,23 @@
 //! The top call of the program that runs the lanes of a phase side by side.
-ghost use Rattle.std.specs.Prelude.{◌≡◌, ◌<◌, ◌⊎◌, true, is_none, length, IfOk, IfSome};
+ghost use Rattle.std.{specs.Prelude.{◌≡◌, ◌<◌, ◌⊎◌, true, is_none, length, IfOk, IfSome}, proofs.Common.{option_map}};
 ghost use Rattle.ix_io.specs.Streams.{Rose};
-ghost use Rattle.ix_lanes.specs.histories.History.{IsHistory};
+ghost use Rattle.ix_lanes.specs.{asking.Ruled.{rules_told}, histories.History.{IsHistory}};
 ghost use Rattle.ix_host.specs.{Noninterference.{TakesNoninterferentReport}, command.Command.{lanes_command_of, lanes_usage_line, only_run}};
-ghost use Rattle.ix_host.specs.run.{Inputs.{script_in, script_max}, Whole.{TakesFew}};
-ghost use Rattle.ix_host.specs.run.Run.{FitsCommand, ExistsHistory, IsAnswer, ReadsOut, WritesFor, WritesLine, called_for, wanted_with};
+ghost use Rattle.ix_host.specs.run.{Inputs.{script_in, script_max}, Tasks.{text_told}, Whole.{TakesFew}};
+ghost use Rattle.ix_host.specs.run.Outcome as outcome;
+ghost use Rattle.ix_host.specs.run.Run.{Ends, FitsCommand, ExistsHistory, IsAnswer, ReadsOut, WritesFor, WritesLine, called_for, wanted_with};
 
 use crate::arguments::command::Command;
 use crate::arguments::words::Words;
-use crate::concluding::conclude;
+use crate::concluding::{conclude, tell_serial};
 use crate::preparing::prepare;
 use crate::status::Status;
-use crate::task::Task;
+use crate::task::{Task, Telling};
 use ix_io::{Sink, Source};
 use ix_model::NoMemory;
 use ix_parallel::{Watch, run_history};
+use ix_policy::Policy;
+use ix_script::Script;
 use std::alloc::Global;
 use std::sync::Wait;
 use std::thread::Threads;
@@ -35,6 +38,30 @@ fn lanes_command(alloc: Global, words: &Words) -> Result<Option<Command>, NoMemo
     ensures { IfOk result (λ asked. asked ≡ lanes_command_of words.now) }
 {
     Ok(only_run(words.command(alloc)?))
+}
+
+/// Runs the lanes of a script, and tells what is to be told of the history to which they come. One lane alone has nothing to run beside:
+/// its history is the serial one, which is told while it is made.
+fn tell_lanes<K: Sink, W: Watch, R: Threads + Wait + Sync>(
+    rt: &R,
+    alloc: Global,
+    sink: &mut K,
+    telling: Telling,
+    script: &Script<'_>,
+    policy: Option<&Policy>,
+    watch: &W,
+) -> Status
+    requires policy { option_map (λ p. p.now) policy ≡ rules_told script.now }
+    ensures { ExistsHistory (IsHistory script.now) (λ history. Ends (outcome.Whole (text_told telling script.now history)) result
+        (K.taken sink.old) (K.taken sink.new) (K.finished sink.new) (K.faults sink.old) (K.faults sink.new)) }
+{
+    if script.lanes() <= 1 {
+        return tell_serial(alloc, sink, telling, script, policy);
+    }
+    match run_history(rt, alloc, script, policy, watch) {
+        Ok(history) => conclude(alloc, sink, telling, script, &history),
+        Err(NoMemory) => Status::NoMemory,
+    }
 }
 
 /// Does what the words ask: `run` reads a script from the source, runs it, and writes the report of the history that came about to
@@ -90,10 +117,7 @@ pub fn run_lanes<S: Source, K: Sink, W: Watch, R: Threads + Wait + Sync>(
     ) {
         Task::Ended(status) => status,
         Task::Run(telling, script, policy) => {
-            match run_history(rt, alloc, &script, policy.as_ref(), watch) {
-                Ok(history) => conclude(alloc, sink, telling, &script, &history),
-                Err(NoMemory) => Status::NoMemory,
-            }
+            tell_lanes(rt, alloc, sink, telling, &script, policy.as_ref(), watch)
         }
     }
 }

@@ -1,5 +1,5 @@
 ghost use Rattle.std.{specs.Prelude.{◌≡◌, ◌++◌, ◌∷◌, ◌+◌, ◌<◌, ◌≤◌, ◌^◌, [], Some, None, length, slice_get, is_some, OnOk, IfOk, MatchOption}, proofs.Common.{option_map}};
-ghost use Rattle.ix_script.specs.{lines.Before.{form_told}, lines.Forms.{form_of}, lines.Roles.{EndsHeader, role_of}, lines.Said.{line_of}};
+ghost use Rattle.ix_script.specs.{lines.Before.{form_told}, lines.Forms.{form_of}, lines.Roles.{IsHeaderEnd, role_of}, lines.Said.{line_of}};
 ghost use Rattle.ix_script.specs.{scripts.Canonical.{has_one_spelling}, scripts.Need.{cost_of_line, need}, scripts.Packed.{IsLine, IsNext, begin_at, front_of, line_in, with_line}};
 
 use crate::form::form_of;
@@ -33,7 +33,7 @@ pub(crate) struct Lines<'a> {
 
 impl<'a> Model for Lines<'a> {
     ghost use Rattle.std.specs.{Prelude.{◌≡◌, ◌≤◌, length}, Coded.{codes}};
-    ghost use Rattle.ix_script.specs.{lines.Roles.{EndsHeader}, scripts.Packed.{AreMarked, FrontOf, begin_at, held}};
+    ghost use Rattle.ix_script.specs.{lines.Roles.{IsHeaderEnd}, scripts.Packed.{AreMarked, FrontOf, begin_at, held}};
     ghost use Rattle.ix_label.specs.contracts.label.Label as label_type;
 
     ghost Value = { FrontOf };
@@ -43,7 +43,7 @@ impl<'a> Model for Lines<'a> {
     ghost view = { λ l. record { text = l.text.now; said = held l.form 0 l.text.now l.ends.items; at = l.at } };
 
     ghost invariant = { λ l. AreMarked l.form l.text.now l.ends.items l.roles.items l.need × (l.at ≡ begin_at 0 l.ends.items (length l.ends.items))
-        × (length l.text.now ≤ 16777216) × EndsHeader l.header (held l.form 0 l.text.now l.ends.items) };
+        × (length l.text.now ≤ 16777216) × IsHeaderEnd l.header (held l.form 0 l.text.now l.ends.items) };
 }
 
 /// What a text says that breaks no rule. Each way out returns, as in `line_said`.
@@ -176,10 +176,9 @@ impl<'a> Lines<'a> {
 
     /// The index behind the last line of the header.
     pub fn header_end(&self) -> usize
-        ensures ends { EndsHeader result self.now.said }
-        ensures within { result ≤ length self.now.said }
+        ensures { IsHeaderEnd result self.now.said }
     {
-        self.header.min(self.len())
+        self.header
     }
 
     pub fn need(&self) -> u64

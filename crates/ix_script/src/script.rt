@@ -1,5 +1,5 @@
 ghost use Rattle.std.{specs.Prelude.{◌≡◌, ◌≤◌, ◌-◌, ◌==◌, length, slice_get, true, None, if◌then◌else◌, IfOk, IsTrue}, proofs.Common.{option_map}};
-ghost use Rattle.ix_script.specs.{lines.Before.{form_told, lanes_of, commands}, lines.Roles.{EndsHeader, role_of}, scripts.Need.{need}};
+ghost use Rattle.ix_script.specs.{lines.Before.{form_told, lanes_of, commands}, lines.Roles.{IsHeaderEnd, role_of}, scripts.Need.{need}};
 ghost use Rattle.{ix_script.specs.{scripts.Schedule.{LanesOnce, phases, seat_begun, stretches_of}, scripts.Scripts.{config_of, policy_of}}, ix_model.specs.opening.Valid.{is_valid}};
 
 use crate::line::Line;
@@ -139,8 +139,7 @@ impl<'a> Script<'a> {
 
     /// The index behind the last line of the header.
     pub fn header_end(&self) -> u32
-        ensures ends { EndsHeader result self.now }
-        ensures within { result ≤ length self.now }
+        ensures { IsHeaderEnd result self.now }
     {
         self.lines.header_end() as u32
     }

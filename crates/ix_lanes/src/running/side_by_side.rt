@@ -7,10 +7,14 @@ use crate::running::lane_run::LaneRun;
 use ix_model::{Answer, Sys};
 use std::thread::{Threads, join_mut};
 
-/// How many threads run the lanes of a phase at most. More lanes share them.
-const MOST_THREADS: u32 = 8;
+/// How many threads the lanes of a phase share. Their calls take turns, so that of two threads one gets on with its line while the other's
+/// call is made; a third would wait for longer than a turn.
+const THREADS: u32 = 2;
 
-/// How many lines a thread that lanes share is worth at least: to start one takes about as long as their calls.
+/// Up to so many lanes run side by side however few lines they have.
+const FEW_LANES: u32 = 8;
+
+/// How many lines of more lanes a thread is worth: to start one takes about as long as their calls.
 const WORTH_LINES: u32 = 128;
 
 /// A run of a lane, and what makes its calls.
@@ -80,18 +84,16 @@ fn threads_for<T: Runner>(runners: &[T], phase: u32) -> u32
     for runner in runners {
         lines = lines.saturating_add(runner.lines_ahead(phase));
     }
-    (lines / WORTH_LINES).min(MOST_THREADS).max(1)
+    (lines / WORTH_LINES).min(THREADS).max(1)
 }
 
-/// How many lanes share a thread at least: one each, up to the greatest number of threads. More lanes share as many as their lines are
-/// worth.
+/// How many of the lanes that have a line in a phase share a thread at least.
 fn share_of<T: Runner>(runners: &[T], phase: u32) -> u32 {
     let parts = parts_in(runners, phase);
-    if parts <= MOST_THREADS {
-        return 1;
+    if parts <= FEW_LANES {
+        return parts / THREADS;
     }
-    let threads = threads_for(runners, phase);
-    parts.saturating_add(threads - 1) / threads
+    parts / threads_for(runners, phase)
 }
 
 /// Runs a phase of each, in threads that so many share at least, where they can be started.
@@ -152,8 +154,8 @@ fn run_both<T: Runner + Send, R: Threads + Sync>(
 
 /// Runs the next phase of each lane, up to an index, side by side where threads can be started. `None`: each lane's lines are all done. Else it is
 /// the stop of the first lane in the list that has one. Each lane is left as `LaneRun::phase` leaves it. It takes no memory. No thread is
-/// started for a lane that has no line in the phase. Up to eight lanes that have some run in a thread each; of more, so many
-/// share one, one after the other, that there are at most eight threads, and none that isn't worth its start.
+/// started for a lane that has no line in the phase. The lanes that have some share two threads, and where they are three have one each; those
+/// that share a thread run one after the other. Where more than eight have few lines, none is started.
 pub fn run_phase<'a, S: Sys + Send, R: Threads + Sync>(
     rt: &R,
     lanes: &mut [Lane<'a, S>],
@@ -163,6 +165,6 @@ pub fn run_phase<'a, S: Sys + Send, R: Threads + Sync>(
     requires { All (IsReady S.seat S.made phase end) lanes.old }
     ensures { AllRun (RunsPhase S.seat S.made S.stops S.stopped S.follows) lanes.old lanes.new result }
 {
-    let share = share_of(lanes, phase);
+    let share = share_of(lanes, phase).max(1);
     run_all(rt, lanes, phase, end, share)
 }

@@ -1,9 +1,9 @@
 -- A plan of more and more lines.
-use Rattle.std.proofs.{Common.{◌≡◌, ℕ, zero, suc, ◌+◌, ◌-◌, ◌<◌, ◌≤◌, false, arith, drop, List, [], ◌∷◌, ◌++◌, length, take, get_or, Option, Some, None, refl, sym, ap, ◌∙◌, subst, add-one, inl, inr}, Math.Seq.take-suc}
+use Rattle.std.proofs.{Common.{◌≡◌, ℕ, zero, suc, ◌+◌, ◌-◌, ◌<◌, ◌≤◌, false, true, arith, drop, List, [], ◌∷◌, ◌++◌, length, take, get_or, Option, Some, None, refl, sym, ap, ◌∙◌, subst, add-one, inl, inr}, Math.Seq.{get_or-append_seam, take-suc}}
 use Rattle.std.specs.{List.{position_from, slice_get}, Option.option_map_or}
-use Rattle.std.proofs.lemmas.{Bool.{cases_Bool, cases_lt, false≢true}, List.{append-nil, drop_all, length-append, take_all}, Option.{none-some, slice_get_past, slice_get-get_or, get_or_from_slice_get}}
+use Rattle.std.proofs.lemmas.{Bool.{cases_Bool, cases_lt, false≢true}, List.{append-nil, drop_all, get_or_append_left, length-append, take_all}, Option.{none-some, slice_get_past, slice_get-get_or, get_or_from_slice_get}}
 use Rattle.ix_model.specs.declared.config.Limits.{Limits}
-use Rattle.ix_script.specs.lines.{Before.{fs_told, limits_after, proc_told, object_told, is_policy}, Roles.{EndsHeader, role_of, in_header, is_header, header_only}}
+use Rattle.ix_script.specs.lines.{Before.{fs_told, limits_after, proc_told, object_told, is_policy}, Roles.{EndsHeader, IsHeaderEnd, role_of, in_header, is_header, header_only}}
 use Rattle.ix_script.{specs.{scripts.Held.IsPlan, declared.{plan.Plan.Plan, line.Line.Line, role.Role.Role}}, proofs.reader.{Pushed.{fss_push, limits_push, procs_push, objects_push}, Walking.policy_later}}
 use Rattle.ix_script.specs.declared.line.Line.TheVariants as line
 use Rattle.ix_script.specs.declared.role.Role.TheVariants as role
@@ -42,14 +42,27 @@ pub other_role : (r : Role) → (r ≡ role.Header → ⊥) → is_header r ≡ 
 other_role role.Header none = absurd (none refl)
 other_role _ none = refl
 
-pub ends_same : (lines : List Line) (x : Line) (n : ℕ) → in_header x ≡ false → EndsHeader n lines → EndsHeader n (lines ++ x ∷ [])
+ends_same : (lines : List Line) (x : Line) (n : ℕ) → in_header x ≡ false → EndsHeader n lines → EndsHeader n (lines ++ x ∷ [])
 ends_same [] x n none ends zero low = rw none refl
 ends_same [] x n none ends (suc i) low = refl
 ends_same (y ∷ lines) x n none ends zero low = ends zero low
 ends_same (y ∷ lines) x n none ends (suc i) low = ends_same lines x (n - 1) none (λ j less. ends (suc j) (omega (arith, less))) i (omega (arith, low))
 
-pub ends_behind : (lines : List Line) (x : Line) → EndsHeader (length lines + 1) (lines ++ x ∷ [])
-ends_behind lines x i low = ap header_only (slice_get_past _ i (omega (arith, low, length-append lines (x ∷ []))))
+-- behind another line it ends where it ended
+pub end_same : (lines : List Line) (x : Line) (n : ℕ) → in_header x ≡ false → IsHeaderEnd n lines → IsHeaderEnd n (lines ++ x ∷ [])
+end_same lines x n none was = record {
+  within = omega (arith, was.within, length-append lines (x ∷ []));
+  ends = ends_same lines x n none was.ends;
+  last = λ some. ap in_header (get_or_append_left lines _ _ _ (omega (arith, some, was.within))) ∙ was.last some;
+}
+
+-- and behind one of the header there
+pub end_more : (lines : List Line) (x : Line) → in_header x ≡ true → IsHeaderEnd (length lines + 1) (lines ++ x ∷ [])
+end_more lines x is = record {
+  within = omega (arith, length-append lines (x ∷ []));
+  ends = λ i low. ap header_only (slice_get_past _ i (omega (arith, low, length-append lines (x ∷ []))));
+  last = λ some. ap in_header (get_or-append_seam lines x [] line.Skipped) ∙ is;
+}
 
 -- ---- line after line
 here : (lines : List Line) (i : ℕ) (x : Line) → i < length lines → slice_get lines i ≡ Some x → take (i + 1) lines ≡ take i lines ++ x ∷ []

@@ -1,5 +1,5 @@
 -- What lines are for.
-use Rattle.std.specs.Prelude.{◌≡◌, ◌≤◌, ℕ, Bool, true, false, List, Option, Some, None, slice_get, if◌then◌else◌}
+use Rattle.std.specs.Prelude.{◌≡◌, ◌<◌, ◌≤◌, ◌-◌, ℕ, Bool, true, false, List, length, Option, Some, None, slice_get, slice_index_or, if◌then◌else◌}
 use Rattle.ix_script.specs.declared.line.Line.{Line}
 use Rattle.ix_script.specs.declared.line.Line.TheVariants as line
 use Rattle.ix_script.specs.declared.role.Role.{Role}
@@ -43,3 +43,9 @@ header_only (Some l) = if in_header l then Some l else None
 -- no line at that index or behind it stands in the header
 abbrev pub EndsHeader : ℕ → List Line → Type 0
 EndsHeader n lines = (i : ℕ) → n ≤ i → header_only (slice_get lines i) ≡ None
+
+-- It is the index behind the last line of the header, and 0 where there is none.
+pub record IsHeaderEnd (n : ℕ) (lines : List Line) : Type 0 where
+  pub within : n ≤ length lines
+  pub ends : EndsHeader n lines
+  pub last : 0 < n → in_header (slice_index_or lines (n - 1) line.Skipped) ≡ true

@@ -1,7 +1,7 @@
 use Rattle.std.proofs.Common.{◌≡◌, ℕ, ◌+◌, ◌++◌, ◌∷◌, [], List, length, refl, sym, ap, ◌∙◌, subst, arith}
 use Rattle.ix_label.specs.declared.form.Form.{Form}
-use Rattle.ix_script.specs.{lines.{Before.form_told, Roles.{EndsHeader, is_header, role_of}}, scripts.Packed.{FrontOf, IsNext, held, line_in}, declared.line.Line.Line}
-use Rattle.ix_script.proofs.reader.{Planning.{ends_behind, ends_same, other_role}, Packing.{begin_after, lines_after, held_after, length-held}, Summing.{costs_little, need_little, summed_after}}
+use Rattle.ix_script.specs.{lines.{Before.form_told, Roles.{IsHeaderEnd, is_header, role_of}}, scripts.Packed.{FrontOf, IsNext, held, line_in}, declared.line.Line.Line}
+use Rattle.ix_script.proofs.reader.{Planning.{end_more, end_same, other_role}, Packing.{begin_after, lines_after, held_after, length-held}, Summing.{costs_little, need_little, summed_after}}
 use Rattle.ix_script.proofs.packed.Lines.push.Goals.{in-Header, in_default}
 use Rattle.ix_script.proofs.packed.Lines.push.Goals as goal
 
@@ -53,9 +53,9 @@ invariant_of-self-2 c =
             c.self.invariant.1 refl next c.self.invariant.0.2 is c.self.invariant.0.0,
       ),
       c.self.invariant.2,
-      subst (EndsHeader c.match-role.header) (sym more) (elim c.match-role.branch [
-        | in-Header w ↦ rw (w.header-is, w.len.ensures, ap (λ (f : FrontOf). length f.said) (sym c.self.view_is)) (ends_behind _ line)
-        | in_default w ↦ rw w.header-is (ends_same _ line _ (ap is_header c.requires.role ∙ other_role _ w.in_default.not-Header) c.self.invariant.3)
+      subst (IsHeaderEnd c.match-role.header) (sym more) (elim c.match-role.branch [
+        | in-Header w ↦ rw (w.header-is, w.len.ensures, ap (λ (f : FrontOf). length f.said) (sym c.self.view_is)) (end_more _ line (ap is_header (c.requires.role ∙ w.in-Header.is)))
+        | in_default w ↦ rw w.header-is (end_same _ line _ (ap is_header c.requires.role ∙ other_role _ w.in_default.not-Header) c.self.invariant.3)
       ]),
     )
 
