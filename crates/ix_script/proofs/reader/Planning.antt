@@ -61,7 +61,7 @@ pub end_more : (lines : List Line) (x : Line) → in_header x ≡ true → IsHea
 end_more lines x is = record {
   within = omega (arith, length-append lines (x ∷ []));
   ends = λ i low. ap header_only (slice_get_past _ i (omega (arith, low, length-append lines (x ∷ []))));
-  last = λ some. ap in_header (get_or-append_seam lines x [] line.Skipped) ∙ is;
+  last = λ some. ap (λ k. in_header (get_or (lines ++ x ∷ []) k line.Skipped)) (omega arith) ∙ ap in_header (get_or-append_seam lines x [] line.Skipped) ∙ is;
 }
 
 -- ---- line after line
