@@ -287,111 +287,56 @@ there : {A : Type 0} (o : Option A) → IsSome o → (x : A) × (o ≡ Some x)
 there None h = cc
 there (Some x) h = (x, refl)
 
-both_there : {A B : Type 0} {a : Option A} {b : Option B} {x : A} {y : B} → a ≡ Some x → b ≡ Some y → both a b ≡ Some (x, y)
-both_there h k = λ i. both (h i) (k i)
+module _ {labels : spelled.Form} {f : Form} {words : List (List ℕ)} {cost : ℕ} where
+  -- a command of so many values that stand there
+  of_one : {A : Type 0} {a : Option A} (make : A → Line) → IsSome a → said labels f words ≡ option_map make a
+      → ((x : A) → a ≡ Some x → (role_of (make x) ≡ role.Command) × (cost_of_line (make x) ≡ cost)) → CommandSaid labels f words cost
+  of_one make some is tells = let x = there _ some in let k = tells x.0 x.1 in record { line = make x.0; says = is ∙ ap (option_map make) x.1; is_command = k.0; costs = k.1 }
 
--- of values that are there
-of_one : {A : Type 0} (f : A → ℕ) {o : Option A} {x : A} {cost : ℕ} → o ≡ Some x → option_map f o ≡ Some cost → f x ≡ cost
-of_one f e h = same_Some _ _ (sym (ap (option_map f) e) ∙ h)
+  of_two : {A B : Type 0} {a : Option A} {b : Option B} (make : A → B → Line) → IsSome a → IsSome b → said labels f words ≡ option_map (λ x. make x.0 x.1) (both a b)
+      → ((x : A) (y : B) → a ≡ Some x → b ≡ Some y → (role_of (make x y) ≡ role.Command) × (cost_of_line (make x y) ≡ cost)) → CommandSaid labels f words cost
+  of_two make some more is tells =
+      let x = there _ some in
+      let y = there _ more in
+      let k = tells x.0 y.0 x.1 y.1 in
+      record { line = make x.0 y.0; says = is ∙ (λ i. option_map (λ x. make x.0 x.1) (both (x.1 i) (y.1 i))); is_command = k.0; costs = k.1 }
+
+  of_three : {A B C : Type 0} {a : Option A} {b : Option B} {c : Option C} (make : A → B → C → Line) → IsSome a → IsSome b → IsSome c → said labels f words ≡ option_map (λ x. make x.0 x.1.0 x.1.1) (both a (both b c))
+      → ((x : A) (y : B) (z : C) → a ≡ Some x → b ≡ Some y → c ≡ Some z → (role_of (make x y z) ≡ role.Command) × (cost_of_line (make x y z) ≡ cost)) → CommandSaid labels f words cost
+  of_three make some more last is tells =
+      let x = there _ some in
+      let y = there _ more in
+      let z = there _ last in
+      let k = tells x.0 y.0 z.0 x.1 y.1 z.1 in
+      record { line = make x.0 y.0 z.0; says = is ∙ (λ i. option_map (λ x. make x.0 x.1.0 x.1.1) (both (x.1 i) (both (y.1 i) (z.1 i)))); is_command = k.0; costs = k.1 }
+
+-- what values that are there cost
+costing : {A : Type 0} (f : A → ℕ) {o : Option A} {x : A} {cost : ℕ} → option_map f o ≡ Some cost → o ≡ Some x → f x ≡ cost
+costing f h e = same_Some _ _ (sym (ap (option_map f) e) ∙ h)
+
+abbrev path_cost : PathOf → ℕ
+path_cost path = 128 + cost_of_path path
 
 pub command_said : (labels : spelled.Form) (f : Form) (words : List (List ℕ)) (cost : ℕ) → command_cost f words ≡ Some cost → places_fault (places labels f words) ≡ None
     → CommandSaid labels f words cost
 unfolding role_of cost_of_line
 command_said labels (form.Plain c) words cost h broken =
-    let s = stand _ broken in
-    let name = there _ s.0 in
-    let k = plain_kind c _ in
-    record { line = plain_line c name.0; says = ap (option_map (plain_line c)) name.1; is_command = k.0; costs = k.1 ∙ same_Some _ _ h }
+    of_one (plain_line c) (stand _ broken).0 refl (λ x _. let k = plain_kind c x in (k.0, k.1 ∙ same_Some _ _ h))
 command_said labels (form.Counted c) words cost h broken =
-    let s = stand _ broken in
-    let name = there _ s.0 in
-    let fd = there _ s.1.0 in
-    let number = there _ s.1.1.0 in
-    let k = counted_kind c _ _ _ in
-    let all = both_there name.1 (both_there fd.1 number.1) in
-    record { line = counted_line c name.0 fd.0 number.0; says = ap (option_map (λ x. counted_line c x.0 x.1.0 x.1.1)) all; is_command = k.0; costs = k.1 ∙ same_Some _ _ h }
-command_said labels (form.OnFd on_fd.Close) words cost h broken =
-    let s = stand _ broken in
-    let all = both_there (there _ s.0).1 (there _ s.1.0).1 in
-    record { line = line.Close (there _ s.0).0 (there _ s.1.0).0; says = ap (option_map (λ x. line.Close x.0 x.1)) all; is_command = refl; costs = same_Some _ _ h }
-command_said labels (form.OnFd on_fd.Pex) words cost h broken =
-    let s = stand _ broken in
-    let all = both_there (there _ s.0).1 (there _ s.1.0).1 in
-    record { line = line.Pex (there _ s.0).0 (there _ s.1.0).0; says = ap (option_map (λ x. line.Pex x.0 x.1)) all; is_command = refl; costs = same_Some _ _ h }
-command_said labels (form.OnFd on_fd.Unpex) words cost h broken =
-    let s = stand _ broken in
-    let all = both_there (there _ s.0).1 (there _ s.1.0).1 in
-    record { line = line.Unpex (there _ s.0).0 (there _ s.1.0).0; says = ap (option_map (λ x. line.Unpex x.0 x.1)) all; is_command = refl; costs = same_Some _ _ h }
-command_said labels form.Exit words cost h broken =
-    let s = stand _ broken in
-    let all = both_there (there _ s.0).1 (there _ s.1.0).1 in
-    record { line = line.Exit (there _ s.0).0 (there _ s.1.0).0; says = ap (option_map (λ x. line.Exit x.0 x.1)) all; is_command = refl; costs = same_Some _ _ h }
-command_said labels form.Setself words cost h broken =
-    let s = stand _ broken in
-    let all = both_there (there _ s.0).1 (there _ s.1.0).1 in
-    record { line = line.Setself (there _ s.0).0 (there _ s.1.0).0; says = ap (option_map (λ x. line.Setself x.0 x.1)) all; is_command = refl; costs = same_Some _ _ h }
-command_said labels form.Droplic words cost h broken =
-    let s = stand _ broken in
-    let all = both_there (there _ s.0).1 (there _ s.1.0).1 in
-    record { line = line.Droplic (there _ s.0).0 (there _ s.1.0).0; says = ap (option_map (λ x. line.Droplic x.0 x.1)) all; is_command = refl; costs = same_Some _ _ h }
-command_said labels form.Readlog words cost h broken =
-    let s = stand _ broken in
-    let all = both_there (there _ s.0).1 (there _ s.1.0).1 in
-    record { line = line.Readlog (there _ s.0).0 (there _ s.1.0).0; says = ap (option_map (λ x. line.Readlog x.0 x.1)) all; is_command = refl; costs = same_Some _ _ h }
-command_said labels form.Grant words cost h broken =
-    let s = stand _ broken in
-    let all = both_there (there _ s.0).1 (both_there (there _ s.1.0).1 (there _ s.1.1.0).1) in
-    record {
-      line = line.Grant (there _ s.0).0 (there _ s.1.0).0 (there _ s.1.1.0).0;
-      says = ap (option_map (λ x. line.Grant x.0 x.1.0 x.1.1)) all;
-      is_command = refl;
-      costs = same_Some _ _ h;
-    }
-command_said labels form.Ceiling words cost h broken =
-    let s = stand _ broken in
-    let all = both_there (there _ s.0).1 (both_there (there _ s.1.0).1 (there _ s.1.1.0).1) in
-    record {
-      line = line.Ceiling (there _ s.0).0 (there _ s.1.0).0 (there _ s.1.1.0).0;
-      says = ap (option_map (λ x. line.Ceiling x.0 x.1.0 x.1.1)) all;
-      is_command = refl;
-      costs = same_Some _ _ h;
-    }
+    let s = stand _ broken in of_three (counted_line c) s.0 s.1.0 s.1.1.0 refl (λ x y z _ _ _. let k = counted_kind c x y z in (k.0, k.1 ∙ same_Some _ _ h))
+command_said labels (form.OnFd on_fd.Close) words cost h broken = let s = stand _ broken in of_two line.Close s.0 s.1.0 refl (λ _ _ _ _. (refl, same_Some _ _ h))
+command_said labels (form.OnFd on_fd.Pex) words cost h broken = let s = stand _ broken in of_two line.Pex s.0 s.1.0 refl (λ _ _ _ _. (refl, same_Some _ _ h))
+command_said labels (form.OnFd on_fd.Unpex) words cost h broken = let s = stand _ broken in of_two line.Unpex s.0 s.1.0 refl (λ _ _ _ _. (refl, same_Some _ _ h))
+command_said labels form.Exit words cost h broken = let s = stand _ broken in of_two line.Exit s.0 s.1.0 refl (λ _ _ _ _. (refl, same_Some _ _ h))
+command_said labels form.Setself words cost h broken = let s = stand _ broken in of_two line.Setself s.0 s.1.0 refl (λ _ _ _ _. (refl, same_Some _ _ h))
+command_said labels form.Droplic words cost h broken = let s = stand _ broken in of_two line.Droplic s.0 s.1.0 refl (λ _ _ _ _. (refl, same_Some _ _ h))
+command_said labels form.Readlog words cost h broken = let s = stand _ broken in of_two line.Readlog s.0 s.1.0 refl (λ _ _ _ _. (refl, same_Some _ _ h))
+command_said labels form.Grant words cost h broken = let s = stand _ broken in of_three line.Grant s.0 s.1.0 s.1.1.0 refl (λ _ _ _ _ _ _. (refl, same_Some _ _ h))
+command_said labels form.Ceiling words cost h broken = let s = stand _ broken in of_three line.Ceiling s.0 s.1.0 s.1.1.0 refl (λ _ _ _ _ _ _. (refl, same_Some _ _ h))
 command_said labels (form.OnPath c) words cost h broken =
-    let s = stand _ broken in
-    let name = there _ s.0 in
-    let path = there _ s.1.0 in
-    let k = path_kind c _ _ in
-    record {
-      line = path_line c name.0 path.0;
-      says = ap (option_map (λ x. path_line c x.0 x.1)) (both_there name.1 path.1);
-      is_command = k.0;
-      costs = k.1 ∙ of_one (λ (path : PathOf). 128 + cost_of_path path) path.1 h;
-    }
-command_said labels form.List words cost h broken =
-    let s = stand _ broken in
-    let all = both_there (there _ s.0).1 (both_there (there _ s.1.0).1 (there _ s.1.1.0).1) in
-    record {
-      line = line.List (there _ s.0).0 (there _ s.1.0).0 (there _ s.1.1.0).0;
-      says = ap (option_map (λ x. line.List x.0 x.1.0 x.1.1)) all;
-      is_command = refl;
-      costs = of_one (λ (path : PathOf). 128 + cost_of_path path) (there _ s.1.0).1 h;
-    }
-command_said labels form.Setlabel words cost h broken =
-    let s = stand _ broken in
-    let all = both_there (there _ s.0).1 (both_there (there _ s.1.0).1 (there _ s.1.1.0).1) in
-    record {
-      line = line.Setlabel (there _ s.0).0 (there _ s.1.0).0 (there _ s.1.1.0).0;
-      says = ap (option_map (λ x. line.Setlabel x.0 x.1.0 x.1.1)) all;
-      is_command = refl;
-      costs = of_one (λ (path : PathOf). 128 + cost_of_path path) (there _ s.1.0).1 h;
-    }
+    let s = stand _ broken in of_two (path_line c) s.0 s.1.0 refl (λ x y _ is. let k = path_kind c x y in (k.0, k.1 ∙ costing path_cost h is))
+command_said labels form.List words cost h broken = let s = stand _ broken in of_three line.List s.0 s.1.0 s.1.1.0 refl (λ _ _ _ _ is _. (refl, costing path_cost h is))
+command_said labels form.Setlabel words cost h broken = let s = stand _ broken in of_three line.Setlabel s.0 s.1.0 s.1.1.0 refl (λ _ _ _ _ is _. (refl, costing path_cost h is))
 command_said labels form.Write words cost h broken =
-    let s = stand _ broken in
-    let all = both_there (there _ s.0).1 (both_there (there _ s.1.0).1 (there _ s.1.1.0).1) in
-    record {
-      line = line.Write (there _ s.0).0 (there _ s.1.0).0 (there _ s.1.1.0).0;
-      says = ap (option_map (λ x. line.Write x.0 x.1.0 x.1.1)) all;
-      is_command = refl;
-      costs = of_one (λ (bytes : List ℕ). 128 + length bytes) (there _ s.1.1.0).1 h;
-    }
+    let s = stand _ broken in of_three line.Write s.0 s.1.0 s.1.1.0 refl (λ _ _ _ _ _ is. (refl, costing (λ (bytes : List ℕ). 128 + length bytes) h is))
 command_said labels _ words cost h broken = cc
