@@ -234,11 +234,6 @@ body_quiet b n before l role was is =
     (λ items h. no_more b.procs items (items ++ in_lane at (new_procs l)) at (new_procs l) q.procs refl h) (rw q.command refl) in
     subst (λ (m : Body). BodyTold m (before ++ l ∷ [])) (sym is) told
 
--- the first line tells the form
-pub later_form : (before : List Line) (l : Line) → is_empty before ≡ false → form_told (before ++ l ∷ []) ≡ form_told before
-later_form [] l later = cc
-later_form (b ∷ before) l later = refl
-
 -- ---- commands, and what they cost
 pub record CommandSaid (labels : spelled.Form) (f : Form) (words : List (List ℕ)) (cost : ℕ) : Type 0 where
   pub line : Line

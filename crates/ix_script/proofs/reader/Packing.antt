@@ -78,6 +78,12 @@ right_line (b ∷ before) l text right =
     let s = is_said (form_by b) text l right.meant in
     (record { said = s.0; before = b ∷ before; told = λ some. refl; faultless = right.faultless }, s.1)
 
+-- behind other lines it is that which the text spells in their form
+pub right_later : (before : List Line) (l : Line) (text : List ℕ) {labels : spelled.Form} → is_empty before ≡ false → labels ≡ form_told before
+    → LineRight before l (line_fault before text) (line_of (form_told before) text) → IsLine labels text × (line_in labels text ≡ l)
+right_later [] l text later is right = cc
+right_later (b ∷ before) l text later is right = rw is (right_line (b ∷ before) l text right)
+
 -- ---- a line by its number
 pub length-held : (labels : spelled.Form) (from : ℕ) (text ends : List ℕ) → length (held labels from text ends) ≡ length ends
 length-held labels from text [] = refl
