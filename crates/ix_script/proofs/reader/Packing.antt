@@ -67,22 +67,22 @@ comes_next f bytes rest text is at some front =
 is_said : (labels : spelled.Form) (text : List ℕ) (l : Line) → line_of labels text ≡ Some l → (line_of labels text ≡ Some (line_in labels text)) × (line_in labels text ≡ l)
 is_said labels text l means = let is : line_in labels text ≡ l = ap (λ o. unwrap_or o line.Skipped) means in (means ∙ ap (λ x. Some x) (sym is), is)
 
-pub right_line : (before : List Line) (l : Line) (text : List ℕ) → LineRight before l (line_fault before text) (line_of (form_told before) text)
-    → IsLine (form_told (before ++ l ∷ [])) text × (line_in (form_told (before ++ l ∷ [])) text ≡ l)
-right_line [] l text right =
+pub right_line : (before : List Line) (l : Line) (text : List ℕ) {labels : spelled.Form} → labels ≡ form_told (before ++ l ∷ [])
+    → LineRight before l (line_fault before text) (line_of (form_told before) text) → IsLine labels text × (line_in labels text ≡ l)
+right_line [] l text told right =
     let v = first_version text (first_faultless text right.faultless) in
     let is : line.Version v.0 ≡ l = same_Some (line.Version v.0) l (sym (version_said One text v.0 v.1) ∙ right.meant) in
     let s = is_said (form_by l) text l (version_said (form_by l) text v.0 v.1 ∙ ap (λ x. Some x) is) in
-    (record { said = s.0; before = []; told = λ some. absurd (true≢false some); faultless = right.faultless }, s.1)
-right_line (b ∷ before) l text right =
+    rw told (record { said = s.0; before = []; told = λ some. absurd (true≢false some); faultless = right.faultless }, s.1)
+right_line (b ∷ before) l text told right =
     let s = is_said (form_by b) text l right.meant in
-    (record { said = s.0; before = b ∷ before; told = λ some. refl; faultless = right.faultless }, s.1)
+    rw told (record { said = s.0; before = b ∷ before; told = λ some. refl; faultless = right.faultless }, s.1)
 
--- behind other lines it is that which the text spells in their form
+-- behind other lines their form is told already
 pub right_later : (before : List Line) (l : Line) (text : List ℕ) {labels : spelled.Form} → is_empty before ≡ false → labels ≡ form_told before
     → LineRight before l (line_fault before text) (line_of (form_told before) text) → IsLine labels text × (line_in labels text ≡ l)
-right_later [] l text later is right = cc
-right_later (b ∷ before) l text later is right = rw is (right_line (b ∷ before) l text right)
+right_later [] l text later told right = cc
+right_later (b ∷ before) l text later told right = right_line (b ∷ before) l text told right
 
 -- ---- a line by its number
 pub length-held : (labels : spelled.Form) (from : ℕ) (text ends : List ℕ) → length (held labels from text ends) ≡ length ends
