@@ -29,30 +29,30 @@ begin_next from [] end = refl
 begin_next from (e ∷ ends) end = begin_next (suc e) ends end
 
 -- the first line tells the form, and no later one
-pub form_stays : (old new : spelled.Form) (text ends : List ℕ) (l : Line) → old ≡ form_told (held old 0 text ends) → new ≡ form_told (held old 0 text ends ++ l ∷ []) → AreLines old 0 text ends
+form_stays : (old new : spelled.Form) (text ends : List ℕ) (l : Line) → old ≡ form_told (held old 0 text ends) → new ≡ form_told (held old 0 text ends ++ l ∷ []) → AreLines old 0 text ends
     → (AreLines new 0 text ends) × (held new 0 text ends ≡ held old 0 text ends)
 form_stays old new text [] l was is h = (h, refl)
 form_stays old new text (end ∷ ends) l was is h =
     let same : old ≡ new = was ∙ sym is in
     (subst (λ f. AreLines f 0 text (end ∷ ends)) same h, ap (λ f. held f 0 text (end ∷ ends)) (sym same))
 
-module _ (old labels : spelled.Form) (l : Line) (text more ends ends2 : List ℕ) (at end : ℕ) (e : ends2 ≡ ends ++ end ∷ []) (begins : at ≡ begin_at 0 ends (length ends))
-    (n : end ≡ at + length more) (next : IsNext (record { text = text; said = held old 0 text ends; at = at }) more) (told : old ≡ form_told (held old 0 text ends))
-    (is : labels ≡ form_told (held old 0 text ends ++ l ∷ [])) (lines : AreLines old 0 text ends) where
-  stays : (AreLines labels 0 text ends) × (held labels 0 text ends ≡ held old 0 text ends)
-  stays = form_stays old labels text ends l told is lines
+-- lines that are held as these ends, of which one is more
+pub record OneMore (labels : spelled.Form) (said : List Line) (text more ends : List ℕ) (at : ℕ) : Type 0 where
+  pub lines : IsLine labels more → AreLines labels 0 text ends
+  pub held_is : held labels 0 text ends ≡ said ++ line_in labels more ∷ []
+  pub begins : at ≡ begin_at 0 ends (length ends)
 
-  here : between (begin_at 0 ends (length ends)) end text ≡ more
-  here = (λ i. between (sym begins i) (n i) text) ∙ next.here
-
-  pub lines_after : IsLine labels more → AreLines labels 0 text ends2
-  lines_after line = rw e (stay_lines labels 0 text ends end (omega (arith, begins, n)) (omega (arith, n, next.within)) (subst (IsLine labels) (sym here) line) stays.0)
-
-  pub held_after : held labels 0 text ends2 ≡ held old 0 text ends ++ line_in labels more ∷ []
-  held_after = rw e (pushed labels 0 text ends end) ∙ (λ i. stays.1 i ++ line_in labels (here i) ∷ [])
-
-  pub begin_after : suc end ≡ begin_at 0 ends2 (length ends2)
-  begin_after = rw e (sym (begin_next 0 ends end))
+pub one_more : {old labels : spelled.Form} {text more ends2 : List ℕ} {at end : ℕ} (l : Line) (ends : List ℕ) → ends2 ≡ ends ++ end ∷ [] → at ≡ begin_at 0 ends (length ends) → end ≡ at + length more
+    → IsNext (record { text = text; said = held old 0 text ends; at = at }) more → old ≡ form_told (held old 0 text ends) → labels ≡ form_told (held old 0 text ends ++ l ∷ [])
+    → AreLines old 0 text ends → OneMore labels (held old 0 text ends) text more ends2 (suc end)
+one_more {old} {labels} {text} {more} {end = end} l ends e begins n next told is lines =
+    let stays = form_stays old labels text ends l told is lines in
+    let here : between (begin_at 0 ends (length ends)) end text ≡ more = (λ i. between (sym begins i) (n i) text) ∙ next.here in
+    record {
+      lines = λ line. rw e (stay_lines labels 0 text ends end (omega (arith, begins, n)) (omega (arith, n, next.within)) (subst (IsLine labels) (sym here) line) stays.0);
+      held_is = rw e (pushed labels 0 text ends end) ∙ (λ i. stays.1 i ++ line_in labels (here i) ∷ []);
+      begins = rw e (sym (begin_next 0 ends end));
+    }
 
 -- the first line of what is left comes next
 pub comes_next : (f : FrontOf) (bytes rest text : List ℕ) → f.text ≡ bytes → rest ≡ drop f.at bytes → 0 < length rest → text ≡ take (length text) rest → IsNext f text
