@@ -1,7 +1,7 @@
 -- The shortest spelling of a payload, by the lengths of its spellings.
 use Rattle.std.proofs.Common.{◌≡◌, ℕ, zero, suc, ◌+◌, ◌*◌, ◌<◌, ◌≤◌, ◌==◌, Bool, true, false, ◌&&◌, ◌||◌, cond, codes, replicate, ap, List, [], ◌∷◌, ◌++◌, drop}
 use Rattle.std.{proofs.Common.{length, get_or, Some, None, refl, sym, ◌∙◌, arith}, specs.{Prelude.if◌then◌else◌, List.{flat_map, list_all}, Fmt.decimal}}
-use Rattle.std.proofs.lemmas.{Bool.{lt-ltb, le-ltb, eq-eqb}, List.{at_drop_more, length-append, length-replicate}}
+use Rattle.std.proofs.lemmas.{Bool.{and_parts, lt-ltb, le-ltb, eq-eqb}, List.{at_drop_more, length-append, length-replicate}}
 use Rattle.ix_text.specs.Spellings.{hex_pair}
 use Rattle.ix_script.specs.texts.Spellings.{pairs_text, times_text, stands_quoted, quoted_byte, quoted_text, once, shortest, payload_text}
 
@@ -69,18 +69,10 @@ module _ (bytes : List ℕ) (pairs quoted : ℕ) (p : pairs ≡ length bytes * 2
       ∙ of_two_first _ (quoted_text bytes) (omega (arith, length-pairs bytes)))
 
 -- ---- bytes that each stand in quotes as they are
-first_of_both : (p q : Bool) → (p && q) ≡ true → p ≡ true
-first_of_both true q h = refl
-first_of_both false q h = h
-
-second_of_both : (p q : Bool) → (p && q) ≡ true → q ≡ true
-second_of_both true q h = h
-second_of_both false q h = let k = h in absurd (cc)
-
 quoted_plain : (bytes : List ℕ) → list_all stands_quoted bytes ≡ true → flat_map quoted_byte bytes ≡ bytes
 unfolding quoted_byte
 quoted_plain [] h = refl
-quoted_plain (b ∷ bytes) h = rw (first_of_both (stands_quoted b) (list_all stands_quoted bytes) h) (ap (λ bs. b ∷ bs) (quoted_plain _ (second_of_both _ _ h)))
+quoted_plain (b ∷ bytes) h = let both = and_parts (stands_quoted b) _ h in rw both.0 (ap (λ bs. b ∷ bs) (quoted_plain _ both.1))
 
 plain_length : (bytes : List ℕ) → list_all stands_quoted bytes ≡ true → length (quoted_text bytes) ≡ length bytes + 2
 plain_length bytes h = rw (quoted_plain bytes h) (omega (arith, length-append bytes (codes "\"")))

@@ -35,14 +35,18 @@ pub record Behind (l : Line) : Type 0 where
 pub lane_behind : (name : List ℕ) → Behind (line.Lane name)
 lane_behind name = record { fs = refl; limits = λ ls. refl; whats = refl; names = refl; objects = refl; policy = refl; group_is = refl }
 
-pub record Quiet (l : Line) : Type 0 where
-  pub behind : Behind l
+-- a line that begins no phase and no lane, and gives no name
+pub record Still (l : Line) : Type 0 where
   pub phase : is_phase l ≡ false
   pub lane : (at : Option (List ℕ)) → lane_after at l ≡ at
   pub phase_lanes : (names : List (List ℕ)) → phase_lanes_after names l ≡ names
   pub lanes : (names : List (List ℕ)) → lanes_after names l ≡ names
   pub fds : new_fds l ≡ []
   pub procs : new_procs l ≡ []
+
+pub record Quiet (l : Line) : Type 0 where
+  pub behind : Behind l
+  pub still : Still l
   pub command : is_command l ≡ true
   pub fault : (before : List Line) → said_fault before l ≡ cond (nat_le 200000 (commands before)) (Some 26) None
 
@@ -67,12 +71,7 @@ quiet (line.Login proc fd hand named) h = cc
 quiet _ h =
     record {
       behind = record { fs = refl; limits = λ ls. refl; whats = refl; names = refl; objects = refl; policy = refl; group_is = refl };
-      phase = refl;
-      lane = λ at. refl;
-      phase_lanes = λ names. refl;
-      lanes = λ names. refl;
-      fds = refl;
-      procs = refl;
+      still = record { phase = refl; lane = λ at. refl; phase_lanes = λ names. refl; lanes = λ names. refl; fds = refl; procs = refl };
       command = refl;
       fault = λ before. refl;
     }
@@ -167,15 +166,6 @@ pub one_counted : (n k : ℕ) (b c : Bool) → k ≡ bool_byte b → b ≡ c →
 one_counted n k true c h e = rw (sym e) (omega (arith, h))
 one_counted n k false c h e = rw (sym e) (omega (arith, h))
 
--- a line that begins no phase and no lane, and gives no name
-pub record Still (l : Line) : Type 0 where
-  pub phase : is_phase l ≡ false
-  pub lane : (at : Option (List ℕ)) → lane_after at l ≡ at
-  pub phase_lanes : (names : List (List ℕ)) → phase_lanes_after names l ≡ names
-  pub lanes : (names : List (List ℕ)) → lanes_after names l ≡ names
-  pub fds : new_fds l ≡ []
-  pub procs : new_procs l ≡ []
-
 pub still : (l : Line) → (l ≡ line.Phase → ⊥) → ((name : List ℕ) → l ≡ line.Lane name → ⊥) →
     ((proc : List ℕ) (path : PathOf) (mode : Mode) (named : Option (List ℕ)) → l ≡ line.Open proc path mode named → ⊥) →
     ((proc : List ℕ) (fd : FdWord) (named : Option (List ℕ)) → l ≡ line.Dup proc fd named → ⊥)
@@ -228,10 +218,10 @@ body_quiet b n before l role was is =
     let q = quiet l role in
     let at = option_map (λ s. s.now) b.lane in
     let told : BodyTold (record b { commands = b.commands + 1 }) (before ++ l ∷ []) =
-    body_next b (record b { commands = b.commands + 1 }) before l was (rw q.phase (sym (or_false b.started))) (sym (q.lane at)) was.within was.named
-    (sym (q.phase_lanes (phase_lanes_in b))) (sym (q.lanes b.lanes))
-    (λ items h. no_more b.fds items (items ++ in_lane at (new_fds l)) at (new_fds l) q.fds refl h)
-    (λ items h. no_more b.procs items (items ++ in_lane at (new_procs l)) at (new_procs l) q.procs refl h) (rw q.command refl) in
+    body_next b (record b { commands = b.commands + 1 }) before l was (rw q.still.phase (sym (or_false b.started))) (sym (q.still.lane at)) was.within was.named
+    (sym (q.still.phase_lanes (phase_lanes_in b))) (sym (q.still.lanes b.lanes))
+    (λ items h. no_more b.fds items (items ++ in_lane at (new_fds l)) at (new_fds l) q.still.fds refl h)
+    (λ items h. no_more b.procs items (items ++ in_lane at (new_procs l)) at (new_procs l) q.still.procs refl h) (rw q.command refl) in
     subst (λ (m : Body). BodyTold m (before ++ l ∷ [])) (sym is) told
 
 -- ---- commands, and what they cost

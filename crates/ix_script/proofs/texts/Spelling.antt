@@ -2,7 +2,7 @@
 use mir.Val.{bool_byte}
 use Rattle.std.proofs.Common.{◌≡◌, ℕ, zero, suc, ◌+◌, ◌*◌, ◌/◌, inl, inr, ◌<◌, ◌≤◌, ◌==◌, Bool, true, false, ◌&&◌, List, [], ◌∷◌, ◌++◌, length, drop, get_or, Option}
 use Rattle.std.proofs.Common.{Some, None, refl, sym, ◌∙◌, ap, append_assoc, arith, IsSome, unwrap_or, subst, Result, Ok, Err, add-one, drop-cons, length-drop, length-append}
-use Rattle.std.{specs.{Prelude.is_some, Result.IsOk, List.list_all}, proofs.lemmas.{Option.none-some, Bool.{cases_Bool, eqb-true, le-ltb, leb-true}, List.{append-nil, drop_all}}}
+use Rattle.std.{specs.{Prelude.is_some, Result.IsOk, List.list_all}, proofs.lemmas.{Option.none-some, Bool.{and_parts, cases_Bool, eqb-true, le-ltb, leb-true}, List.{append-nil, drop_all}}}
 use Rattle.ix_text.specs.Bytes.{begins, is_empty}
 use Rattle.ix_script.specs.texts.Payloads.{◌>>=◌, digit_of, pair_of, pairs_of, after_bytes, bytes_of, escape_step, ends, quoted_from, payload_of}
 use Rattle.ix_script.specs.{lines.Said.{payload_within, within}, texts.{PayloadBytes.{bytes_in, IsPayload}, Spelled.{HasCount, SpellsRight, Spells, spelling_fault}}, reader.Readers.Refuses}
@@ -67,14 +67,6 @@ one_of_three X false q r h f g k = f refl
 one_of_three X true false r h f g k = g refl
 one_of_three X true true r h f g k = k h
 
-first_of_both : (p q : Bool) → (p && q) ≡ true → p ≡ true
-first_of_both true q h = refl
-first_of_both false q h = h
-
-second_of_both : (p q : Bool) → (p && q) ≡ true → q ≡ true
-second_of_both true q h = h
-second_of_both false q h = let k = h in absurd (cc)
-
 pub pairs_odd : (n : ℕ) (text : List ℕ) → length text ≡ n * 2 + 1 → pairs_of text ≡ None
 unfolding pairs_of
 pairs_odd n [] h = absurd (omega arith)
@@ -96,9 +88,10 @@ pairs_even zero (a ∷ text) h d = absurd (omega arith)
 pairs_even (suc n) [] h d = absurd (omega arith)
 pairs_even (suc n) (a ∷ []) h d = absurd (omega arith)
 pairs_even (suc n) (a ∷ b ∷ text) h d =
-    let later = second_of_both _ (is_hex b && list_all is_hex text) d in
-    let byte = two_digits_are a b (first_of_both _ _ d) (first_of_both _ _ later) in
-    let rest = pairs_even n _ (omega arith) (second_of_both (is_hex b) _ later) in
+    let both = and_parts _ (is_hex b && list_all is_hex text) d in
+    let later = and_parts (is_hex b) _ both.1 in
+    let byte = two_digits_are a b both.0 later.0 in
+    let rest = pairs_even n _ (omega arith) later.1 in
     record { bytes = byte.0 ∷ rest.bytes; spelled = rw (byte.1, rest.spelled) refl; count = omega (arith, rest.count) }
 
 -- ---- quotes
