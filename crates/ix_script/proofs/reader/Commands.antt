@@ -151,12 +151,11 @@ header_quiet h before l q begun was valid fault =
     (same_names _ _ q.names) (same_sites _ _ q.objects) (rw q.objects refl)
     (rw q.group_is (omega (arith, ltb-true 4 h.latest (sym (was.latest 4) ∙ begun.later)))) (rw q.policy (sym (or_false _)))
 
-pub no_more : (given : Given) (items more : List (List ℕ × List ℕ)) (at : Option (List ℕ)) (names : List (List ℕ)) → names ≡ []
-    → more ≡ items ++ in_lane at names → AreIndexed given items → AreIndexed given more
-no_more given items more None names none is h = subst (λ xs. AreIndexed given xs) (sym (append-nil items) ∙ sym is) h
-no_more given items more (Some lane) names none is h =
-    let same = is ∙ ap (λ ns. items ++ in_lane (Some lane) ns) none ∙ append-nil items in
-    subst (λ xs. AreIndexed given xs) (sym same) h
+-- without names nothing is added
+pub none_in : (given : Given) {names : List (List ℕ)} (at : Option (List ℕ)) → names ≡ [] → (items : List (List ℕ × List ℕ)) → AreIndexed given items
+    → AreIndexed given (items ++ in_lane at names)
+none_in given None none items h = rw (append-nil items) h
+none_in given (Some lane) none items h = subst (λ ns. AreIndexed given (items ++ in_lane (Some lane) ns)) (sym none) (rw (append-nil items) h)
 
 pub on_ok : {X E P Q : Type 0} (r : Result X E) → (P → Q) → OnOk r P → OnOk r Q
 on_ok (Ok x) f h = f h
@@ -210,8 +209,8 @@ pub lane_added : (b n : Body) (name : List ℕ) (lines : List Line) → BodyTold
 lane_added b n name lines told started lane lanes named more fds procs commands =
     let at = option_map (λ s. s.now) b.lane in
     body_next b n _ _ told (started ∙ sym (or_false _)) lane more.within named more.lanes lanes
-    (λ items h. no_more n.fds _ _ at [] refl refl (subst (λ g. AreIndexed g items) (sym fds) h))
-    (λ items h. no_more n.procs _ _ at [] refl refl (subst (λ g. AreIndexed g items) (sym procs) h)) commands
+    (λ items h. none_in n.fds at refl items (subst (λ g. AreIndexed g items) (sym fds) h))
+    (λ items h. none_in n.procs at refl items (subst (λ g. AreIndexed g items) (sym procs) h)) commands
 
 pub body_quiet : (b n : Body) (before : List Line) (l : Line) → role_of l ≡ role.Command → BodyTold b before → n ≡ record b { commands = b.commands + 1 } → BodyTold n (before ++ l ∷ [])
 body_quiet b n before l role was is =
@@ -220,8 +219,7 @@ body_quiet b n before l role was is =
     let told : BodyTold (record b { commands = b.commands + 1 }) (before ++ l ∷ []) =
     body_next b (record b { commands = b.commands + 1 }) before l was (rw q.still.phase (sym (or_false b.started))) (sym (q.still.lane at)) was.within was.named
     (sym (q.still.phase_lanes (phase_lanes_in b))) (sym (q.still.lanes b.lanes))
-    (λ items h. no_more b.fds items (items ++ in_lane at (new_fds l)) at (new_fds l) q.still.fds refl h)
-    (λ items h. no_more b.procs items (items ++ in_lane at (new_procs l)) at (new_procs l) q.still.procs refl h) (rw q.command refl) in
+    (none_in b.fds at q.still.fds) (none_in b.procs at q.still.procs) (rw q.command refl) in
     subst (λ (m : Body). BodyTold m (before ++ l ∷ [])) (sym is) told
 
 -- ---- commands, and what they cost

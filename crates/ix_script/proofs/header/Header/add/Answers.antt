@@ -31,10 +31,8 @@ returns-in_ok-push-in-Dir c =
     λ lines first told valid fault.
     header_next _ _ _ _ _ first told (fits_of _ valid) (follows _ _ fault)
     (rw c.in-Dir.is (omega arith)) c.in_ok-add_fs.ensures c.limits_after-self.ensures (rw c.in-Dir.is (sym (append-nil _))) (rw c.in-Dir.is (no_names _))
-    (rw c.in-Dir.is (record {
-      sites = λ os told. c.in_ok-push-in-Dir.ensures.sites os _ (ap (λ p. p.names) (sym c.path.ensures)) refl told;
-      count = c.in_ok-push-in-Dir.ensures.count;
-    })) (rw c.as_slice.ensures at c.take.ensures) (rw c.group.ensures at c.max-self.ensures)
+    (rw c.in-Dir.is (record { sites = λ os told. c.in_ok-push-in-Dir.ensures.sites os _ (ap (λ p. p.names) (sym c.path.ensures)) refl told; count = c.in_ok-push-in-Dir.ensures.count }))
+    (rw c.as_slice.ensures at c.take.ensures) (rw c.group.ensures at c.max-self.ensures)
     (rw c.in-Dir.is (sym (or_false _)))
 
 pub returns-in_ok-push-in-File : goal.returns-in_ok-push-in-File
@@ -42,10 +40,8 @@ returns-in_ok-push-in-File c =
     λ lines first told valid fault.
     header_next _ _ _ _ _ first told (fits_of _ valid) (follows _ _ fault)
     (rw c.in-File.is (omega arith)) c.in_ok-add_fs.ensures c.limits_after-self.ensures (rw c.in-File.is (sym (append-nil _))) (rw c.in-File.is (no_names _))
-    (rw c.in-File.is (record {
-      sites = λ os told. c.in_ok-push-in-File.ensures.sites os _ (ap (λ p. p.names) (sym c.path-in-File.ensures)) refl told;
-      count = c.in_ok-push-in-File.ensures.count;
-    })) (rw c.as_slice.ensures at c.take.ensures) (rw c.group.ensures at c.max-self.ensures)
+    (rw c.in-File.is (record { sites = λ os told. c.in_ok-push-in-File.ensures.sites os _ (ap (λ p. p.names) (sym c.path-in-File.ensures)) refl told; count = c.in_ok-push-in-File.ensures.count }))
+    (rw c.as_slice.ensures at c.take.ensures) (rw c.group.ensures at c.max-self.ensures)
     (rw c.in-File.is (sym (or_false _)))
 
 pub returns-in-Policy : goal.returns-in-Policy
