@@ -90,6 +90,13 @@ module _ {M B E : Type 0} (seat : E → ℕ) where
     alone = λ one. t.alone one number s.based.0 s.numbered s.based.1 ∙ s.counted;
   }
 
+  -- the same of a look, where what it tells the seat that has learnt more holds of what that was before
+  pub learns_by_look : (gate : TableId) (number turns found : ℕ) (st : Step (Option M)) (m l n : Me (Option M) (View B E)) (v : View B E) (k : SeatState B E) → IsAtRest seat number turns m
+      → state_of gate number turns m.0 ≡ k → l ≡ (v, m.1) → FreeLooks seat st l found n → (IsServed v found → IsServed m.0 found) → LearnsServed k n.0.seen n.0.look_found
+  learns_by_look gate number turns found st m l n v k s is learnt look known =
+      subst (λ (q : Me (Option M) (View B E)). LearnsServed k q.0.seen q.0.look_found) (sym look.now)
+      (learns gate number turns found m k _ s is (known (subst (λ (q : Me (Option M) (View B E)). IsServed q.0 found) learnt look.served)) look.entries)
+
   -- a look of a seat that has learnt more
   pub at_rest_after_look : (number turns found : ℕ) (st : Step (Option M)) (m l n : Me (Option M) (View B E)) (v : View B E) → IsAtRest seat number turns m
       → v.base ≡ m.0.base → v.role ≡ m.0.role → v.turns ≡ m.0.turns → v.stage ≡ m.0.stage
