@@ -4,9 +4,9 @@ use mathlib.Core.Logic.{dite}
 use mathlib.Core.Option.{Option as Home, none, some}
 use native.Mathlib.Decide.{ℕ_discrete}
 use lib.ListN.{get_elem?}
-use Rattle.atomic_table.{specs.Table.{Me, step, keeps, Allows}, proofs.Lists.{set_here, set_else}}
+use Rattle.atomic_table.{specs.Table.{State, Me, step, keeps, Allows}, proofs.Lists.{set_here, set_else}}
 use Rattle.ix_gate.specs.{declared.view.{View.View, Role.{Role, TheVariants.Numbered}, Stage.{Stage, TheVariants.{Idle, Waits, Holds}}}, Steps.Draws}
-use Rattle.ix_gate.specs.{View.{HasNumber, with_ticket}, Rule.{most_turns, total_turns, Book, HasTicket, IsQueued, DrewLast, Stands, Fits}}
+use Rattle.ix_gate.specs.{View.{HasNumber, with_ticket}, Rule.{most_turns, total_turns, Book, HasTicket, IsQueued, DrewLast, Stands, Fits, IsKept}}
 use Rattle.ix_gate.proofs.{Counts.{put, put_here, put_else, put_holds, total_turns-put, total_turns_fit, mod_fits}, Serving.is_served}
 use Rattle.ix_gate.proofs.Views.{at_lt, same_at, each_set, kept_set, refits, fits_still, Rule}
 
@@ -55,13 +55,39 @@ module _ {M B E : Type 0} (seat : E → ℕ) (base : B) (seats : ℕ) (g : Book 
       → Fits seat base seats g homes id v → Stands (put g.queue g.next id) g.served (g.next + 1) g.published homes' id v.role st
       → Fits seat base seats (with_draw g id n) homes' id record v { stage = st; turns = v.turns + 1; ticket = ticket; looks = looks; look_found = found }
   draw_fits v st ticket looks found is low drew f stands =
-      refits seat base seats g homes homes' id (put g.queue g.next id) g.owner (put g.turns n (g.turns n + 1)) (g.next + 1) g.made g.maker v st (v.turns + 1) ticket
+      refits seat base seats g homes homes' id id (put g.queue g.next id) g.owner (put g.turns n (g.turns n + 1)) (g.next + 1) g.made g.maker v v.role st (v.turns + 1) ticket
       looks found v.misses v.miss_found f
       (λ k o. let q = f.number k o in let same : n ≡ k = subst (λ (x : Role). HasNumber x k) is o in
       (q.0, q.1, subst (λ (z : ℕ). put g.turns n (g.turns n + 1) z ≡ v.turns + 1) same (put_here g.turns n (g.turns n + 1) ∙ ap (λ (x : ℕ). x + 1) (ap g.turns same ∙ q.2)), q.3))
-      f.ended f.makes stands low drew
+      f.ended f.agrees f.makes stands low drew
 
 module _ {M B E : Type 0} (base_of : M → B) (history_of : M → List E) (seat : E → ℕ) (base : B) (seats : ℕ) where
+  -- the rule after a draw by the seat of number n, which then is in line with the next ticket
+  pub drawn : (s : State (Option M) (View B E)) (r : Rule base_of history_of seat base seats s) (id n x : ℕ) (v w : View B E) (homes : List (Home (Option M)))
+      → get_elem? s.views id ≡ some v → v.stage ≡ Idle → v.role ≡ Numbered n → v.turns < most_turns → x ≡ r.book.next + 1 → HasTicket r.book.served r.book.next w.stage
+      → IsKept base_of history_of base r.book.published homes (set s.views id w)
+      → ((j : ℕ) (d : View B E) → Stands r.book.queue r.book.served r.book.next r.book.published s.homes j d.role d.stage
+      → Stands r.book.queue r.book.served r.book.next r.book.published homes j d.role d.stage)
+      → Fits seat base seats (with_draw r.book id n) homes id w → Rule base_of history_of seat base seats record { words = set s.words 0 x; homes = homes; views = set s.views id w }
+  drawn s r id n x v w homes at idle is room new has kept away mine =
+      let g : Book E = r.book in
+      let own = (r.each id v at).number n (subst (λ (z : Role). HasNumber z n) (sym is) refl) in
+      let turns = own.2 in
+      let ordered = r.ordered in record {
+        book = with_draw g id n;
+        words = ap (λ (ws : List ℕ). set ws 0 x) r.words ∙ ap (λ (z : ℕ). z ∷ g.served ∷ g.made ∷ []) new;
+        ordered = omega arith;
+        counted = draw_counted g id n own.1 r.counted;
+        few_turns = draw_few g id n (omega arith) r.few_turns;
+        few_seats = r.few_seats;
+        short = r.short;
+        unmade = r.unmade;
+        kept = kept;
+        queued = draw_queued g id n s.views v w at idle has r.queued;
+        each = each_set (Fits seat base seats (with_draw g id n) homes) s.views id w mine (λ j d other there. let q = r.each j d there in
+            draw_fits_other seat base seats g s.homes homes id n j d own.0 other q (draw_stands g id n homes j d.role d.stage (away j d q.stands)));
+      }
+
   pub draw_allowed : (slots id : ℕ) (me : Me (Option M) (View B E)) (n : ℕ) → me.0.stage ≡ Idle → me.0.role ≡ Numbered n → me.0.turns < most_turns
       → Allows (Rule base_of history_of seat base seats) slots id me 0 (λ x. (x + 1) % 18446744073709551616) (Draws (step slots 0 1 0 none) me)
   draw_allowed slots id me n idle is room s r len at small =
@@ -70,8 +96,6 @@ module _ {M B E : Type 0} (base_of : M → B) (history_of : M → List E) (seat 
       let t : ℕ = get_or s.words 0 0 in
       let e : t ≡ g.next = ap (λ (ws : List ℕ). get_or ws 0 0) r.words in
       let f = r.each id v at in
-      let mine = f.number n (subst (λ (x : Role). HasNumber x n) (sym is) refl) in
-      let turns = mine.2 in
       let few_seats = r.few_seats in
       let fits = total_turns_fit g.turns g.made r.few_turns (omega arith) in
       let counted = r.counted in
@@ -80,21 +104,9 @@ module _ {M B E : Type 0} (base_of : M → B) (history_of : M → List E) (seat 
         w,
         keeps,
         tt,
-        record {
-          book = with_draw g id n;
-          words = ap (λ (ws : List ℕ). set ws 0 ((get_or ws 0 0 + 1) % 18446744073709551616)) r.words ∙ ap (λ (x : ℕ). x ∷ g.served ∷ g.made ∷ []) (mod_fits (g.next + 1) (omega arith));
-          ordered = omega arith;
-          counted = draw_counted g id n mine.1 r.counted;
-          few_turns = draw_few g id n (omega arith) r.few_turns;
-          few_seats = r.few_seats;
-          short = r.short;
-          unmade = r.unmade;
-          kept = kept_set base_of history_of base g.published s.homes s.views id v w at (λ p x. cc (sym idle ∙ x)) r.kept;
-          queued = draw_queued g id n s.views v w at idle e r.queued;
-          each = each_set (Fits seat base seats (with_draw g id n) s.homes) s.views id w
-              (draw_fits seat base seats g s.homes s.homes id n v (Waits t) t v.looks v.look_found is f.look_found refl f
-              (subst (λ (z : ℕ). Stands (put g.queue g.next id) g.served (g.next + 1) g.published s.homes id v.role (Waits z)) (sym e) (put_here g.queue g.next id, ordered, omega arith, (n, is))))
-              (λ j d other there. let q = r.each j d there in draw_fits_other seat base seats g s.homes s.homes id n j d mine.0 other q (draw_stands g id n s.homes j d.role d.stage q.stands));
-        },
+        drawn s r id n _ v w s.homes at idle is room (ap (λ (z : ℕ). (z + 1) % 18446744073709551616) e ∙ mod_fits (g.next + 1) (omega arith)) e
+            (kept_set base_of history_of base g.published s.homes s.views id v w at (λ p x. cc (sym idle ∙ x)) r.kept) (λ j d k. k)
+            (draw_fits seat base seats g s.homes s.homes id n v (Waits t) t v.looks v.look_found is f.look_found refl f
+            (subst (λ (z : ℕ). Stands (put g.queue g.next id) g.served (g.next + 1) g.published s.homes id v.role (Waits z)) (sym e) (put_here g.queue g.next id, ordered, omega arith, (n, is)))),
         (refl, is_served base_of history_of seat base seats s r id v t at idle (omega arith) (omega arith)),
       )

@@ -7,7 +7,7 @@ use Rattle.atomic_table.specs.Table.{Me, step, keeps, Allows, Splits, opening}
 use Rattle.ix_gate.specs.{declared.view.{View.View, Role.{Role, TheVariants.{Nobody, Next, Made, Numbered}}, Stage.TheVariants.Idle}, View.{fresh, first_view}}
 use Rattle.ix_gate.specs.{Rule.{most_turns, most_seats, Book, MayMake, HasTicket, Fits}, Steps.MakesNumber}
 use Rattle.ix_gate.proofs.{Entries.contains-nil, Counts.{put, put_here, put_else, put_holds, total_turns-same, mod_fits}}
-use Rattle.ix_gate.proofs.Views.{at_end, each_set, queued_set, queued_more, kept_set, kept_more, fits_still, ruled, Rule}
+use Rattle.ix_gate.proofs.Views.{at_end, each_set, queued_set, queued_more, kept_set, kept_more, refits, fits_still, ruled, Rule}
 
 -- the book of a new table
 abbrev first_book : {E : Type 0} → Book E
@@ -122,39 +122,18 @@ module _ {M B E : Type 0} (base_of : M → B) (history_of : M → List E) (seat 
       let makes = f.makes in
       let place : ℕ = length (set s.views id own) in
       let h : Book E = record g { maker = place } in
+      let moved = refits {M = M} seat base seats g s.homes s.homes id in
       ruled base_of history_of seat base seats s r g.owner place s.homes (set s.views id own ++ right ∷ [])
       (kept_more base_of history_of base g.published s.homes (set s.views id own) right (kept_set base_of history_of base g.published s.homes s.views id v own at (λ p x. cc x) r.kept))
       (queued_more g.queue g.served g.next (set s.views id own) right (queued_set g.queue g.served g.next s.views id v own at (λ t o. o) r.queued))
       (λ j d there. ⊎_elim
       (each_set (Fits seat base seats h s.homes) s.views id own
-      record {
-        based = f.based;
-        sized = f.sized;
-        seen = f.seen;
-        told = f.told;
-        number = f.number;
-        ended = f.ended;
-        agrees = f.agrees;
-        makes = tt;
-        stands = tt;
-        look_found = f.look_found;
-        drew = f.drew;
-      }
+      (moved id g.queue g.owner g.turns g.next g.made place v (Numbered k) Idle 0 0 0 0 0 0 f f.number f.ended f.agrees tt tt f.look_found f.drew)
       (λ i e other t. let q = r.each i e t in
       fits_still seat base seats g s.homes s.homes i g.queue g.owner g.turns g.next g.made place e q q.number q.ended
       (makes_other g.made g.made g.maker place i e.role (λ y. other (y ∙ sym makes.0)) q.makes) q.stands)
       j d)
-      (λ (t : (j ≡ place) × (right ≡ d)). subst (λ (z : ℕ × View B E). Fits seat base seats h s.homes z.0 z.1) (λ i. (sym t.0 i, t.1 i)) record {
-        based = f.based;
-        sized = f.sized;
-        seen = f.seen;
-        told = f.told;
-        number = λ x o. absurd o;
-        ended = λ x es o. absurd (contains-nil (x, es) o);
-        agrees = (λ x o. absurd o, f.agrees.1);
-        makes = (refl, let m = makes.1 in omega arith);
-        stands = tt;
-        look_found = f.look_found;
-        drew = f.drew;
-      })
+      (λ (t : (j ≡ place) × (right ≡ d)). subst (λ (z : ℕ × View B E). Fits seat base seats h s.homes z.0 z.1) (λ i. (sym t.0 i, t.1 i))
+      (moved place g.queue g.owner g.turns g.next g.made place v (Next (k + 1)) Idle 0 0 0 0 0 0 f (λ x o. absurd o) (λ x es o. absurd (contains-nil (x, es) o))
+      (λ x o. absurd o, f.agrees.1) (refl, let m = makes.1 in omega arith) tt f.look_found f.drew))
       (at_end (set s.views id own) right d j there))

@@ -6,8 +6,8 @@ use lib.ListN.{get_elem?}
 use Rattle.atomic_table.{specs.Table.{State, Me, step, keeps, takes, Allows}, proofs.Lists.{set_here, exchanged}}
 use Rattle.ix_gate.specs.{declared.view.{View.View, Role.{Role, TheVariants.Numbered}, Stage.TheVariants.{Idle, Holds}}, Steps.TriesDraw}
 use Rattle.ix_gate.specs.{View.{HasNumber, with_ticket, with_look, with_miss}, Rule.{most_turns, Book, Stands, Fits, IsKept}}
-use Rattle.ix_gate.proofs.{Counts.{put, put_here}, Views.{at_lt, each_set, seats_known, fits_at, unmoved, MaySet, Rule}, Looking.{away_stands, takes_from_home}}
-use Rattle.ix_gate.proofs.{Drawing.{with_draw, draw_counted, draw_few, draw_queued, draw_stands, draw_fits, draw_fits_other}, Alone.alone_served}
+use Rattle.ix_gate.proofs.{Counts.{put, put_here}, Views.{at_lt, seats_known, fits_at, unmoved, MaySet, Rule}, Looking.{away_stands, takes_from_home}}
+use Rattle.ix_gate.proofs.{Drawing.{drawn, draw_fits}, Alone.alone_served}
 
 module _ {M B E : Type 0} (base_of : M → B) (history_of : M → List E) (seat : E → ℕ) (base : B) (seats : ℕ) where
   try_hit : (s : State (Option M) (View B E)) (r : Rule base_of history_of seat base seats s) (slots id : ℕ) (me : Me (Option M) (View B E)) (n old : ℕ)
@@ -27,35 +27,20 @@ module _ {M B E : Type 0} (base_of : M → B) (history_of : M → List E) (seat 
       let found : ℕ = get_or s.words 0 0 in
       let e : found ≡ g.next = ap (λ (ws : List ℕ). get_or ws 0 0) r.words in
       let f = r.each id v at in
-      let mine = f.number n (subst (λ (x : Role). HasNumber x n) (sym is) refl) in
-      let turns = mine.2 in
       let low : v.look_found ≤ g.served = f.look_found in
       let ordered = r.ordered in
       let now : g.served ≡ g.next = omega arith in
-      let here : old + 1 ≡ g.next + 1 = omega arith in
       let w : View B E = with_look (with_ticket v found) found (Holds (history_of m)) in
       let homes : List (Home (Option M)) = set s.homes 0 none in
       let bare : homes ≡ none ∷ [] = ap (λ (hs : List (Home (Option M))). set hs 0 none) home in (
         w,
         takes 0 (Some m),
         ap (λ (hs : List (Home (Option M))). get_elem? hs 0) home,
-        record {
-          book = with_draw g id n;
-          words = ap (λ (ws : List ℕ). set ws 0 (old + 1)) r.words ∙ ap (λ (x : ℕ). x ∷ g.served ∷ g.made ∷ []) here;
-          ordered = omega arith;
-          counted = draw_counted g id n mine.1 r.counted;
-          few_turns = draw_few g id n (omega arith) r.few_turns;
-          few_seats = r.few_seats;
-          short = r.short;
-          unmade = r.unmade;
-          kept = inr (id, w, history_of m, bare, set_here s.views id w (at_lt s.views id v at), refl);
-          queued = draw_queued g id n s.views v w at idle (sym now) r.queued;
-          each = each_set (Fits seat base seats (with_draw g id n) homes) s.views id w
-              (draw_fits seat base seats g s.homes homes id n v (Holds (history_of m)) found (v.looks + 1) found is (omega arith) (e ∙ sym now) f
-              (ap (put g.queue g.next id) now ∙ put_here g.queue g.next id, omega arith, (n, is), has, bare))
-              (λ j d other there. let q = r.each j d there in draw_fits_other seat base seats g s.homes homes id n j d mine.0 other q
-              (draw_stands g id n homes j d.role d.stage (away_stands g.queue g.served g.next g.published s.homes m j d.role d.stage home q.stands)));
-        },
+        drawn base_of history_of seat base seats s r id n (old + 1) v w homes at idle is room (omega arith) (sym now)
+            (inr (id, w, history_of m, bare, set_here s.views id w (at_lt s.views id v at), refl))
+            (λ j d k. away_stands g.queue g.served g.next g.published s.homes m j d.role d.stage home k)
+            (draw_fits seat base seats g s.homes homes id n v (Holds (history_of m)) found (v.looks + 1) found is (omega arith) (e ∙ sym now) f
+            (ap (put g.queue g.next id) now ∙ put_here g.queue g.next id, omega arith, (n, is), has, bare)),
         (
           λ _. takes_from_home base_of history_of seat base seats g s.homes id me m found (with_look (with_ticket v found) found) f (sym has) based
               (omega (arith, r.short, e, now)),

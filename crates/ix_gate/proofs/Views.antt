@@ -8,7 +8,7 @@ use native.Mathlib.Decide.{ℕ_discrete}
 use lib.ListN.{get_elem?}
 use lib.Seq.{set-get_or}
 use Rattle.atomic_table.{specs.Table.{State, Me, Act, Valid, keeps, stepped, carried_after}, proofs.Lists.{at_set, set_here, set_else, at_longer}}
-use Rattle.ix_gate.specs.{declared.view.{View.View, Stage.{Stage, TheVariants.Holds}}, History.entries_of, View.{HasNumber, Agrees}}
+use Rattle.ix_gate.specs.{declared.view.{View.View, Role.Role, Stage.{Stage, TheVariants.Holds}}, History.entries_of, View.{HasNumber, Agrees}}
 use Rattle.ix_gate.specs.Rule.{Book, MayMake, HasTicket, DrewLast, IsQueued, Stands, Fits, IsKept, Obeys}
 
 module _ {A : Type 0} where
@@ -67,21 +67,21 @@ seats_known known mine seats b (inl e) is = absurd (cc (sym e ∙ is))
 seats_known known mine seats b (inr e) is = sym e
 
 module _ {M B E : Type 0} (seat : E → ℕ) (base : B) (seats : ℕ) (g : Book E) (homes homes' : List (Home (Option M))) (i : ℕ) where
-  -- what the rule says of a view still holds, where its stage, turns and looks have changed, and what the book says of numbers and tickets
-  pub refits : (queue owner turns : ℕ → ℕ) (next made maker : ℕ) (v : View B E) (st : Stage E) (drawn ticket looks found misses missed : ℕ) → Fits seat base seats g homes i v
-      → ((n : ℕ) → HasNumber v.role n → (owner n ≡ i) × (n < made) × (turns n ≡ drawn) × (entries_of seat n g.published ≡ v.own))
-      → ((n : ℕ) (es : List E) → Contains v.ended (n, es) → (owner n ≡ i) × (n < made) × (entries_of seat n g.published ≡ es) × ¬ HasNumber v.role n)
-      → MayMake made maker i v.role → Stands queue g.served next g.published homes' i v.role st → found ≤ g.served → DrewLast g.served drawn ticket st
-      → Fits seat base seats (record g { next = next; made = made; queue = queue; owner = owner; turns = turns; maker = maker }) homes' i
-      record v { stage = st; turns = drawn; ticket = ticket; looks = looks; look_found = found; misses = misses; miss_found = missed }
-  refits queue owner turns next made maker v st drawn ticket looks found misses missed f number ended makes stands low drew = record {
+  -- what the rule says of a view holds of one at place j of another role, stage, turns and looks, with what the book says of numbers and tickets
+  pub refits : (j : ℕ) (queue owner turns : ℕ → ℕ) (next made maker : ℕ) (v : View B E) (r : Role) (st : Stage E) (drawn ticket looks found misses missed : ℕ) → Fits seat base seats g homes i v
+      → ((n : ℕ) → HasNumber r n → (owner n ≡ j) × (n < made) × (turns n ≡ drawn) × (entries_of seat n g.published ≡ v.own))
+      → ((n : ℕ) (es : List E) → Contains v.ended (n, es) → (owner n ≡ j) × (n < made) × (entries_of seat n g.published ≡ es) × ¬ HasNumber r n)
+      → Agrees seat (record v { role = r }) v.seen → MayMake made maker j r → Stands queue g.served next g.published homes' j r st → found ≤ g.served → DrewLast g.served drawn ticket st
+      → Fits seat base seats (record g { next = next; made = made; queue = queue; owner = owner; turns = turns; maker = maker }) homes' j
+      record v { role = r; stage = st; turns = drawn; ticket = ticket; looks = looks; look_found = found; misses = misses; miss_found = missed }
+  refits j queue owner turns next made maker v r st drawn ticket looks found misses missed f number ended agrees makes stands low drew = record {
     based = f.based;
     sized = f.sized;
     seen = f.seen;
     told = f.told;
     number = number;
     ended = ended;
-    agrees = f.agrees;
+    agrees = agrees;
     makes = makes;
     stands = stands;
     look_found = low;
@@ -93,7 +93,7 @@ module _ {M B E : Type 0} (seat : E → ℕ) (base : B) (seats : ℕ) (g : Book 
       → Stands g.queue g.served g.next g.published homes' i v.role st → found ≤ g.served → DrewLast g.served v.turns v.ticket st
       → Fits seat base seats g homes' i record v { stage = st; looks = looks; look_found = found; misses = misses; miss_found = missed }
   fits_at v st looks found misses missed f stands low drew =
-      refits g.queue g.owner g.turns g.next g.made g.maker v st v.turns v.ticket looks found misses missed f f.number f.ended f.makes stands low drew
+      refits i g.queue g.owner g.turns g.next g.made g.maker v v.role st v.turns v.ticket looks found misses missed f f.number f.ended f.agrees f.makes stands low drew
 
   -- a view that has not changed, where the book has
   pub fits_still : (queue owner turns : ℕ → ℕ) (next made maker : ℕ) (v : View B E) → Fits seat base seats g homes i v
@@ -102,7 +102,7 @@ module _ {M B E : Type 0} (seat : E → ℕ) (base : B) (seats : ℕ) (g : Book 
       → MayMake made maker i v.role → Stands queue g.served next g.published homes' i v.role v.stage
       → Fits seat base seats (record g { next = next; made = made; queue = queue; owner = owner; turns = turns; maker = maker }) homes' i v
   fits_still queue owner turns next made maker v f number ended makes stands =
-      refits queue owner turns next made maker v v.stage v.turns v.ticket v.looks v.look_found v.misses v.miss_found f number ended makes stands f.look_found f.drew
+      refits i queue owner turns next made maker v v.role v.stage v.turns v.ticket v.looks v.look_found v.misses v.miss_found f number ended f.agrees makes stands f.look_found f.drew
 
 module _ {M B E : Type 0} (base_of : M → B) (history_of : M → List E) (seat : E → ℕ) (base : B) (seats : ℕ) where
   -- the rule of the table of this gate
