@@ -7,8 +7,8 @@ use lib.ListN.{get_elem?}
 use Rattle.atomic_table.{specs.Table.{State, Me, step, keeps, Allows}, proofs.Lists.{set_here, set_else}}
 use Rattle.ix_gate.specs.{declared.view.{View.View, Role.{Role, TheVariants.Numbered}, Stage.{Stage, TheVariants.{Idle, Waits, Holds}}}, Steps.Draws}
 use Rattle.ix_gate.specs.{View.{HasNumber, with_ticket}, Rule.{most_turns, total_turns, Book, HasTicket, IsQueued, DrewLast, Stands, Fits, IsKept}}
-use Rattle.ix_gate.proofs.{Counts.{put, put_here, put_else, put_holds, total_turns-put, total_turns_fit, mod_fits}, Serving.is_served}
-use Rattle.ix_gate.proofs.Views.{at_lt, same_at, each_set, kept_set, refits, fits_still, Rule}
+use Rattle.ix_gate.proofs.{Counts.{put, put_here, put_else, put_holds, total_turns-put, mod_fits}, Serving.is_served}
+use Rattle.ix_gate.proofs.Views.{at_lt, same_at, each_set, kept_set, refits, fits_still, tickets_fit, Rule}
 
 -- the book after the seat at place id, of the number n, drew
 abbrev pub with_draw : {E : Type 0} → Book E → ℕ → ℕ → Book E
@@ -93,18 +93,15 @@ module _ {M B E : Type 0} (base_of : M → B) (history_of : M → List E) (seat 
   draw_allowed slots id me n idle is room s r len at small =
       let g : Book E = r.book in
       let v : View B E = me.0 in
+      let f = r.each id v at in
       let t : ℕ = get_or s.words 0 0 in
       let e : t ≡ g.next = ap (λ (ws : List ℕ). get_or ws 0 0) r.words in
-      let f = r.each id v at in
-      let few_seats = r.few_seats in
-      let fits = total_turns_fit g.turns g.made r.few_turns (omega arith) in
-      let counted = r.counted in
       let ordered = r.ordered in
       let w : View B E = with_ticket v t in (
         w,
         keeps,
         tt,
-        drawn s r id n _ v w s.homes at idle is room (ap (λ (z : ℕ). (z + 1) % 18446744073709551616) e ∙ mod_fits (g.next + 1) (omega arith)) e
+        drawn s r id n _ v w s.homes at idle is room (ap (λ (z : ℕ). (z + 1) % 18446744073709551616) e ∙ mod_fits _ (tickets_fit base_of history_of seat base seats s r)) e
             (kept_set base_of history_of base g.published s.homes s.views id v w at (λ p x. cc (sym idle ∙ x)) r.kept) (λ j d k. k)
             (draw_fits seat base seats g s.homes s.homes id n v (Waits t) t v.looks v.look_found is f.look_found refl f
             (subst (λ (z : ℕ). Stands (put g.queue g.next id) g.served (g.next + 1) g.published s.homes id v.role (Waits z)) (sym e) (put_here g.queue g.next id, ordered, omega arith, (n, is)))),

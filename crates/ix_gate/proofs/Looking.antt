@@ -9,8 +9,8 @@ use lib.Seq.{set-get_or}
 use Rattle.atomic_table.{specs.Table.{State, Me, step, keeps, takes, Allows}, proofs.Lists.set_here}
 use Rattle.ix_gate.specs.{declared.view.{View.View, Role.Role, Stage.{Stage, TheVariants.{Idle, Waits, Holds}}}, View.{Agrees, with_look, with_free_look}}
 use Rattle.ix_gate.specs.{Rule.{Book, HasTicket, DrewLast, Stands, Fits, IsKept}, Steps.{Takes, Looks, FreeLooks}}
-use Rattle.ix_gate.proofs.{Prefixes.prefix_shorter, Counts.total_turns_fit, Serving.{is_served, seen_served}}
-use Rattle.ix_gate.proofs.Views.{at_lt, same_at, each_set, queued_set, agrees_published, fits_at, fits_still, ruled, unmoved, MaySet, Rule}
+use Rattle.ix_gate.proofs.{Prefixes.prefix_shorter, Serving.{is_served, seen_served}}
+use Rattle.ix_gate.proofs.Views.{at_lt, same_at, each_set, queued_set, agrees_published, fits_at, fits_still, ruled, unmoved, tickets_fit, MaySet, Rule}
 
 -- what others know stays so where the slot leaves its home
 pub away_stands : {M E : Type 0} (queue : ℕ → ℕ) (served next : ℕ) (published : List E) (homes : List (Home (Option M))) (m : M) (i : ℕ) (r : Role) (st : Stage E) → homes ≡ some (Some m) ∷ []
@@ -104,10 +104,8 @@ module _ {M B E : Type 0} (base_of : M → B) (history_of : M → List E) (seat 
       let found : ℕ = get_or s.words 1 0 in
       let e : found ≡ g.served = ap (λ (ws : List ℕ). get_or ws 1 0) r.words in
       let f = r.each id v at in
-      let few = r.few_seats in
-      let fits = total_turns_fit g.turns g.made r.few_turns (omega arith) in
-      let ordered = r.ordered in
-      let counted = r.counted in (
+      let fits = tickets_fit base_of history_of seat base seats s r in
+      let ordered = r.ordered in (
         with_free_look v found,
         keeps,
         tt,

@@ -7,7 +7,7 @@ use Rattle.atomic_table.{specs.Table.{Me, step, gives, Allows, put_back, rest}, 
 use Rattle.ix_gate.specs.{declared.view.{View.View, Role.{Role, TheVariants.Numbered}, Stage.{Stage, TheVariants.{Idle, Waits, Holds}}}, Steps.PassesOn}
 use Rattle.ix_gate.specs.{History.{entries_of, Grows, KeepsEnded}, View.{HasNumber, number_of, with_turn}}
 use Rattle.ix_gate.specs.Rule.{Book, HasTicket, IsQueued, DrewLast, Stands, Fits}
-use Rattle.ix_gate.proofs.{Entries.{grows_prefix, grows_length, grows_other}, Counts.{total_turns_fit, mod_fits}, Views.{each_set, same_at, Rule}}
+use Rattle.ix_gate.proofs.{Entries.{grows_prefix, grows_length, grows_other}, Counts.mod_fits, Views.{each_set, same_at, tickets_fit, Rule}}
 
 -- the value in the slot that was taken last
 abbrev pub carried : {S : Type 0} → List (ℕ × S) → S → S
@@ -72,9 +72,7 @@ module _ {M B E : Type 0} (base_of : M → B) (history_of : M → List E) (seat 
       let longer = grows_prefix seat n g.published h grown in
       let still : (x : ℕ) → x ≢ n → entries_of seat x h ≡ entries_of seat x g.published = λ x ne. grows_other seat n x g.published h grown ne in
       let ended : KeepsEnded seat v.ended h = λ x es o. let q = f.ended x es o in still x (λ y. q.3 (subst (λ (z : ℕ). HasNumber v.role z) (sym y) named)) ∙ q.2 in
-      let few_seats = r.few_seats in
-      let fits = total_turns_fit g.turns g.made r.few_turns (omega arith) in
-      let counted = r.counted in
+      let fits = tickets_fit base_of history_of seat base seats s r in
       let w : View B E = with_turn seat v h in
       let own : (x : ℕ) → HasNumber v.role x → entries_of seat x h ≡ w.own = λ x o. let same : n ≡ x = subst (λ (y : Role). HasNumber y x) is o in
       ap (λ (y : ℕ). entries_of seat y h) (sym same ∙ sym (ap number_of is)) in

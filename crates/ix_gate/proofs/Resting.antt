@@ -20,6 +20,12 @@ module _ {M E : Type 0} where
   holds_of (Waits k) slots h t r = absurd r
   holds_of (Holds p) slots h t r = (ap Holds (cc t), r)
 
+-- a seat at rest is so with other turns, where it has its base and its number
+still_at_rest : {M B E : Type 0} (seat : E → ℕ) (number turns more : ℕ) (m n : Me (Option M) (View B E)) → IsAtRest seat number turns m → n.0.base ≡ m.0.base → n.0.role ≡ m.0.role
+    → n.0.turns ≡ more → more ≤ most_turns → Carries n.0.stage n.1 → Agrees seat n.0 n.0.seen → IsAtRest seat number more n
+still_at_rest seat number turns more m n s base role counted few carries agrees =
+    record { based = (s.based.0, base ∙ s.based.1); numbered = role ∙ s.numbered; counted = counted; few = few; carries = carries; agrees = agrees }
+
 module _ {M B E : Type 0} (base : M → B) (history : M → List E) (seat : E → ℕ) where
   -- a look that took the machine, and an exchange that took it out of the slot
   pub taking : (d w n p : Me (Option M) (View B E)) (found : ℕ) (r : Option M) (x : M) → HasLooked d.0 w.0 → w.1 ≡ [] → found ≡ d.0.ticket
@@ -54,30 +60,16 @@ module _ {M B E : Type 0} (base : M → B) (history : M → List E) (seat : E �
       → d ≡ (with_ticket m.0 t, m.1) → TakesMachine base history seat d n x → IsAtRest seat number (turns + 1) n
   at_rest_after_take number turns t m d n x s room drew took =
       let now = took.now ∙ (λ i. (record ((drew i).0) { stage = Holds (history x); looks = took.looks; look_found = ((drew i).0).ticket }, (0, None) ∷ [])) in
-      subst (IsAtRest seat number (turns + 1)) (sym now) record {
-        based = s.based;
-        numbered = s.numbered;
-        counted = ap (λ (k : ℕ). k + 1) s.counted;
-        few = omega arith;
-        carries = refl;
-        agrees = s.agrees;
-      }
+      subst (IsAtRest seat number (turns + 1)) (sym now) (still_at_rest seat number turns _ m _ s refl refl (ap (λ (k : ℕ). k + 1) s.counted) (omega arith) refl s.agrees)
 
   pub at_rest_after_give : (number turns : ℕ) (m d n : Me (Option M) (View B E)) (x : M) → IsAtRest seat number turns m → d.0 ≡ m.0
       → n ≡ (with_turn seat d.0 (history x), []) → KeepsEnded seat d.0.ended (history x) → IsAtRest seat number turns n
   at_rest_after_give number turns m d n x s same gave ended =
       let now = gave ∙ (λ i. (with_turn seat (same i) (history x), [])) in
-      subst (IsAtRest seat number turns) (sym now) record {
-        based = s.based;
-        numbered = s.numbered;
-        counted = s.counted;
-        few = s.few;
-        carries = refl;
-        agrees = (
-          λ k o. let is : number ≡ k = subst (λ (r : Role). HasNumber r k) s.numbered o in ap (λ (z : ℕ). entries_of seat z (history x)) (sym is ∙ sym (ap number_of s.numbered)),
-          subst (λ (v : View B E). KeepsEnded seat v.ended (history x)) same ended,
-        );
-      }
+      subst (IsAtRest seat number turns) (sym now) (still_at_rest seat number turns _ m _ s refl refl s.counted s.few refl (
+        λ k o. let is : number ≡ k = subst (λ (r : Role). HasNumber r k) s.numbered o in ap (λ (z : ℕ). entries_of seat z (history x)) (sym is ∙ sym (ap number_of s.numbered)),
+        subst (λ (v : View B E). KeepsEnded seat v.ended (history x)) same ended,
+      ))
 
 module _ {M B E : Type 0} (seat : E → ℕ) where
   -- what a number that is served tells a seat between its calls
@@ -103,21 +95,9 @@ module _ {M B E : Type 0} (seat : E → ℕ) where
       → l ≡ (v, m.1) → FreeLooks seat st l found n → IsAtRest seat number turns n
   at_rest_after_look number turns found st m l n v s base_is role_is turns_is stage_is learnt look =
       let now = look.now ∙ (λ i. (with_free_look ((learnt i).0) found, (learnt i).1)) in
-      subst (IsAtRest seat number turns) (sym now) record {
-        based = (s.based.0, base_is ∙ s.based.1);
-        numbered = role_is ∙ s.numbered;
-        counted = turns_is ∙ s.counted;
-        few = s.few;
-        carries = subst (λ (z : Stage E). Carries z m.1) (sym stage_is) s.carries;
-        agrees = subst (λ (q : Me (Option M) (View B E)). Agrees seat q.0 q.0.seen) learnt look.agrees;
-      }
+      subst (IsAtRest seat number turns) (sym now) (still_at_rest seat number turns _ m _ s base_is role_is (turns_is ∙ s.counted) s.few
+      (subst (λ (z : Stage E). Carries z m.1) (sym stage_is) s.carries) (subst (λ (q : Me (Option M) (View B E)). Agrees seat q.0 q.0.seen) learnt look.agrees))
 
   pub at_rest_after_miss : (number turns ticket : ℕ) (m n : Me (Option M) (View B E)) → IsAtRest seat number turns m → n ≡ (with_miss m.0 ticket, m.1) → IsAtRest seat number turns n
-  at_rest_after_miss number turns ticket m n s missed = subst (IsAtRest seat number turns) (sym missed) record {
-    based = s.based;
-    numbered = s.numbered;
-    counted = s.counted;
-    few = s.few;
-    carries = s.carries;
-    agrees = s.agrees;
-  }
+  at_rest_after_miss number turns ticket m n s missed =
+      subst (IsAtRest seat number turns) (sym missed) (still_at_rest seat number turns _ m _ s refl refl s.counted s.few s.carries s.agrees)

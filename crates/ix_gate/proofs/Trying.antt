@@ -1,11 +1,11 @@
 -- A draw of the number that was found served keeps the rule, whether it succeeds or not.
-use Rattle.std.proofs.Common.{◌≡◌, ◌≢◌, ℕ, ◌+◌, ◌<◌, ◌≤◌, List, [], ◌∷◌, get_or, set, Option, Some, refl, ap, sym, ◌∙◌, subst, inl, inr, arith, eqb}
+use Rattle.std.proofs.Common.{◌≡◌, ◌≢◌, ℕ, ◌+◌, ◌<◌, List, [], ◌∷◌, get_or, set, Option, Some, refl, ap, sym, ◌∙◌, subst, inl, inr, arith, eqb}
 use mathlib.Core.Option.{Option as Home, none, some}
 use prog.Atomic.{either}
 use lib.ListN.{get_elem?}
 use Rattle.atomic_table.{specs.Table.{State, Me, step, keeps, takes, Allows}, proofs.Lists.{set_here, exchanged}}
-use Rattle.ix_gate.specs.{declared.view.{View.View, Role.{Role, TheVariants.Numbered}, Stage.TheVariants.{Idle, Holds}}, Steps.TriesDraw}
-use Rattle.ix_gate.specs.{View.{HasNumber, with_ticket, with_look, with_miss}, Rule.{most_turns, Book, Stands, Fits, IsKept}}
+use Rattle.ix_gate.specs.{declared.view.{View.View, Role.{TheVariants.Numbered}, Stage.TheVariants.{Idle, Holds}}, Steps.TriesDraw}
+use Rattle.ix_gate.specs.{View.{with_ticket, with_look, with_miss}, Rule.{most_turns, Book, Stands, IsKept}}
 use Rattle.ix_gate.proofs.{Counts.{put, put_here}, Views.{at_lt, seats_known, fits_at, unmoved, MaySet, Rule}, Looking.{away_stands, takes_from_home}}
 use Rattle.ix_gate.proofs.{Drawing.{drawn, draw_fits}, Alone.alone_served}
 
@@ -18,17 +18,14 @@ module _ {M B E : Type 0} (base_of : M → B) (history_of : M → List E) (seat 
       let g : Book E = r.book in
       let e : get_or s.words 0 0 ≡ g.next = ap (λ (ws : List ℕ). get_or ws 0 0) r.words in
       let k = subst (Stands g.queue g.served g.next g.published s.homes i u.role) holds (r.each i u there).stands in
-      let below : g.served < g.next = k.1 in
-      let low : me.0.look_found ≤ g.served = (r.each id me.0 at).look_found in
-      absurd (omega arith)
+      let low = (r.each id me.0 at).look_found in
+      absurd (omega (arith, k.1))
   try_hit s r slots id me n old idle is room known at hit (inl (m, home, has, based)) =
       let g : Book E = r.book in
       let v : View B E = me.0 in
       let found : ℕ = get_or s.words 0 0 in
       let e : found ≡ g.next = ap (λ (ws : List ℕ). get_or ws 0 0) r.words in
       let f = r.each id v at in
-      let low : v.look_found ≤ g.served = f.look_found in
-      let ordered = r.ordered in
       let now : g.served ≡ g.next = omega arith in
       let w : View B E = with_look (with_ticket v found) found (Holds (history_of m)) in
       let homes : List (Home (Option M)) = set s.homes 0 none in
@@ -57,9 +54,7 @@ module _ {M B E : Type 0} (base_of : M → B) (history_of : M → List E) (seat 
       let v : View B E = me.0 in
       let found : ℕ = get_or s.words 0 0 in
       let e : found ≡ g.next = ap (λ (ws : List ℕ). get_or ws 0 0) r.words in
-      let f = r.each id v at in
-      let low = f.look_found in
-      let ordered = r.ordered in (
+      let f = r.each id v at in (
         with_miss v found,
         keeps,
         tt,

@@ -1,5 +1,5 @@
 -- What the rule says of all views, where one of them changes.
-use Rattle.std.proofs.Common.{◌≡◌, ◌≢◌, ℕ, zero, suc, ◌<◌, ◌≤◌, ◌⊎◌, List, [], ◌∷◌, ◌++◌, length, get_or, set, Option, None, Some, refl, ap, sym, ◌∙◌, subst}
+use Rattle.std.proofs.Common.{◌≡◌, ◌≢◌, ℕ, zero, suc, ◌+◌, ◌<◌, ◌≤◌, ◌⊎◌, List, [], ◌∷◌, ◌++◌, length, get_or, set, Option, None, Some, refl, ap, sym, ◌∙◌, subst}
 use Rattle.std.proofs.Common.{⊎_elim, inl, inr, arith}
 use Rattle.std.specs.Prelude.{Contains}
 use mathlib.Core.Logic.{dite}
@@ -10,6 +10,7 @@ use lib.Seq.{set-get_or}
 use Rattle.atomic_table.{specs.Table.{State, Me, Act, Valid, keeps, stepped, carried_after}, proofs.Lists.{at_set, set_here, set_else, at_longer}}
 use Rattle.ix_gate.specs.{declared.view.{View.View, Role.Role, Stage.{Stage, TheVariants.Holds}}, History.entries_of, View.{HasNumber, Agrees}}
 use Rattle.ix_gate.specs.Rule.{Book, MayMake, HasTicket, DrewLast, IsQueued, Stands, Fits, IsKept, Obeys}
+use Rattle.ix_gate.proofs.Counts.{total_turns_fit}
 
 module _ {A : Type 0} where
   pub at_lt : (l : List A) (i : ℕ) (a : A) → get_elem? l i ≡ some a → i < length l
@@ -108,6 +109,14 @@ module _ {M B E : Type 0} (base_of : M → B) (history_of : M → List E) (seat 
   -- the rule of the table of this gate
   abbrev pub Rule : State (Option M) (View B E) → Type 0
   Rule = Obeys base_of history_of seat base seats
+
+  -- the next ticket fits a word
+  pub tickets_fit : (s : State (Option M) (View B E)) (r : Rule s) → r.book.next + 1 < 18446744073709551616
+  tickets_fit s r =
+      let few = r.few_seats in
+      let fits = total_turns_fit r.book.turns r.book.made r.few_turns (omega arith) in
+      let counted = r.counted in
+      omega arith
 
   -- the published history agrees with what each seat knows
   pub agrees_published : (g : Book E) (homes : List (Home (Option M))) (i : ℕ) (v : View B E) → Fits seat base seats g homes i v → Agrees seat v g.published
