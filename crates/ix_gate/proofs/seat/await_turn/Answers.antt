@@ -7,7 +7,7 @@ pub loop-init : goal.loop-init
 loop-init g c = (refl, refl, (c.args.token.now.me.0.looks, c.args.token.now.me.0.look_found, le_refl _, refl), c.requires.free)
 
 pub load-serving-requires : goal.load-serving-requires
-load-serving-requires g c = (search rules, search rules, look_allowed _ _ _ _ _ _ _ _ c.args.ticket (ap (λ v. v.stage) c.loop.invariant.2.3 ∙ c.requires.waits))
+load-serving-requires g c = (search rules, search rules, look_allowed _ _ _ _ _ _ _ _ _ (ap (λ v. v.stage) c.loop.invariant.2.3 ∙ c.requires.waits))
 
 pub exchange-requires : goal.exchange-requires
 exchange-requires g c =

@@ -9,7 +9,7 @@ new-requires g c =
     let b = g.M.Machine.base c.of.result.value in
     let home : c.push_reserved.new.self.items ≡ Some c.args.machine ∷ [] = search rules in
     subst (λ l. Obeys g.M.Machine.base g.M.Machine.history g.M.Machine.seat b c.args.seats (opening (0 ∷ 0 ∷ 0 ∷ []) l (first_view c.args.seats b))) (sym home)
-    (opening_obeys _ _ _ _ _ c.args.machine c.requires.empty (ap g.M.Machine.base (sym c.of.ensures)) c.requires.seats.1)
+    (opening_obeys _ _ _ _ _ _ c.requires.empty (ap g.M.Machine.base (sym c.of.ensures)) c.requires.seats.1)
 
 pub loop-number-preserved : goal.loop-number-preserved
 loop-number-preserved g c = (

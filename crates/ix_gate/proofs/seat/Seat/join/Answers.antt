@@ -13,8 +13,8 @@ load-requires g c =
     (search rules, search rules, free_look_allowed _ _ _ _ _ _ _ _ (ap (λ m. m.0.stage) c.join_seat.ensures.2 ∙ (idle_of _ _ (ap (λ k. k.taken) c.self.view_is ∙ c.requires.free.0) c.self.invariant.carries).0))
 
 pub invariant_of-self : goal.invariant_of-self
-invariant_of-self g c = at_rest_after_look g.M.Machine.seat _ _ _ _ _ _ _ _ c.self.invariant refl refl refl refl c.join_seat.ensures.2 c.load.ensures.2
+invariant_of-self g c = at_rest_after_look _ _ _ _ _ _ _ _ _ c.self.invariant refl refl refl refl c.join_seat.ensures.2 c.load.ensures.2
 
 pub returns-clause-served : goal.returns-clause-served
 returns-clause-served g c =
-    learns_by_look g.M.Machine.seat _ _ _ _ _ _ _ _ _ _ c.self.invariant c.self.view_is c.join_seat.ensures.2 c.load.ensures.2 (λ t. record { least = t.least; passed = t.passed; alone = t.alone })
+    learns_by_look _ _ _ _ _ _ _ _ _ _ _ c.self.invariant c.self.view_is c.join_seat.ensures.2 c.load.ensures.2 (λ t. record { least = t.least; passed = t.passed; alone = t.alone })

@@ -24,8 +24,8 @@ compare_exchange-ticket-requires g c =
 
 pub invariant_of-self : goal.invariant_of-self
 invariant_of-self g c =
-    at_rest_after_miss g.M.Machine.seat _ _ c.compare_exchange-ticket.result c.load-serving.new.seat.me c.compare_exchange-ticket.new.seat.me
-    (at_rest_after_look g.M.Machine.seat _ _ _ _ c.self.inside.token.me c.self.inside.token.me c.load-serving.new.seat.me c.self.inside.token.me.0
+    at_rest_after_miss _ _ _ _ _ _
+    (at_rest_after_look _ _ _ _ _ _ _ _ _
     c.self.invariant refl refl refl refl refl c.load-serving.ensures.2)
     (c.compare_exchange-ticket.ensures.2.1 c.if-ticket-serving.true).0
 
@@ -43,10 +43,10 @@ invariant_of-self-2 g c =
     let t = c.compare_exchange-ticket.ensures.2.0 c.if-ticket-serving.false in
     let turns = ap (λ k. k.turns) c.self.view_is in
     let room = c.requires.room in
-    at_rest_after_take g.M.Machine.base g.M.Machine.history g.M.Machine.seat _ _ c.compare_exchange-ticket.result looked
-    (with_ticket looked.0 c.compare_exchange-ticket.result, looked.1) c.exchange.new.seat.me c.unwrap.result
-    (at_rest_after_look g.M.Machine.seat _ _ _ _ c.self.inside.token.me c.self.inside.token.me looked c.self.inside.token.me.0 c.self.invariant refl refl refl refl refl look) (omega arith) refl
-    (taking_at_once g.M.Machine.base g.M.Machine.history g.M.Machine.seat looked _ _ _ c.exchange.result c.unwrap.result (ap (λ m. m.1) look.now
+    at_rest_after_take _ _ _ _ _ _ looked
+    (with_ticket looked.0 c.compare_exchange-ticket.result, looked.1) _ _
+    (at_rest_after_look _ _ _ _ _ _ _ looked _ c.self.invariant refl refl refl refl refl look) (omega arith) refl
+    (taking_at_once _ _ _ looked _ _ _ _ _ (ap (λ m. m.1) look.now
     ∙ free.1) t c.exchange.ensures.2 c.unwrap.ensures c.exchange.ensures.3)
 
 pub returns-clause-ended : goal.returns-clause-ended
@@ -54,7 +54,7 @@ returns-clause-ended g c =
     let free = idle_of _ _ (ap (λ k. k.taken) c.self.view_is ∙ c.requires.free) c.self.invariant.carries in
     let look = c.load-serving.ensures.2 in
     let t = c.compare_exchange-ticket.ensures.2.0 c.if-ticket-serving.false in
-    let took = taking_at_once g.M.Machine.base g.M.Machine.history g.M.Machine.seat c.load-serving.new.seat.me _ _ _ c.exchange.result c.unwrap.result
+    let took = taking_at_once _ _ _ _ _ _ _ _ _
     (ap (λ m. m.1) look.now ∙ free.1) t c.exchange.ensures.2 c.unwrap.ensures c.exchange.ensures.3 in
     subst (λ l. KeepsEnded g.M.Machine.seat l (g.M.Machine.history c.unwrap.result)) (ap (λ m. m.0.ended) look.now ∙ ap (λ k. k.ended) c.self.view_is) took.agrees.1
 
@@ -62,9 +62,9 @@ pub returns-clause-served : goal.returns-clause-served
 returns-clause-served g c =
     let look = c.load-serving.ensures.2 in
     let t = c.compare_exchange-ticket.ensures.2.0 c.if-ticket-serving.false in
-    let took = taking_at_once g.M.Machine.base g.M.Machine.history g.M.Machine.seat c.load-serving.new.seat.me _ _ _ c.exchange.result c.unwrap.result
+    let took = taking_at_once _ _ _ _ _ _ _ _ _
     (ap (λ m. m.1) look.now ∙ (idle_of _ _ (ap (λ k. k.taken) c.self.view_is ∙ c.requires.free) c.self.invariant.carries).1) t c.exchange.ensures.2
     c.unwrap.ensures c.exchange.ensures.3 in
     subst (LearnsServed c.args.self.now (g.M.Machine.history c.unwrap.result)) (sym (ap (λ m. m.0.look_found) took.now ∙ c.if-ticket-serving.false))
-    (learns g.M.Machine.seat _ _ _ c.load-serving.result c.self.inside.token.me c.args.self.now (g.M.Machine.history c.unwrap.result) c.self.invariant
+    (learns _ _ _ _ _ _ _ (g.M.Machine.history c.unwrap.result) c.self.invariant
     c.self.view_is look.served (omega (arith, took.entries, c.if-ticket-serving.false)))
