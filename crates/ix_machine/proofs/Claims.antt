@@ -40,20 +40,6 @@ module _ (f : Frame) (pid fd : ℕ) (e : OpenFile) (x : Object) (is : behind f p
   unfolding pex opened claimed ◌>>=◌ ◌>>◌ on_pass need some refuse pass frame object process change_object
   pex_whole q r pipe free other alive g same = rw (is, there, pipe, free, other, alive) (ap (Pass (reply.Whole (record { 0 = q }) r.label r.lic)) same)
 
-  unpex_no_pipe : is_pipe x ≡ false → unpex pid fd f ≡ Refuse refusal.NotPipe f
-  unfolding unpex opened ◌>>=◌ ◌>>◌ on_pass need some refuse pass frame object
-  unpex_no_pipe other = rw (is, there, other) refl
-
-  unpex_not : is_pipe x ≡ true → claimed_by x e.entry.end pid ≡ false → unpex pid fd f ≡ Refuse refusal.NotClaimed f
-  unfolding unpex opened ◌>>=◌ ◌>>◌ on_pass need some refuse pass frame object
-  unpex_not pipe not_so = rw (is, there, pipe, not_so) refl
-
-  unpex_done : is_pipe x ≡ true → claimed_by x e.entry.end pid ≡ true → (g : Frame)
-      → record f { objects = change f.objects e.entry.object (λ y. record y { claims = put y.claims e.entry.end None }) } ≡ g
-      → unpex pid fd f ≡ Pass reply.Done g
-  unfolding unpex opened ◌>>=◌ ◌>>◌ on_pass need some refuse pass frame object change_object
-  unpex_done pipe so g same = rw (is, there, pipe, so) (ap (Pass reply.Done) same)
-
 pex_none : (f : Frame) (pid fd : ℕ) → behind f pid fd ≡ None → pex pid fd f ≡ Refuse refusal.BadFd f
 unfolding pex opened ◌>>=◌ on_pass some refuse frame pass
 pex_none f pid fd is = rw is refl
@@ -177,15 +163,12 @@ module _ (t : Parts) (p : ProcTable) (l : Lines) (s : Sound (joined t p l)) (pid
         (h.1 ∙ ap (λ (y : Object). if claimed_by_another y e.entry.end pid then t else after becomes_whole) is_node)
 
     by_claim : (r : Result (Unit {0}) Refusal) (u : Parts) (a b : Bool) → is_pipe x ≡ a → claimed_by x e.entry.end pid ≡ b → UnclaimsAt a b r e t u → UnclaimedIs r pid fd (joined t p l) (joined u p l)
-    by_claim r u false b pipe so h =
-        subst (λ (v : Result (Unit {0}) Refusal). UnclaimedIs v pid fd (joined t p l) (joined u p l)) (sym h.0)
-        (unpex_no_pipe (joined t p l).frame pid fd e x is there pipe, ap (λ (v : Parts). joined v p l) h.1)
-    by_claim r u true false pipe so h =
-        subst (λ (v : Result (Unit {0}) Refusal). UnclaimedIs v pid fd (joined t p l) (joined u p l)) (sym h.0)
-        (unpex_not (joined t p l).frame pid fd e x is there pipe so, ap (λ (v : Parts). joined v p l) h.1)
+    unfolding unpex opened ◌>>=◌ ◌>>◌ on_pass need some refuse pass frame object change_object
+    by_claim r u false b pipe so h = subst (λ (v : Result (Unit {0}) Refusal). UnclaimedIs v pid fd (joined t p l) (joined u p l)) (sym h.0) (rw (is, there, pipe) refl, ap (λ (v : Parts). joined v p l) h.1)
+    by_claim r u true false pipe so h = subst (λ (v : Result (Unit {0}) Refusal). UnclaimedIs v pid fd (joined t p l) (joined u p l)) (sym h.0) (rw (is, there, pipe, so) refl, ap (λ (v : Parts). joined v p l) h.1)
     by_claim r u true true pipe so h =
         subst (λ (v : Result (Unit {0}) Refusal). UnclaimedIs v pid fd (joined t p l) (joined u p l)) (sym h.0)
-        (unpex_done (joined t p l).frame pid fd e x is there pipe so (joined u p l).frame (ap (λ (v : Parts). (joined v p l).frame) (sym h.1)), ap (λ (v : Parts). (joined v p l).content) h.1)
+        (rw (is, there, pipe, so) (ap (λ (v : Parts). Pass reply.Done (joined v p l).frame) (sym h.1)), ap (λ (v : Parts). (joined v p l).content) h.1)
 
   by_entry : (r : Result Claim Refusal) (u : Parts) (b : Option OpenFile) → behind (joined t p l).frame pid fd ≡ b → ClaimsBehind b r pid t u → ClaimedIs r pid fd (joined t p l) (joined u p l)
   by_entry r u None is h =

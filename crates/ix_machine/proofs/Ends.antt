@@ -205,13 +205,21 @@ end_asks t p mid l w c pid here alive childless put_is =
       ap (list_any (is_child pid)) is ∙ any_changed (is_child pid) (with_caller c) (λ q. refl) w.frame.processes c.pid.0 ∙ childless,
     )
 
-module _ (w : World) (place pid status : ℕ) (t : Parts) (p mid final : ProcTable) (l : Lines) (x : Parts) (c : Caller) (s : Sound w) (alive : lives w.frame pid
-    ≡ true) (childless : list_any (is_child pid) w.frame.processes ≡ false)
-    (here : joined t p l ≡ w) (j : AreJoined t p l)
-    (row : let_go_all pid w.frame ≡ Pass tt (frame_of (around place pid w) x (with_who w.frame.processes c)))
-    (content : (world_of (around place pid w) x (with_who w.frame.processes c)).content ≡ carried w.frame (frame_of (around place pid w) x (with_who w.frame.processes c)) w.content)
-    (counted : IsCounted x (change (with_who w.frame.processes c) pid (λ q. record q { ended = true })))
-    (is_pid : c.pid.0 ≡ pid) (put_is : mid ≡ record p { processes = change p.processes c.pid.0 (with_caller c) }) (final_is : final ≡ ended pid status mid) where
+module _ (v w : World) (pid n status : ℕ) (t : Parts) (p mid final : ProcTable) (l : Lines) (x : Parts) (c : Caller) (s : Sound w) (lived : lives v.frame pid ≡ true)
+    (none_there : list_any (is_child pid) v.frame.processes ≡ false) (shown : joined t p l ≡ v) (same : v ≡ w) (j : AreJoined t p l) (is_n : n ≡ pid)
+    (goes : let_go_all n w.frame ≡ Pass tt (frame_of (around 0 n w) x (with_who w.frame.processes c)))
+    (content : (world_of (around 0 n w) x (with_who w.frame.processes c)).content ≡ carried w.frame (frame_of (around 0 n w) x (with_who w.frame.processes c)) w.content)
+    (counts : IsCounted x (change (with_who w.frame.processes c) n (λ q. record q { ended = true })))
+    (put_is : mid ≡ record p { processes = change p.processes c.pid.0 (with_caller c) }) (final_is : final ≡ ended pid status mid) where
+  alive : lives w.frame pid ≡ true
+  alive = subst (λ (u : World). lives u.frame pid ≡ true) same lived
+
+  childless : list_any (is_child pid) w.frame.processes ≡ false
+  childless = subst (λ (u : World). list_any (is_child pid) u.frame.processes ≡ false) same none_there
+
+  here : joined t p l ≡ w
+  here = shown ∙ same
+
   abbrev ps : List (Option Process)
   ps = with_who w.frame.processes c
 
@@ -230,9 +238,9 @@ module _ (w : World) (place pid status : ℕ) (t : Parts) (p mid final : ProcTab
   log_is : w.frame.log ≡ l.lines
   log_is = ap (λ (v : World). v.frame.log) (sym here)
 
-  pub ends_so : let_go_and_end pid w.frame ≡ Pass tt (joined x final l).frame
+  ends_so : let_go_and_end pid w.frame ≡ Pass tt (joined x final l).frame
   unfolding ◌>>◌ on_pass end_process put_process
-  ends_so = ap (λ o. on_pass o (λ a. end_process pid)) row
+  ends_so = ap (λ o. on_pass o (λ a. end_process pid)) (ap (λ m. let_go_all m w.frame) (sym is_n) ∙ goes)
       ∙ (λ i. Pass tt (record { limits = x.limits; fss = x.fss; objects = x.objects; processes = sym processes_are i; opens = x.opens; log = log_is i }))
 
   none_left : get_or w.content.statuses pid 0 ≡ 0
@@ -263,7 +271,7 @@ module _ (w : World) (place pid status : ℕ) (t : Parts) (p mid final : ProcTab
       (statuses_are w.frame.processes (put ps pid left) w.content.statuses w.content.statuses (omega (arith, wide, s.holdings.clean.count)) (s.holdings.clean.count ∙ sym wide) carried_so) in
       λ i. record { holdings = (sym content i).holdings; offsets = (sym content i).offsets; statuses = st i }
 
-  pub leaves_so : (joined x final l).content ≡ after_exit (joined x final l).frame pid status (carried w.frame (joined x final l).frame w.content)
+  leaves_so : (joined x final l).content ≡ after_exit (joined x final l).frame pid status (carried w.frame (joined x final l).frame w.content)
   unfolding after_exit
   leaves_so =
       let st : final.statuses ≡ (if is_ended (at final.processes pid) then set w.content.statuses pid status else w.content.statuses) =
@@ -284,17 +292,18 @@ module _ (w : World) (place pid status : ℕ) (t : Parts) (p mid final : ProcTab
       inside true = refl
       inside false = refl
 
-  pub counts_so : IsCounted x final.processes
+  counts_so : IsCounted x final.processes
   counts_so = subst (IsCounted x) (sym processes_are)
       (counted_put x ps pid (option_map {T = Process} {U = Process} (λ q. record q { ended = true }) (at ps pid)) (option_and_then remains (at ps pid))
-      (remains_named (at ps pid)) (remains_home (at ps pid)) counted)
+      (remains_named (at ps pid)) (remains_home (at ps pid))
+      (subst (λ m. IsCounted x (change ps m (λ q. record q { ended = true }))) is_n counts))
 
   pub joined_so : AreJoined x final l
   joined_so =
-      let moved : (joined x final l) ≡ (step w place pid (op.Exit status)).world =
-      (exited w (joined x final l) place pid status reply.Done [] alive (exit_passes pid w.frame (joined x final l).frame childless ends_so) refl
+      let moved : (joined x final l) ≡ (step w 0 pid (op.Exit status)).world =
+      (exited w (joined x final l) 0 pid status reply.Done [] alive (exit_passes pid w.frame (joined x final l).frame childless ends_so) refl
       leaves_so).world in
-      let limits : x.limits ≡ t.limits = ap (λ (v : World). v.frame.limits) moved ∙ (fixed_step w place pid (op.Exit status)).limits ∙ ap (λ (v : World). v.frame.limits) (sym here) in
+      let limits : x.limits ≡ t.limits = ap (λ (v : World). v.frame.limits) moved ∙ (fixed_step w 0 pid (op.Exit status)).limits ∙ ap (λ (v : World). v.frame.limits) (sym here) in
       let same : final.limit ≡ p.limit = ap (λ (v : ProcTable). v.limit) final_is ∙ ended_limit _ pid status mid ∙ ap (λ (v : ProcTable). v.limit) put_is in
       record {
         counted = counts_so;
@@ -303,5 +312,12 @@ module _ (w : World) (place pid status : ℕ) (t : Parts) (p mid final : ProcTab
             j.log ∙ sym (ap (λ (m : Limits). m.log) limits);
         few = subst (λ (m : Limits). m.procs ≤ 1024) (sym limits) j.few;
       }
+
+  -- the same, by the machine's world
+  pub ends_there : let_go_and_end pid v.frame ≡ Pass tt (joined x final l).frame
+  ends_there = subst (λ (u : World). let_go_and_end pid u.frame ≡ Pass tt (joined x final l).frame) (sym same) ends_so
+
+  pub leaves_there : (joined x final l).content ≡ after_exit (joined x final l).frame pid status (carried v.frame (joined x final l).frame v.content)
+  leaves_there = subst (λ (u : World). (joined x final l).content ≡ after_exit (joined x final l).frame pid status (carried u.frame (joined x final l).frame u.content)) (sym same) leaves_so
 
 pub ruleset waiting = (ended_still, waited_carried)

@@ -107,57 +107,15 @@ passed_verdict t place pid c f g r alive is = rw (alive, is) refl
 -- ---- calls that leave what the world holds
 still_step : (w : World) (place pid : ℕ) (c : Op) → is_still c ≡ true → step w place pid c ≡ plainly w (verdict nothing_told place pid c w.frame)
 unfolding step answer told
-still_step w place pid (op.Exec path) still = refl
-still_step w place pid (op.LabelOf path) still = refl
 still_step w place pid op.SelfLabel still = refl
-still_step w place pid (op.SetLabel path label) still = refl
-still_step w place pid (op.SetSelf label) still = refl
-still_step w place pid (op.Freeze path) still = refl
-still_step w place pid op.FreezeSelf still = refl
-still_step w place pid (op.Thaw path) still = refl
-still_step w place pid op.ThawSelf still = refl
-still_step w place pid (op.SetPriv path cap lic) still = refl
-still_step w place pid (op.DropLic set) still = refl
-still_step w place pid (op.GrantLic target set) still = refl
-still_step w place pid (op.SetCeiling target label) still = refl
-still_step w place pid (op.Unpex fd) still = refl
-still_step w place pid (op.ReadLog index) still = refl
 still_step w place pid _ still = cc
 
 pub tested_still : (c : Op) → is_tested c ≡ true → is_still c ≡ true
-tested_still (op.Exec path) tested = refl
-tested_still (op.LabelOf path) tested = refl
 tested_still op.SelfLabel tested = refl
-tested_still (op.SetLabel path label) tested = refl
-tested_still (op.SetSelf label) tested = refl
-tested_still (op.Freeze path) tested = refl
-tested_still op.FreezeSelf tested = refl
-tested_still (op.Thaw path) tested = refl
-tested_still op.ThawSelf tested = refl
-tested_still (op.SetPriv path cap lic) tested = refl
-tested_still (op.DropLic set) tested = refl
-tested_still (op.GrantLic target set) tested = refl
-tested_still (op.SetCeiling target label) tested = refl
-tested_still (op.Unpex fd) tested = refl
-tested_still (op.ReadLog index) tested = refl
-tested_still _ tested = cc
+tested_still _ tested = tested
 
 still_stays : (c : Op) → is_still c ≡ true → lets_nothing_go c ≡ true
-still_stays (op.Exec path) still = refl
-still_stays (op.LabelOf path) still = refl
 still_stays op.SelfLabel still = refl
-still_stays (op.SetLabel path label) still = refl
-still_stays (op.SetSelf label) still = refl
-still_stays (op.Freeze path) still = refl
-still_stays op.FreezeSelf still = refl
-still_stays (op.Thaw path) still = refl
-still_stays op.ThawSelf still = refl
-still_stays (op.SetPriv path cap lic) still = refl
-still_stays (op.DropLic set) still = refl
-still_stays (op.GrantLic target set) still = refl
-still_stays (op.SetCeiling target label) still = refl
-still_stays (op.Unpex fd) still = refl
-still_stays (op.ReadLog index) still = refl
 still_stays _ still = cc
 
 plainly_still : (w u : World) (place pid : ℕ) (c : Op) (r : Reply) → is_still c ≡ true → IsClean w → r ≡ (verdict nothing_told place pid c w.frame).reply

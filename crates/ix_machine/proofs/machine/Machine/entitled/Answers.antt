@@ -7,6 +7,5 @@ use Rattle.ix_machine.proofs.machine.Machine.entitled.Goals as goal
 pub returns : goal.returns
 returns c = record {
   row =
-      entitled_is c.args.self.now.frame c.args.pid.0 (with_caller c.who.result.now (unwrap_or (at c.args.self.now.frame.processes c.args.pid.0) no_process))
-      c.privs_of.result c.args.x c.may.result c.who.ensures.living c.privs_of.ensures c.may.ensures;
+      entitled_is _ _ (with_caller c.who.result.now (unwrap_or (at c.args.self.now.frame.processes c.args.pid.0) no_process)) _ _ _ c.who.ensures.living c.privs_of.ensures c.may.ensures;
 }

@@ -8,11 +8,11 @@ use Rattle.ix_machine.proofs.machine.Machine.fork.Goals as goal
 pub returns-clause-row : goal.returns-clause-row
 returns-clause-row c =
     let p : Process = with_caller c.who.result.now (unwrap_or (at c.args.self.now.frame.processes c.args.pid.0) no_process) in
-    let kept : has_kept c.args.keep p ≡ true = sym (kept_same c.args.keep p) ∙ sym c.keeps.ensures ∙ c.if-not-keeps.false in
+    let kept : has_kept c.args.keep p ≡ true = sym (kept_same _ p) ∙ sym c.keeps.ensures ∙ c.if-not-keeps.false in
     let b = c.in-Some.ensures p c.who.ensures.living in
-    fork_is c.args.self.now c.bear.new.self c.args.pid.0 c.in-Some.child.0 c.args.keep p c.who.ensures.living kept b.0 b.1 b.2
+    fork_is _ _ _ c.in-Some.child.0 _ p c.who.ensures.living kept b.0 b.1 b.2
 
 pub returns-clause-content : goal.returns-clause-content
 returns-clause-content c =
     let p : Process = with_caller c.who.result.now (unwrap_or (at c.args.self.now.frame.processes c.args.pid.0) no_process) in
-    born_carried c.args.self.now c.bear.new.self (child_of c.args.pid.0 c.args.keep p) c.requires.sound (c.in-Some.ensures p c.who.ensures.living).2
+    born_carried _ _ (child_of c.args.pid.0 c.args.keep p) c.requires.sound (c.in-Some.ensures p c.who.ensures.living).2

@@ -4,5 +4,4 @@ use Rattle.ix_machine.proofs.Restoring.{restores_label}
 use Rattle.ix_machine.proofs.machine.Machine.observe.Goals as goal
 
 pub returns-in-Ok-Some-clause-back : goal.returns-in-Ok-Some-clause-back
-returns-in-Ok-Some-clause-back g c = restores_label c.args.self.now.frame c.set_process_label.new.self.frame c.args.pid.0 c.in-Ok-Some.label c.requires
-    (ap (λ (w : World). w.frame) c.set_process_label.ensures)
+returns-in-Ok-Some-clause-back g c = restores_label _ _ _ _ c.requires (ap (λ (w : World). w.frame) c.set_process_label.ensures)

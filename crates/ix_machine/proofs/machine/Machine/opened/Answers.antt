@@ -3,8 +3,7 @@ use Rattle.ix_machine.proofs.Viewing.{no_view, view_is}
 use Rattle.ix_machine.proofs.machine.Machine.opened.Goals as goal
 
 pub returns-then-not-lives : goal.returns-then-not-lives
-returns-then-not-lives c = no_view c.args.self.now c.args.pid.0 c.args.fd.0 (sym c.lives.ensures ∙ c.if-not-lives.true)
+returns-then-not-lives c = no_view _ _ _ (sym c.lives.ensures ∙ c.if-not-lives.true)
 
 pub returns : goal.returns
-returns c = view_is c.self.inside.files c.self.inside.procs c.self.inside.log c.args.self.now c.self.view_is c.args.pid.0 c.args.fd.0 c.who.result.now _
-    c.opened.result c.self.invariant.counted c.who.ensures.living refl c.opened.ensures
+returns c = view_is _ _ _ _ c.self.view_is _ _ _ _ _ c.self.invariant.counted c.who.ensures.living refl c.opened.ensures

@@ -4,6 +4,5 @@ use Rattle.ix_machine.proofs.machine.Machine.set_process_label.Goals as goal
 
 pub invariant_of-self : goal.invariant_of-self
 invariant_of-self c =
-    joined_put c.self.inside.files c.self.inside.procs c.put.new.self c.self.inside.log c.args.self.now c.who-who.result.now c.args.pid.0
-    (λ q. record q { label = c.args.label }) (λ x. refl) (λ x. refl) (λ x. refl)
+    joined_put _ _ _ _ _ _ _ (λ q. record q { label = c.args.label }) (λ x. refl) (λ x. refl) (λ x. refl)
     c.self.view_is c.who-who.ensures.shown c.who-who.ensures.pid c.put.ensures c.self.invariant

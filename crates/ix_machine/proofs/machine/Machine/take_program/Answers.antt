@@ -8,12 +8,10 @@ use Rattle.ix_machine.proofs.machine.Machine.take_program.Goals as goal
 
 pub invariant_of-self : goal.invariant_of-self
 invariant_of-self c =
-    joined_put c.self.inside.files c.self.inside.procs c.put.new.self c.self.inside.log c.args.self.now c.who-who.result.now c.args.pid.0 (λ q. record q {
+    joined_put _ _ _ _ _ _ _ (λ q. record q {
       cap =
           c.args.cap;
       own = c.args.lic;
-    }) (λ x. refl) (λ x. refl) (λ x. refl)
-    c.self.view_is c.who-who.ensures.shown c.who-who.ensures.pid
+    }) (λ x. refl) (λ x. refl) (λ x. refl) c.self.view_is c.who-who.ensures.shown c.who-who.ensures.pid
     (c.put.ensures ∙ ap (λ (v : Privs). let who : Caller = record c.who-who.result.now { cap = v.cap; lic = v.lic; own = v.own } in
-    let t : ProcTable = record c.self.inside.procs { processes = with_who c.self.inside.procs.processes who } in t) c.after_exec-now.ensures)
-    c.self.invariant
+    let t : ProcTable = record c.self.inside.procs { processes = with_who c.self.inside.procs.processes who } in t) c.after_exec-now.ensures) c.self.invariant

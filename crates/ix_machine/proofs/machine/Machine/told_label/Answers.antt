@@ -4,7 +4,7 @@ use Rattle.ix_machine.proofs.Stepped.{dead_step, label_step}
 use Rattle.ix_machine.proofs.machine.Machine.told_label.Goals as goal
 
 pub returns-then-not-lives : goal.returns-then-not-lives
-returns-then-not-lives c place buf = dead_step c.args.self.now place c.args.pid.0 op.SelfLabel buf c.requires.holdings.clean (sym c.lives.ensures ∙ c.if-not-lives.true)
+returns-then-not-lives c place buf = dead_step _ place _ op.SelfLabel buf c.requires.holdings.clean (sym c.lives.ensures ∙ c.if-not-lives.true)
 
 pub returns : goal.returns
-returns c place buf = label_step c.args.self.now place c.args.pid.0 c.self_label.result buf c.requires.holdings.clean (sym c.lives.ensures ∙ c.if-not-lives.false) c.self_label.ensures
+returns c place buf = label_step _ place _ _ buf c.requires.holdings.clean (sym c.lives.ensures ∙ c.if-not-lives.false) c.self_label.ensures
