@@ -6,8 +6,8 @@ use Rattle.ix_gate.{specs.{History.{entries_of, Grows, KeepsEnded}, Seat.{after_
 use Rattle.ix_core.specs.Stepping.{StepsTo, StepsAs}
 use Rattle.ix_iso.specs.Noninterference.{Noninterferent}
 use Rattle.ix_journal.proofs.Growing.{cost_more}
-use Rattle.ix_model.specs.{opening.Opening.opening_world, history.{Cost.{cost_of, cost_of_history}, Events.Event, History.History}}
-use Rattle.ix_model.specs.declared.{config.Config.Config, reply.Answer.Answer}
+use Rattle.ix_model.specs.{opening.Opening.opening_world, history.{Cost.{cost_of, cost_of_history}, Events.{Event, Op}, History.History, Made.entry}}
+use Rattle.ix_model.specs.declared.{config.Config.Config, ids.Pid.Pid, reply.Answer.Answer}
 use Rattle.ix_model.specs.declared.reply.Answer.TheVariants as answer
 use Rattle.ix_kernel.specs.{Seen.{KSeatState, seat_of, own, own_after, after_turn}, Turns.{InTurn, HasRoom, SeenNoninterferent}}
 
@@ -148,3 +148,8 @@ turn_tells k s t l old new a e before after r = record {
   looks = subst (λ (z : KSeatState). z.looks < l.looks) r.same (subst (λ n. s.looks < n) (sym (ap (λ (z : KSeatState). z.looks) r.back)) r.looks);
   seat = turn_seat k s t l old new a e before after r;
 }
+
+-- the same of the entry that the seat's number makes
+pub entry_tells : (k s t l : KSeatState) (old new : History) (a : Answer) (number line : ℕ) (pid : Pid) (o : Op) (before after : List ℕ)
+    → Turned k s t l old new a (entry number line pid o) before after → Tells k l a (entry k.number line pid o) before after
+entry_tells k s t l old new a number line pid o before after r = subst (λ n. Tells k l a (entry n line pid o) before after) r.mine (turn_tells _ _ _ _ _ _ _ _ _ _ r)

@@ -1,7 +1,7 @@
-use Rattle.std.proofs.Common.{◌≡◌, ℕ, ap, ◌∙◌, subst}
+use Rattle.std.proofs.Common.{ℕ, ap, ◌∙◌, subst}
 use Rattle.ix_gate.specs.History.{Grows}
-use Rattle.ix_model.specs.history.{Calls.op_of, Made.entry}
-use Rattle.ix_kernel.{specs.Seen.{KSeatState, seat_of}, proofs.Turning.{Turned, Tells, step_grows, turn_tells}}
+use Rattle.ix_model.specs.history.Calls.{op_of}
+use Rattle.ix_kernel.{specs.Seen.{KSeatState, seat_of}, proofs.Turning.{step_grows, entry_tells}}
 use Rattle.ix_kernel.proofs.seat.KSeat.call.Goals as goal
 
 pub give-requires-clause-history : goal.give-requires-clause-history
@@ -13,12 +13,10 @@ give-requires-clause-history g c κs = (
 
 pub returns : goal.returns
 returns g c =
-    let number : c.number-number.result ≡ c.args.self.now.number = c.number-number.ensures.number ∙ ap (λ (k : KSeatState). k.number) c.take-held.ensures.seat
-    ∙ ap (λ (k : KSeatState). k.number) c.self.view_is in
-    let turned : Turned c.args.self.now c.self.inside.seat c.take-held.new.self c.give.new.self c.take-held.result.core.value c.step-answer.new.self.core.value
-    c.step-answer.result (entry c.number-number.result c.args.line c.args.pid (op_of c.args.call.now)) c.args.buf.now c.step-answer.new.buf = record {
+    let tells = entry_tells c.args.self.now c.self.inside.seat c.take-held.new.self c.give.new.self c.take-held.result.core.value c.step-answer.new.self.core.value c.step-answer.result c.number-number.result
+    c.args.line c.args.pid (op_of c.args.call.now) c.args.buf.now c.step-answer.new.buf (record {
       same = c.self.view_is;
-      mine = number;
+      mine = c.number-number.ensures.number ∙ ap (λ (k : KSeatState). k.number) c.take-held.ensures.seat ∙ ap (λ (k : KSeatState). k.number) c.self.view_is;
       base = c.take-held.ensures.base;
       begins = c.take-held.ensures.seen;
       own = c.take-held.ensures.own;
@@ -29,18 +27,14 @@ returns g c =
       took = c.take-held.ensures.seat;
       back = c.give.ensures;
       did = c.step-answer.ensures;
-    } in
-    let tells : Tells c.args.self.now c.give.new.self c.step-answer.result (entry c.args.self.now.number c.args.line c.args.pid (op_of c.args.call.now)) c.args.buf.now c.step-answer.new.buf =
-    subst (λ (n : ℕ). Tells c.args.self.now c.give.new.self c.step-answer.result (entry n c.args.line c.args.pid (op_of c.args.call.now)) c.args.buf.now c.step-answer.new.buf) number
-    (turn_tells _ _ _ _ _ _ _ _ _ _ turned) in
+    }) in
     record {
       seen = tells.seen;
       own = tells.own;
       turn = tells.turn;
       room = tells.room;
       fits = c.step-answer.ensures.fits;
-      rest =
-          c.step-answer.ensures.rest;
+      rest = c.step-answer.ensures.rest;
       noninterference = tells.noninterference;
       looks = tells.looks;
       seat = tells.seat;

@@ -1,7 +1,7 @@
 use Rattle.std.proofs.Common.{◌≡◌, ℕ, ◌+◌, ap, sym, ◌∙◌, refl, subst, arith}
 use Rattle.ix_gate.specs.{History.Grows, Seat.after_take}
-use Rattle.ix_model.specs.history.{Calls.op_of, Made.entry}
-use Rattle.ix_kernel.{specs.Seen.{KSeatState, seat_of, after_turn}, proofs.Turning.{Turned, Tells, step_grows, turn_tells}}
+use Rattle.ix_model.specs.history.Calls.{op_of}
+use Rattle.ix_kernel.{specs.Seen.{KSeatState, seat_of, after_turn}, proofs.Turning.{step_grows, entry_tells}}
 use Rattle.ix_kernel.proofs.seat.KSeat.try_call.Goals as goal
 
 pub give-requires-clause-history : goal.give-requires-clause-history
@@ -13,13 +13,12 @@ give-requires-clause-history c κs = (
 
 pub returns : goal.returns
 returns c =
-    let number : c.number.result ≡ c.args.self.now.number = c.number.ensures.number ∙ ap (λ (k : KSeatState). k.number) c.in_ok-held.ensures.seat ∙ ap (λ (k : KSeatState). k.number) c.self.view_is in
     let looked : c.try_take.new.self.looks ≡ c.self.inside.seat.looks + 2 = ap (λ (k : KSeatState). k.looks) c.in_ok-held.ensures.seat in
     let looks : c.give.new.self.looks ≡ c.args.self.now.looks + 2 = ap (λ (k : KSeatState). k.looks) c.give.ensures ∙ looked ∙ ap (λ (k : KSeatState). k.looks + 2) c.self.view_is in
-    let turned : Turned c.args.self.now c.self.inside.seat c.try_take.new.self c.give.new.self c.in_ok-held.held.core.value c.step-answer.new.self.core.value
-    c.step-answer.result (entry c.number.result c.args.line c.args.pid (op_of c.args.call.now)) c.args.buf.now c.step-answer.new.buf = record {
+    let tells = entry_tells c.args.self.now c.self.inside.seat c.try_take.new.self c.give.new.self c.in_ok-held.held.core.value c.step-answer.new.self.core.value c.step-answer.result c.number.result
+    c.args.line c.args.pid (op_of c.args.call.now) c.args.buf.now c.step-answer.new.buf (record {
       same = c.self.view_is;
-      mine = number;
+      mine = c.number.ensures.number ∙ ap (λ (k : KSeatState). k.number) c.in_ok-held.ensures.seat ∙ ap (λ (k : KSeatState). k.number) c.self.view_is;
       base = c.in_ok-held.ensures.base;
       begins = c.in_ok-held.ensures.seen;
       own = c.in_ok-held.ensures.own;
@@ -30,18 +29,14 @@ returns c =
       took = c.in_ok-held.ensures.seat ∙ ap (λ n. after_take c.self.inside.seat c.in_ok-held.held.core.value.events n c.try_take.new.self.look_found) (sym looked);
       back = c.give.ensures;
       did = c.step-answer.ensures;
-    } in
-    let tells : Tells c.args.self.now c.give.new.self c.step-answer.result (entry c.args.self.now.number c.args.line c.args.pid (op_of c.args.call.now)) c.args.buf.now c.step-answer.new.buf =
-    subst (λ (n : ℕ). Tells c.args.self.now c.give.new.self c.step-answer.result (entry n c.args.line c.args.pid (op_of c.args.call.now)) c.args.buf.now c.step-answer.new.buf) number
-    (turn_tells _ _ _ _ _ _ _ _ _ _ turned) in
+    }) in
     record {
       seen = tells.seen;
       own = tells.own;
       turn = tells.turn;
       room = tells.room;
       fits = c.step-answer.ensures.fits;
-      rest =
-          c.step-answer.ensures.rest;
+      rest = c.step-answer.ensures.rest;
       noninterference = tells.noninterference;
       seat =
           tells.seat ∙ ap (λ n. after_turn c.args.self.now c.give.new.self.seen n c.give.new.self.look_found) looks;
