@@ -69,6 +69,12 @@ has_end_lives f o end q h = go (at f.processes q) (λ (y : Process). list_any (�
         both false b k = k
 
 module _ (t : Parts) (p : ProcTable) (l : Lines) (s : Sound (joined t p l)) (pid fd : ℕ) where
+  abbrev Claimed : Result Claim Refusal → Parts → Type 0
+  Claimed r u = ClaimedIs r pid fd (joined t p l) (joined u p l)
+
+  abbrev Unclaimed : Result (Unit {0}) Refusal → Parts → Type 0
+  Unclaimed r u = UnclaimedIs r pid fd (joined t p l) (joined u p l)
+
   module _ (e : OpenFile) (x : Object) (is : behind (joined t p l).frame pid fd ≡ Some e) (there : at t.objects e.entry.object ≡ Some x) where
     abbrev claims_it : Object → Object
     claims_it y = record y { claims = put y.claims e.entry.end (Some pid) }
@@ -126,35 +132,31 @@ module _ (t : Parts) (p : ProcTable) (l : Lines) (s : Sound (joined t p l)) (pid
         (s.opens.end e.id e.entry (behind_is (joined t p l).frame pid fd e is)))
 
     free : (r : Result Claim Refusal) (u : Parts) (other : Option ℕ) → is_pipe x ≡ true → claimed_by_another x e.entry.end pid ≡ false
-        → at x.claims (1 - e.entry.end) ≡ other → r ≡ Ok (shared_with other) → u ≡ after becomes_whole → ClaimedIs r pid fd (joined t p l) (joined u p l)
+        → at x.claims (1 - e.entry.end) ≡ other → r ≡ Ok (shared_with other) → u ≡ after becomes_whole → Claimed r u
     free r u None pipe mine other_is answer same =
-        subst (λ (v : Result Claim Refusal). ClaimedIs v pid fd (joined t p l) (joined u p l)) (sym answer)
-        (pex_half (joined t p l).frame pid fd e x is there pipe mine (others ∙ other_is) (joined u p l).frame (frame_is u same), answers_pex reply.Half u same)
+        subst (λ v. Claimed v u) (sym answer)
+        (pex_half _ _ _ _ _ is there pipe mine (others ∙ other_is) (joined u p l).frame (frame_is u same), answers_pex reply.Half u same)
     free r u (Some k) pipe mine other_is answer same =
         let alive : lives (joined t p l).frame k ≡ true =
         has_end_lives (joined t p l).frame e.entry.object (1 - e.entry.end) k (s.claims.claimant e.entry.object (1 - e.entry.end) k x there other_is) in
-        subst (λ (v : Result Claim Refusal). ClaimedIs v pid fd (joined t p l) (joined u p l)) (sym answer)
-        (alive, (λ y here. pex_whole (joined t p l).frame pid fd e x is there k y pipe mine (others ∙ other_is) here (joined u p l).frame (frame_is u same)), (λ y. answers_pex y u same))
+        subst (λ v. Claimed v u) (sym answer)
+        (alive, (λ y here. pex_whole _ _ _ _ _ is there k y pipe mine (others ∙ other_is) here (joined u p l).frame (frame_is u same)), (λ y. answers_pex y u same))
 
     held_or_free : (r : Result Claim Refusal) (u : Parts) (m : Option ℕ) → is_pipe x ≡ true → at x.claims e.entry.end ≡ m → r ≡ Ok (claim_answer pid m (at x.claims (1 - e.entry.end)))
-        → u ≡ (if option_map_or (λ y. not (y == pid)) m false then t else after becomes_whole) → ClaimedIs r pid fd (joined t p l) (joined u p l)
+        → u ≡ (if option_map_or (λ y. not (y == pid)) m false then t else after becomes_whole) → Claimed r u
     held_or_free r u None pipe m answer same = free r u (at x.claims (1 - e.entry.end)) pipe (ap (λ (o : Option ℕ). option_map_or (λ y. not (y == pid)) o false) m) refl answer same
     held_or_free r u (Some k) pipe m answer same = go (k == pid) refl answer same
       where
         go : (b : Bool) → (k == pid) ≡ b → r ≡ Ok (if b then shared_with (at x.claims (1 - e.entry.end)) else claim.Held (record { 0 = k }))
-            → u ≡ (if not b then t else after becomes_whole) → ClaimedIs r pid fd (joined t p l) (joined u p l)
+            → u ≡ (if not b then t else after becomes_whole) → Claimed r u
         go true h answer same = free r u (at x.claims (1 - e.entry.end)) pipe (ap (λ (o : Option ℕ). option_map_or (λ y. not (y == pid)) o false) m ∙ ap not h) refl answer same
         go false h answer same =
-            subst (λ (v : Result Claim Refusal). ClaimedIs v pid fd (joined t p l) (joined u p l)) (sym answer)
-            (pex_held (joined t p l).frame pid fd e x is there pipe (ap (λ (o : Option ℕ). option_map_or (λ y. not (y == pid)) o false) m ∙ ap not h), ap (λ (v : Parts). joined v p l) same)
+            subst (λ v. Claimed v u) (sym answer)
+            (pex_held _ _ _ _ _ is there pipe (ap (λ (o : Option ℕ). option_map_or (λ y. not (y == pid)) o false) m ∙ ap not h), ap (λ (v : Parts). joined v p l) same)
 
-    by_kind : (r : Result Claim Refusal) (u : Parts) (b : Bool) → is_pipe x ≡ b → ClaimsAt b r pid e t u → ClaimedIs r pid fd (joined t p l) (joined u p l)
+    by_kind : (r : Result Claim Refusal) (u : Parts) (b : Bool) → is_pipe x ≡ b → ClaimsAt b r pid e t u → Claimed r u
     by_kind r u false pipe h =
-        subst (λ (v : Result Claim Refusal). ClaimedIs v pid fd (joined t p l) (joined u p l)) (sym h.0) (
-          pex_no_pipe (joined t p l).frame pid fd e x is there
-              pipe,
-          ap (λ (v : Parts). joined v p l) h.1,
-        )
+        subst (λ v. Claimed v u) (sym h.0) (pex_no_pipe _ _ _ _ _ is there pipe, ap (λ (v : Parts). joined v p l) h.1)
     by_kind r u true pipe h =
         let is_node : node t.objects e.entry.object ≡ x = ap (λ (o : Option Object). unwrap_or o nothing) there in
         let said : Object → Result Claim Refusal = λ y. Ok (claim_answer pid (at y.claims e.entry.end) (at y.claims (1 - e.entry.end))) in
@@ -162,25 +164,25 @@ module _ (t : Parts) (p : ProcTable) (l : Lines) (s : Sound (joined t p l)) (pid
         (h.0 ∙ ap said is_node)
         (h.1 ∙ ap (λ (y : Object). if claimed_by_another y e.entry.end pid then t else after becomes_whole) is_node)
 
-    by_claim : (r : Result (Unit {0}) Refusal) (u : Parts) (a b : Bool) → is_pipe x ≡ a → claimed_by x e.entry.end pid ≡ b → UnclaimsAt a b r e t u → UnclaimedIs r pid fd (joined t p l) (joined u p l)
+    by_claim : (r : Result (Unit {0}) Refusal) (u : Parts) (a b : Bool) → is_pipe x ≡ a → claimed_by x e.entry.end pid ≡ b → UnclaimsAt a b r e t u → Unclaimed r u
     unfolding unpex opened ◌>>=◌ ◌>>◌ on_pass need some refuse pass frame object change_object
-    by_claim r u false b pipe so h = subst (λ (v : Result (Unit {0}) Refusal). UnclaimedIs v pid fd (joined t p l) (joined u p l)) (sym h.0) (rw (is, there, pipe) refl, ap (λ (v : Parts). joined v p l) h.1)
-    by_claim r u true false pipe so h = subst (λ (v : Result (Unit {0}) Refusal). UnclaimedIs v pid fd (joined t p l) (joined u p l)) (sym h.0) (rw (is, there, pipe, so) refl, ap (λ (v : Parts). joined v p l) h.1)
+    by_claim r u false b pipe so h = subst (λ v. Unclaimed v u) (sym h.0) (rw (is, there, pipe) refl, ap (λ (v : Parts). joined v p l) h.1)
+    by_claim r u true false pipe so h = subst (λ v. Unclaimed v u) (sym h.0) (rw (is, there, pipe, so) refl, ap (λ (v : Parts). joined v p l) h.1)
     by_claim r u true true pipe so h =
-        subst (λ (v : Result (Unit {0}) Refusal). UnclaimedIs v pid fd (joined t p l) (joined u p l)) (sym h.0)
+        subst (λ v. Unclaimed v u) (sym h.0)
         (rw (is, there, pipe, so) (ap (λ (v : Parts). Pass reply.Done (joined v p l).frame) (sym h.1)), ap (λ (v : Parts). (joined v p l).content) h.1)
 
-  by_entry : (r : Result Claim Refusal) (u : Parts) (b : Option OpenFile) → behind (joined t p l).frame pid fd ≡ b → ClaimsBehind b r pid t u → ClaimedIs r pid fd (joined t p l) (joined u p l)
+  by_entry : (r : Result Claim Refusal) (u : Parts) (b : Option OpenFile) → behind (joined t p l).frame pid fd ≡ b → ClaimsBehind b r pid t u → Claimed r u
   by_entry r u None is h =
-      subst (λ (v : Result Claim Refusal). ClaimedIs v pid fd (joined t p l) (joined u p l)) (sym h.0) (pex_none (joined t p l).frame pid fd is, ap (λ (v : Parts). joined v p l) h.1)
+      subst (λ v. Claimed v u) (sym h.0) (pex_none _ _ _ is, ap (λ (v : Parts). joined v p l) h.1)
   by_entry r u (Some e) is h =
       let st = stands (joined t p l).frame e.id e.entry s.opens (behind_is (joined t p l).frame pid fd e is) in
       by_kind e st.object is st.is_object r u (is_pipe st.object) refl (subst (λ (y : Object). ClaimsAt (is_pipe y) r pid e t u) (ap (λ (o : Option Object). unwrap_or o nothing) st.is_object) h)
 
   by_claimed : (r : Result (Unit {0}) Refusal) (u : Parts) (b : Option OpenFile) → behind (joined t p l).frame pid fd ≡ b → UnclaimsBehind b r pid t u
-      → UnclaimedIs r pid fd (joined t p l) (joined u p l)
+      → Unclaimed r u
   by_claimed r u None is h =
-      subst (λ (v : Result (Unit {0}) Refusal). UnclaimedIs v pid fd (joined t p l) (joined u p l)) (sym h.0) (unpex_none (joined t p l).frame pid fd is, ap (λ (v : Parts). joined v p l) h.1)
+      subst (λ v. Unclaimed v u) (sym h.0) (unpex_none _ _ _ is, ap (λ (v : Parts). joined v p l) h.1)
   by_claimed r u (Some e) is h =
       let st = stands (joined t p l).frame e.id e.entry s.opens (behind_is (joined t p l).frame pid fd e is) in
       by_claim e st.object is st.is_object r u (is_pipe st.object) (claimed_by st.object e.entry.end pid) refl refl
@@ -188,13 +190,13 @@ module _ (t : Parts) (p : ProcTable) (l : Lines) (s : Sound (joined t p l)) (pid
       h)
 
   claimed_there : (r : Result Claim Refusal) (c : Caller) (q : Process) (u : Parts) → living (at p.processes pid) ≡ Some q → q.fds ≡ c.fds → c.pid.0 ≡ pid
-      → Claims r c fd t u → ClaimedIs r pid fd (joined t p l) (joined u p l)
+      → Claims r c fd t u → Claimed r u
   claimed_there r c q u is fds id h =
       by_entry r u (behind (joined t p l).frame pid fd) refl (subst (λ (b : Option OpenFile). ClaimsBehind b r pid t u) (behind_by t p l pid fd c q is fds)
       (subst (λ (n : ℕ). ClaimsBehind (entry_of c fd t) r n t u) id h))
 
   unclaimed_there : (r : Result (Unit {0}) Refusal) (c : Caller) (q : Process) (u : Parts) → living (at p.processes pid) ≡ Some q → q.fds ≡ c.fds
-      → c.pid.0 ≡ pid → Unclaims r c fd t u → UnclaimedIs r pid fd (joined t p l) (joined u p l)
+      → c.pid.0 ≡ pid → Unclaims r c fd t u → Unclaimed r u
   unclaimed_there r c q u is fds id h =
       by_claimed r u (behind (joined t p l).frame pid fd) refl (subst (λ (b : Option OpenFile). UnclaimsBehind b r pid t u) (behind_by t p l pid fd c q is fds)
       (subst (λ (n : ℕ). UnclaimsBehind (entry_of c fd t) r n t u) id h))

@@ -1,7 +1,7 @@
 -- What stands behind a descriptor, with its offset and its owners, and how much an object holds, in the files' parts and in the world.
-use Rattle.std.proofs.Common.{◌≡◌, ◌<◌, ℕ, Bool, true, false, not, length, slice_index_or, if◌then◌else◌, Option, Some, None, option_map, refl, sym, ap, ◌∙◌}
+use Rattle.std.proofs.Common.{◌≡◌, ◌<◌, ℕ, Bool, true, false, not, length, slice_index_or, if◌then◌else◌, Option, Some, None, option_map, refl, ap, ◌∙◌}
 use Rattle.std.specs.Option.{option_map_or}
-use Rattle.ix_model.specs.{world.World.{World, Frame, Process, at, living, lives}, history.Views.{size_at, bytes_inside}, declared.views.Caller.Caller}
+use Rattle.ix_model.specs.{world.World.{World, Process, at, living, lives}, history.Views.{size_at, bytes_inside}, declared.views.Caller.Caller}
 use Rattle.ix_model.specs.rows.Walks.{OpenFile, behind, behind_of}
 use Rattle.ix_model.proofs.{tables.Finds.in_table, words.Standing.behind_is}
 use Rattle.ix_audit.specs.Lines.{Lines}

@@ -17,11 +17,11 @@ let_go-requires g c = (
 )
 
 pub put-requires : goal.put-requires
-put-requires g c = put_lives _ _ _ _ _ _ c.self.view_is c.requires.1.1.0 (c.let_go.ensures.pid ∙ c.who.ensures.pid)
+put-requires g c = put_lives c.self.inside.files c.self.inside.procs c.self.inside.log _ _ _ c.self.view_is c.requires.1.1.0 (c.let_go.ensures.pid ∙ c.who.ensures.pid)
 
 pub end-requires : goal.end-requires
 end-requires g c =
-    let h = end_asks _ _ _ _ _ _ _ c.self.view_is c.requires.1.1.0 c.requires.1.1.1 c.put.ensures in
+    let h = end_asks c.self.inside.files _ _ c.self.inside.log _ _ _ c.self.view_is c.requires.1.1.0 c.requires.1.1.1 c.put.ensures in
     record { lives = h.0; childless = h.1 }
 
 pub invariant_of-self : goal.invariant_of-self

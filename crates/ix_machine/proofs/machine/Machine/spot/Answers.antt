@@ -6,4 +6,4 @@ pub returns-then-not-lives : goal.returns-then-not-lives
 returns-then-not-lives c = no_spot _ _ _ (sym c.lives.ensures ∙ c.if-not-lives.true)
 
 pub returns : goal.returns
-returns c = spot_is _ _ _ _ c.self.view_is _ _ _ _ _ c.who.ensures.living refl c.spot.ensures
+returns c = spot_is c.self.inside.files c.self.inside.procs c.self.inside.log _ c.self.view_is _ _ c.who.result.now _ _ c.who.ensures.living refl c.spot.ensures

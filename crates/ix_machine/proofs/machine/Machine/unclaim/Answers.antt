@@ -3,7 +3,7 @@ use Rattle.ix_machine.proofs.Claims.{unclaimed_is, unclaims_joined}
 use Rattle.ix_machine.proofs.machine.Machine.unclaim.Goals as goal
 
 pub invariant_of-self : goal.invariant_of-self
-invariant_of-self c = unclaims_joined _ _ _ _ _ _ _ c.self.invariant c.unclaim.ensures
+invariant_of-self c = unclaims_joined _ _ _ _ c.unclaim.result c.who.result.now c.args.fd.0 c.self.invariant c.unclaim.ensures
 
 pub returns : goal.returns
-returns c = unclaimed_is _ _ _ _ _ _ _ _ _ _ c.self.view_is c.requires.sound c.who.ensures.living refl c.who.ensures.pid c.unclaim.ensures
+returns c = unclaimed_is _ _ c.self.inside.procs c.self.inside.log _ _ _ _ c.who.result.now _ c.self.view_is c.requires.sound c.who.ensures.living refl c.who.ensures.pid c.unclaim.ensures
