@@ -2,14 +2,14 @@
 use Rattle.std.proofs.Common.{◌≡◌, ◌≢◌, ◌==◌, ◌&&◌, ◌≤◌, ◌<◌, ℕ, Bool, true, false, not, true≢false, List, length, position, Option, Some, None, refl, sym, ap, ◌∙◌, subst, inl, inr}
 use Rattle.std.specs.{Option.option_map_or, List.list_all}
 use Rattle.std.proofs.lemmas.{Bool.{and_parts, eq-eqb, Decides.eqb_tells}, List.{get_or-set_other, get_or_append_left, Quantifiers.position-Some}}
-use Rattle.ix_model.specs.{world.World.{World, Frame, Object, Process, Open, at, lives, is_ended}, rows.{Auditing.logged, OnDescriptors.LengthChecks}}
-use Rattle.ix_model.specs.rows.{Rows.{put_object, put_open, put_process, add_process, change_object, change_process, change_open}, Refusals.keeps_label}
+use Rattle.ix_model.specs.{world.World.{World, Frame, Process, at, lives, is_ended}, rows.{OnDescriptors.LengthChecks}}
+use Rattle.ix_model.specs.rows.{Rows.{put_process, add_process, change_process}, Refusals.keeps_label}
 use Rattle.ix_model.{specs.{rows.{OnProcesses.{is_child, end_process, exit, wait_child}, Table.row, Telling.told}, laws.Sound.Sound}, proofs.refused.RefusedSteps.refused_step}
-use Rattle.ix_model.specs.{history.{Step.step, Systems.FitsCall, Events.Op}, declared.{audit.AuditLine.AuditLine, refusal.Refusal.Refusal, reply.Reply.Reply}}
+use Rattle.ix_model.specs.{history.{Step.step, Systems.FitsCall, Events.Op}, declared.{refusal.Refusal.Refusal, reply.Reply.Reply}}
 use Rattle.ix_model.proofs.{tables.{Tables.seen_changed, Finds.in_table}, words.{LetGo.{LetsGo, keeps_let_go_all}, Lasts.decided}, told.Replies.replies_fit}
 use Rattle.ix_model.proofs.words.{Keeps.{Holds, Keeps, keeps_bind, keeps_then, keeps_pass, keeps_need, keeps_record_of}, Answered.step_frame}
 use Rattle.ix_model.proofs.words.Rowwise.{Change, Ending, Words, changes_of, keeps_bind_frame, keeps_bind_some, kept_observe, kept_row}
-use Rattle.ix_core.specs.Marking.{has_exited}
+use Rattle.ix_core.{specs.Marking.has_exited, proofs.Beside.words_beside}
 use Rattle.ix_model.specs.history.Events as op
 use Rattle.ix_model.specs.declared.reply.Reply.TheVariants as reply
 
@@ -42,26 +42,6 @@ module _ (n : ℕ) where
   Alive g = lives g n ≡ true
 
   -- ---- the words
-  a_object : (o : ℕ) (h : Object → Object) → Keeps Alive (change_object o h)
-  unfolding change_object Holds
-  a_object o h = record { led = λ g r. r }
-
-  a_put_object : (o : ℕ) (x : Option Object) → Keeps Alive (put_object o x)
-  unfolding put_object Holds
-  a_put_object o x = record { led = λ g r. r }
-
-  a_open : (e : ℕ) (h : Open → Open) → Keeps Alive (change_open e h)
-  unfolding change_open Holds
-  a_open e h = record { led = λ g r. r }
-
-  a_put_open : (e : ℕ) (x : Option Open) → Keeps Alive (put_open e x)
-  unfolding put_open Holds
-  a_put_open e x = record { led = λ g r. r }
-
-  a_logged : (l : AuditLine) → Keeps Alive (logged l)
-  unfolding logged Holds
-  a_logged l = record { led = λ g r. r }
-
   a_process : (p : ℕ) (h : Process → Process) → ((q : Process) → (h q).ended ≡ q.ended) → Keeps Alive (change_process p h)
   unfolding change_process Holds
   a_process p h same = record { led = λ g r. seen_changed alive h (λ q. ap not (same q)) g.processes p n ∙ r }
@@ -88,24 +68,7 @@ module _ (n : ℕ) where
       record { led = λ g r. ap alive (get_or-set_other g.processes c n None None apart) ∙ r }
 
   words : (pid : ℕ) → Words ends_nothing pid Alive
-  words pid = record {
-    object = λ o h same. a_object o h;
-    process = λ p h same. a_process p h (λ q. ap (λ x. x.ended) (same q));
-    float = λ h same. a_process _ h (λ q. ap (λ x. x.ended) (same q));
-    entry = λ e x low. a_put_open e _;
-    through = λ can e l. a_open e _;
-    unclaim = λ o end. a_object o _;
-    relabel = λ can o h same. a_object o h;
-    claim = λ can o h same. a_object o h;
-    log = λ can. a_logged;
-    inode = λ can g o k kind r free. a_put_object o _;
-    pipe = λ can g o r free. a_put_object o _;
-    gone_object = λ can o. a_put_object o _;
-    gone_open = λ can e. a_put_open e _;
-    fork = λ can q. a_add q;
-    end = λ can. cc;
-    collect = λ can. cc;
-  }
+  words pid = words_beside ends_nothing Alive (λ f g same r. sym (ap (λ t. alive (at t n)) same) ∙ r) pid a_process (λ can q. a_add q) (λ can. cc) (λ can. cc)
 
   -- ---- a wait
   a_wait_child : (pid : ℕ) → Keeps Alive (wait_child pid)
@@ -117,7 +80,7 @@ module _ (n : ℕ) where
 
   -- ---- an exit
   a_going : (pid : ℕ) → LetsGo Alive pid
-  a_going pid = record { free = λ fd. a_process _ _ (λ q. refl); unclaim = λ o end. a_object o _; close = λ e. a_put_open e _; gone = λ o. a_put_object o _ }
+  a_going pid = let w = words pid in record { free = λ fd. a_process _ _ (λ q. refl); unclaim = w.unclaim; close = w.gone_open refl; gone = w.gone_object refl }
 
   a_exit : (pid : ℕ) → n ≢ pid → Keeps Alive (exit pid)
   unfolding exit

@@ -3,13 +3,13 @@ use Rattle.std.proofs.Common.{◌≡◌, ◌==◌, ◌&&◌, ◌||◌, ◌≤◌
 use Rattle.std.{proofs.{Common.{option_map, if◌then◌else◌, sym, ap, ◌∙◌, subst, arith, inl, inr}, lemmas.Bool.{and_parts, or_cases, not-true, eqb-true}}, specs.Option.option_map_or}
 use Rattle.ix_label.specs.{Category.{Categories, bottom, same}, Lattice.same-decides}
 use Rattle.ix_float.specs.declared.mark.Way.{Way}
-use Rattle.ix_model.specs.{world.World.{World, Frame, Object, Process, Open, at, living, lives}, rows.Walks.{OpenFile, behind}, laws.Sound.Sound, declared.{ids.Fd.Fd, reply.Reply.Reply}}
+use Rattle.ix_model.specs.{world.World.{World, Frame, Process, at, living, lives}, rows.Walks.{OpenFile, behind}, laws.Sound.Sound, declared.{ids.Fd.Fd, reply.Reply.Reply}}
 use Rattle.ix_model.specs.history.{AuditLog.{label_at, of_process}, Events.Op, Freshness.{refreshes, closes}, Step.step}
 use Rattle.ix_model.proofs.{frames.Claimants.is_behind, tables.Finds.in_table, words.{Fixed.fixed_step, Living.{is_living, not_ended}}}
 use Rattle.ix_fresh.specs.{Laws.{Spot, KnownChangesNothing, spot_behind}, Touched.{target, entry_target, label_of_entry, is_one, touches}}
 use Rattle.ix_fresh.proofs.{Freshly.{read_facts, write_facts}, Remaining.turned}
 use Rattle.ix_fcalls.specs.Tested.{IsKnown}
-use Rattle.ix_marks.specs.Known.{Known, spot_of, has_row}
+use Rattle.ix_marks.specs.Known.{Known, spot_of, has_row, unless}
 use Rattle.ix_core.specs.Marking.{way_of, spot_in, sizes_of, AreReady, AreKnown, AreTold, CanRefresh, call_by, mark_through, spot_through, other_process}
 use Rattle.ix_core.specs.Marking.{other_object, other_entry, unless_object, unless_entry, unless_closed, has_exited, refreshed, or_refreshed}
 use Rattle.ix_core.proofs.{Living.lives_on, Unmoved.{known_still, self_still}}
@@ -26,31 +26,39 @@ abbrev seen : Mark → Option Spot
 seen s = option_map spot_in s
 
 -- ---- what goes, in the words of freshness
-kept_if : (a b : Bool) (x : marked.Spot) → a ≡ b → seen (if a then None else Some x) ≡ (if b && true then None else Some (spot_in x))
-kept_if true true x same = refl
-kept_if false false x same = refl
-kept_if true false x same = cc
-kept_if false true x same = cc
+stays_if : {A : Type 0} (b : Bool) (x y : A) → y ≡ (if b && false then x else y)
+stays_if true x y = refl
+stays_if false x y = refl
 
-still_kept : (b : Bool) (y : Spot) → Some y ≡ (if b && false then None else Some y)
-still_kept true y = refl
-still_kept false y = refl
+and_no : (a b : Bool) → b ≡ false → (a && b) ≡ false
+and_no true b off = off
+and_no false b off = refl
+
+seen_if : (b : Bool) (s : Mark) → seen (if b then None else s) ≡ (if b then None else seen s)
+seen_if true s = refl
+seen_if false s = refl
+
+with_true : (b : Bool) → b ≡ (b && true)
+with_true true = refl
+with_true false = refl
+
+unless_never : (test : Spot → Bool) → ((s : Spot) → test s ≡ false) → (s : Option Spot) → s ≡ laws.unless test s
+unless_never test never None = refl
+unless_never test never (Some s) = ap (λ b. if b then None else Some s) (sym (never s))
+
+unless_told : (on : marked.Spot → Bool) (there : Spot → Bool) → ((x : marked.Spot) → on x ≡ there (spot_in x)) → (s : Mark) → seen (unless on s) ≡ laws.unless there (seen s)
+unless_told on there same None = refl
+unless_told on there same (Some x) = seen_if (on x) (Some x) ∙ ap (λ b. if b then None else Some (spot_in x)) (same x)
 
 object_told : (o : Option ℕ) (moved : Bool) (s : Mark) → seen (unless_object o moved s) ≡ laws.unless (λ x. is_one o (Some x.object) && moved) (seen s)
-object_told None moved None = refl
-object_told None moved (Some x) = refl
-object_told (Some o) false None = refl
-object_told (Some o) false (Some x) = still_kept _ _
-object_told (Some o) true None = refl
-object_told (Some o) true (Some x) = kept_if _ _ x (turned _ o)
+object_told (Some o) true s = unless_told _ _ (λ x. turned _ o ∙ with_true _) s
+object_told (Some o) false s = unless_never _ (λ x. and_no _ _ refl) _
+object_told None moved s = unless_never _ (λ x. refl) _
 
 entry_told : (e : Option ℕ) (moved : Bool) (s : Mark) → seen (unless_entry e moved s) ≡ laws.unless (λ x. is_one e (Some x.entry) && moved) (seen s)
-entry_told None moved None = refl
-entry_told None moved (Some x) = refl
-entry_told (Some e) false None = refl
-entry_told (Some e) false (Some x) = still_kept _ _
-entry_told (Some e) true None = refl
-entry_told (Some e) true (Some x) = kept_if _ _ x (turned _ e)
+entry_told (Some e) true s = unless_told _ _ (λ x. turned _ e ∙ with_true _) s
+entry_told (Some e) false s = unless_never _ (λ x. and_no _ _ refl) _
+entry_told None moved s = unless_never _ (λ x. refl) _
 
 one_of_two : (test : Spot → Bool) (b : Bool) (x : Spot) → laws.unless test (if b then None else Some x) ≡ (if b || test x then None else Some x)
 one_of_two test true x = refl
@@ -65,38 +73,9 @@ three false p q (Some x) = one_of_two q _ _
 
 -- ---- what is closed
 closed_told : (pid : ℕ) (o : Op) (r : Reply) (q d : ℕ) (s : Mark) → seen (unless_closed pid o r q d s) ≡ (if pid == q && closes d o r then None else seen s)
-closed_told pid (op.CloseFd fd) reply.Done q d s = go (q == pid) (pid == q) (turned q _) (d == fd) (fd == d) (turned d fd)
-  where
-    go : (a b : Bool) → a ≡ b → (x y : Bool) → x ≡ y → seen (if a && x then None else s) ≡ (if b && y then None else seen s)
-    go true true same true true one = refl
-    go true true same false false one = refl
-    go false false same x y one = refl
-    go true false same x y one = cc
-    go false true same x y one = cc
-    go true true same true false one = cc
-    go true true same false true one = cc
-closed_told pid (op.Exit status) reply.Done q d s = go _ _ (turned q _)
-  where
-    go : (a b : Bool) → a ≡ b → seen (if a then None else s) ≡ (if b && true then None else seen s)
-    go true true same = refl
-    go false false same = refl
-    go true false same = cc
-    go false true same = cc
-closed_told pid (op.CloseFd fd) _ q d s = stays _
-  where
-    stays : (b : Bool) → seen s ≡ (if b && false then None else seen s)
-    stays true = refl
-    stays false = refl
-closed_told pid (op.Exit status) _ q d s = stays _
-  where
-    stays : (b : Bool) → seen s ≡ (if b && false then None else seen s)
-    stays true = refl
-    stays false = refl
-closed_told pid _ r q d s = stays _
-  where
-    stays : (b : Bool) → seen s ≡ (if b && false then None else seen s)
-    stays true = refl
-    stays false = refl
+closed_told pid (op.CloseFd fd) reply.Done q d s = seen_if (q == pid && d == fd) s ∙ (λ i. if turned q pid i && turned d fd i then None else seen s)
+closed_told pid (op.Exit status) reply.Done q d s = seen_if (q == pid) s ∙ ap (λ b. if b then None else seen s) (turned q pid ∙ with_true (pid == q))
+closed_told pid _ r q d s = stays_if _ _ _
 
 -- ---- what is refreshed
 -- the mark of that descriptor gets the spot, and any other stays
@@ -113,30 +92,17 @@ set_told f pid fd q d spot s is = go _ _ (turned q _) (eqb-true pid q) _ _ (turn
     go true true same one true false there other = cc
     go true true same one false true there other = cc
 
-not_set : (f : Frame) (a x b : Bool) (q d : ℕ) (spot s : Mark) → seen (if a && (x && false) then spot else s) ≡ (if b && false then spot_behind f q d else seen s)
-not_set f true true true q d spot s = refl
-not_set f true true false q d spot s = refl
-not_set f true false true q d spot s = refl
-not_set f true false false q d spot s = refl
-not_set f false x true q d spot s = refl
-not_set f false x false q d spot s = refl
-
-none_set : (f : Frame) (b : Bool) (q d : ℕ) (s : Mark) → seen s ≡ (if b && false then spot_behind f q d else seen s)
-none_set f true q d s = refl
-none_set f false q d s = refl
+not_set : (a x b : Bool) (spot s : Mark) (here : Option Spot) → seen (if a && (x && false) then spot else s) ≡ (if b && false then here else seen s)
+not_set a x b spot s here = ap (λ c. seen (if c then spot else s)) (and_no a _ (and_no x _ refl)) ∙ stays_if b here (seen s)
 
 refreshed_told : (f : Frame) (pid : ℕ) (o : Op) (r : Reply) (spot : Mark) (q d : ℕ) (v : Way) (s : Mark) → seen spot ≡ spot_through f pid o
     → seen (or_refreshed pid (refreshed o r) spot q d v s) ≡ (if pid == q && refreshes (way_of v) d o r then spot_behind f q d else seen s)
 refreshed_told f pid (op.ReadFd fd count) (reply.Bytes k) spot q d way.Reading s is = set_told f _ fd q d _ s is
-refreshed_told f pid (op.ReadFd fd count) (reply.Bytes k) spot q d way.Writing s is = not_set f _ _ _ q d _ s
-refreshed_told f pid (op.ReadFd fd count) _ spot q d way.Reading s is = none_set f _ q d s
-refreshed_told f pid (op.ReadFd fd count) _ spot q d way.Writing s is = none_set f _ q d s
+refreshed_told f pid (op.ReadFd fd count) (reply.Bytes k) spot q d way.Writing s is = not_set _ _ _ _ s _
 refreshed_told f pid (op.WriteFd fd bytes) (reply.Number k) spot q d way.Writing s is = set_told f _ fd q d _ s is
-refreshed_told f pid (op.WriteFd fd bytes) (reply.Number k) spot q d way.Reading s is = not_set f _ _ _ q d _ s
-refreshed_told f pid (op.WriteFd fd bytes) _ spot q d way.Reading s is = none_set f _ q d s
-refreshed_told f pid (op.WriteFd fd bytes) _ spot q d way.Writing s is = none_set f _ q d s
-refreshed_told f pid _ r spot q d way.Reading s is = none_set f _ q d s
-refreshed_told f pid _ r spot q d way.Writing s is = none_set f _ q d s
+refreshed_told f pid (op.WriteFd fd bytes) (reply.Number k) spot q d way.Reading s is = not_set _ _ _ _ s _
+refreshed_told f pid _ r spot q d way.Reading s is = stays_if _ _ _
+refreshed_told f pid _ r spot q d way.Writing s is = stays_if _ _ _
 
 -- ---- all together
 -- what a call leaves of a spot, by its reply and the frame after it
@@ -227,10 +193,6 @@ not_exited (op.ReadFd fd count) r x is = refl
 not_exited (op.WriteFd fd bytes) r x is = refl
 not_exited _ r x is = cc
 
-and_no : (a b : Bool) → b ≡ false → (a && b) ≡ false
-and_no true b off = off
-and_no false b off = refl
-
 some_is : {A : Type 0} (x : Option A) → is_some x ≡ true → (y : A) × (x ≡ Some y)
 some_is None h = cc
 some_is (Some y) h = (y, refl)
@@ -263,22 +225,21 @@ still_sized w place pid o m n ready same =
 no_label : (a b : Categories) → a ≡ b → not (same a b) ≡ true → ⊥
 no_label a b is h = true≢false (sym h ∙ ap not ((same-decides a b).1 is))
 
+row_inside : {A : Type 0} (label : A → Categories) (t u : List (Option A)) (n : ℕ) (was : Categories) → length u ≡ length t → was ≡ option_map_or label (at t n) bottom
+    → not (same was (option_map_or label (at u n) bottom)) ≡ true → n < length t
+row_inside {A} label t u n was long is moved = go (at t n) refl (at u n) refl
+  where
+    go : (x : Option A) → at t n ≡ x → (y : Option A) → at u n ≡ y → n < length t
+    go (Some x) here y there = in_table t n x here
+    go None here (Some y) there = omega (arith, long, in_table u n y there)
+    go None here None there = absurd (no_label _ _ (is ∙ ap (λ z. option_map_or label z bottom) (here ∙ sym there)) moved)
+
 pub object_inside : (f g : Frame) (o : ℕ) (was : Categories) → length g.objects ≡ length f.objects → was ≡ label_at f (Some o) → other_object was g (Some o) ≡ true → o < length f.objects
 unfolding label_at
-object_inside f g o was long is moved = go (at _ o) refl (at _ o) refl
-  where
-    go : (x : Option Object) → at f.objects o ≡ x → (y : Option Object) → at g.objects o ≡ y → o < length f.objects
-    go (Some x) here y there = in_table _ o x here
-    go None here (Some y) there = omega (arith, long, in_table g.objects o y there)
-    go None here None there = absurd (no_label _ _ (is ∙ ap (λ z. option_map_or (λ x. x.label) z bottom) (here ∙ sym there)) moved)
+object_inside f g = row_inside (λ x. x.label) f.objects g.objects
 
 pub entry_inside : (f g : Frame) (e : ℕ) (was : Categories) → length g.opens ≡ length f.opens → was ≡ label_of_entry f (Some e) → other_entry was g (Some e) ≡ true → e < length f.opens
-entry_inside f g e was long is moved = go (at _ e) refl (at _ e) refl
-  where
-    go : (x : Option Open) → at f.opens e ≡ x → (y : Option Open) → at g.opens e ≡ y → e < length f.opens
-    go (Some x) here y there = in_table _ e x here
-    go None here (Some y) there = omega (arith, long, in_table g.opens e y there)
-    go None here None there = absurd (no_label _ _ (is ∙ ap (λ z. option_map_or (λ x. x.label) z bottom) (here ∙ sym there)) moved)
+entry_inside f g = row_inside (λ x. x.label) f.opens g.opens
 
 -- ---- a call that looks at no label
 pub known_call : (m : Known) (f : Frame) (pid : ℕ) (o : Op) → AreKnown m f → is_some (mark_through m pid o) ≡ true → IsKnown f pid o
@@ -295,10 +256,6 @@ touches_nothing f pid o q object entry = go _ _ _ _ _ _ (itself _) (itself _) (i
     go : (a b c x y z : Bool) → x ≡ false → y ≡ false → z ≡ false → (a && x || b && y || c && z) ≡ false
     go a b c x y z one two three = (λ i. and_no a x one i || and_no b y two i || and_no c z three i)
 
-unless_never : (test : Spot → Bool) → ((s : Spot) → test s ≡ false) → (s : Option Spot) → s ≡ laws.unless test s
-unless_never test never None = refl
-unless_never test never (Some s) = ap (λ b. if b then None else Some s) (sym (never s))
-
 -- it closes nothing, and what it refreshes was marked
 closes_not : (m : Known) (pid d : ℕ) (o : Op) (r : Reply) → is_some (mark_through m pid o) ≡ true → closes d o r ≡ false
 closes_not m pid d (op.ReadFd fd count) r h = refl
@@ -313,10 +270,8 @@ refreshes_marked m pid (op.ReadFd fd count) (reply.Bytes k) q d way.Reading h on
 refreshes_marked m pid (op.WriteFd fd bytes) (reply.Number k) q d way.Writing h on =
     let both = and_parts _ _ on in
     ap (λ n. is_some (spot_of m n d way.Writing)) (sym (eqb-true pid q both.0)) ∙ ap (λ n. is_some (spot_of m pid n way.Writing)) (sym (eqb-true fd d both.1)) ∙ h
-refreshes_marked m pid (op.ReadFd fd count) (reply.Bytes k) q d way.Writing h on = absurd (true≢false (sym (and_parts _ false on).1))
 refreshes_marked m pid (op.ReadFd fd count) _ q d way.Reading h on = absurd (true≢false (sym (and_parts _ false on).1))
 refreshes_marked m pid (op.ReadFd fd count) _ q d way.Writing h on = absurd (true≢false (sym (and_parts _ false on).1))
-refreshes_marked m pid (op.WriteFd fd bytes) (reply.Number k) q d way.Reading h on = absurd (true≢false (sym (and_parts _ false on).1))
 refreshes_marked m pid (op.WriteFd fd bytes) _ q d way.Reading h on = absurd (true≢false (sym (and_parts _ false on).1))
 refreshes_marked m pid (op.WriteFd fd bytes) _ q d way.Writing h on = absurd (true≢false (sym (and_parts _ false on).1))
 refreshes_marked m pid _ r q d v h on = cc

@@ -1,10 +1,11 @@
 -- A call makes one process at most, so pids stay few as long as entries do.
-use Rattle.std.{proofs.Common.{◌≡◌, ◌≤◌, ◌+◌, ℕ, suc, Bool, true, false, List, [], ◌∷◌, ◌++◌, length, nat_lt, count_by, is_some, Option, Some, None, refl, sym}, specs.List.list_all}
+use Rattle.std.{proofs.Common.{◌≡◌, ◌≤◌, ◌+◌, ℕ, suc, Bool, true, false, List, [], ◌∷◌, ◌++◌, length, nat_lt, count_by, is_some, Option, Some, None, refl, sym, ap}, specs.List.list_all}
 use Rattle.std.proofs.Common.{subst, arith, length-set, length-append}
-use Rattle.ix_model.specs.{world.World.{World, Frame, Process, at, living}, rows.{Auditing.logged, OnProcesses.{end_process, fork, has_kept}, Rows.{put_process, add_process, change_open}}}
+use Rattle.ix_model.specs.{world.World.{World, Frame, Process, at, living}, rows.{OnProcesses.{end_process, fork, has_kept}, Rows.{put_process, add_process}}}
 use Rattle.ix_model.specs.{rows.{OnDescriptors.LengthChecks, Table.{row, verdict}, Telling.told}, declared.call.Keep.Keep, history.{Step.{step, step_of, run}, Events.{Op, Event}}}
-use Rattle.ix_model.specs.rows.Rows.{◌>>=◌, ◌>>◌, on_pass, process, some, need, frame, pass, refuse, change_object, change_process, put_object, put_open}
+use Rattle.ix_model.specs.rows.Rows.{◌>>=◌, ◌>>◌, on_pass, process, some, need, frame, pass, refuse, change_process}
 use Rattle.ix_model.proofs.words.{Keeps.{Holds, Keeps}, Rowwise.{Change, Forking, Words, changes_of, kept_row}, Lasts.decided, Answered.step_frame}
+use Rattle.ix_core.proofs.Beside.{words_beside}
 use Rattle.ix_model.specs.history.Events as op
 
 -- so many pids more than there were
@@ -28,22 +29,6 @@ with_processes : (n : ℕ) (f g : Frame) (t : List (Option Process)) → length 
 with_processes n f g t same r = record { few = omega (arith, same, r.few) }
 
 module _ (n : ℕ) (f : Frame) where
-  grown_object : (o : ℕ) (x : Option _) → Keeps (Grown n f) (put_object o x)
-  unfolding put_object Holds
-  grown_object o x = record { led = λ g r. record { few = r.few } }
-
-  grown_changed : (o : ℕ) (h : _) → Keeps (Grown n f) (change_object o h)
-  unfolding change_object Holds
-  grown_changed o h = record { led = λ g r. record { few = r.few } }
-
-  grown_entry : (e : ℕ) (x : Option _) → Keeps (Grown n f) (put_open e x)
-  unfolding put_open Holds
-  grown_entry e x = record { led = λ g r. record { few = r.few } }
-
-  grown_opened : (e : ℕ) (h : _) → Keeps (Grown n f) (change_open e h)
-  unfolding change_open Holds
-  grown_opened e h = record { led = λ g r. record { few = r.few } }
-
   grown_process : (p : ℕ) (h : Process → Process) → Keeps (Grown n f) (change_process p h)
   unfolding change_process Holds
   grown_process p h = record { led = λ g r. with_processes n f g _ (length-set g.processes p _) r }
@@ -56,29 +41,9 @@ module _ (n : ℕ) (f : Frame) where
   unfolding end_process
   grown_end p = record { led = λ g r. (grown_put p _).led g r }
 
-  grown_log : (l : _) → Keeps (Grown n f) (logged l)
-  unfolding logged Holds
-  grown_log l = record { led = λ g r. record { few = r.few } }
-
   grown_words : (pid : ℕ) → Words makes_no_process pid (Grown n f)
-  grown_words pid = record {
-    object = λ o h same. grown_changed o h;
-    process = λ p h same. grown_process p h;
-    float = λ h same. grown_process _ h;
-    entry = λ e x low. grown_entry e _;
-    through = λ can e l. grown_opened e _;
-    unclaim = λ o end. grown_changed o _;
-    relabel = λ can o h same. grown_changed o h;
-    claim = λ can o h same. grown_changed o h;
-    log = λ can. grown_log;
-    inode = λ can g o k kind r free. grown_object o _;
-    pipe = λ can g o r free. grown_object o _;
-    gone_object = λ can o. grown_object o _;
-    gone_open = λ can e. grown_entry e _;
-    fork = λ can q. cc;
-    end = λ can. grown_end _;
-    collect = λ can p. grown_put p _;
-  }
+  grown_words pid = words_beside makes_no_process (Grown n f) (λ g h same r. record { few = omega (arith, ap length same, r.few) }) pid
+      (λ p h ended. grown_process p h) (λ can q. cc) (λ can. grown_end _) (λ can p. grown_put p _)
 
 -- ---- a fork
 no_more : (f : Frame) → Grown 1 f f

@@ -8,27 +8,17 @@ use Rattle.ix_core.proofs.marking.call_checked.Goals as goal
 
 pub tell_object-requires-clause-object : goal.tell_object-requires-clause-object
 tell_object-requires-clause-object g c o named moved =
-    let w = c.args.machine.now in
-    let c_op = op_of c.args.call.now in
     let b = c.seen_before-before.ensures in
-    let after = ap (λ u. u.frame) c.call-reply.ensures.world in
-    let long = ap (λ f. length f.objects) after ∙ (fixed_step w _ _ _).objects in
-    let was = b.object_label ∙ ap (label_at w.frame) (sym b.object ∙ named) in
-    let low = object_inside _ _ o _ long was moved in
-    let sizes = ap (λ z. z.objects) (c.tell_process.ensures.sizes ∙ c.requires.ready.sizes) in
-    omega (arith, low, sizes)
+    let low = object_inside c.args.machine.now.frame c.call-reply.new.self.frame o _ (ap (λ u. length u.frame.objects) c.call-reply.ensures.world ∙ (fixed_step c.args.machine.now _ _ _).objects)
+    (b.object_label ∙ ap (label_at c.args.machine.now.frame) (sym b.object ∙ named)) moved in
+    omega (arith, low, ap (λ z. z.objects) (c.tell_process.ensures.sizes ∙ c.requires.ready.sizes))
 
 pub tell_entry-requires-clause-entry : goal.tell_entry-requires-clause-entry
 tell_entry-requires-clause-entry g c e named moved =
-    let w = c.args.machine.now in
-    let c_op = op_of c.args.call.now in
     let b = c.seen_before-before.ensures in
-    let after = ap (λ u. u.frame) c.call-reply.ensures.world in
-    let long = ap (λ f. length f.opens) after ∙ (fixed_step w _ _ _).opens in
-    let was = b.entry_label ∙ ap (label_of_entry w.frame) (sym b.entry ∙ named) in
-    let low = entry_inside w.frame c.call-reply.new.self.frame e _ long was moved in
-    let sizes = ap (λ z. z.opens) (c.tell_object.ensures.sizes ∙ c.tell_process.ensures.sizes ∙ c.requires.ready.sizes) in
-    omega (arith, low, sizes)
+    let low = entry_inside c.args.machine.now.frame c.call-reply.new.self.frame e _ (ap (λ u. length u.frame.opens) c.call-reply.ensures.world ∙ (fixed_step c.args.machine.now _ _ _).opens)
+    (b.entry_label ∙ ap (label_of_entry c.args.machine.now.frame) (sym b.entry ∙ named)) moved in
+    omega (arith, low, ap (λ z. z.opens) (c.tell_object.ensures.sizes ∙ c.tell_process.ensures.sizes ∙ c.requires.ready.sizes))
 
 pub refresh-requires : goal.refresh-requires
 refresh-requires g c r is =

@@ -10,6 +10,6 @@ pub returns-clause-few : goal.returns-clause-few
 returns-clause-few c = omega (
   arith,
   c.len.ensures,
-  entries_are_few c.self.inside.journal.events c.self.inside.config.journal c.self.invariant.stands.fits
-      (small_journal c.self.inside.config c.self.invariant.stands.valid),
+  entries_are_few _ _ c.self.invariant.stands.fits
+      (small_journal _ c.self.invariant.stands.valid),
 )
