@@ -10,6 +10,7 @@ use Rattle.ix_model.specs.declared.reply.Reply.TheVariants as reply
 use Rattle.ix_policy.specs.declared.request.Verdict.{Verdict}
 use Rattle.ix_asking.specs.{declared.serving.outcome.Outcome.Outcome, Asking.{Answered, Asking, Done, Ask, mapped}, Copies.{copies, write_all}}
 use Rattle.ix_asking.specs.serving.Serving.{OnMessage, Server, claim, if_refused, on_claim, on_verdict, read, tell, told_text}
+use Rattle.ix_asking.{specs.serving.Messages.longest_front, proofs.Fronts.longest-within}
 use Rattle.ix_asking.specs.declared.serving.outcome.Outcome.TheVariants as outcome
 
 -- so many bytes are no more than a read may give
@@ -68,7 +69,7 @@ granted-few rule who told h = told_few (codes "granted ") rule (omega arith) h
 pub denied-few : (rule : ℕ) (told : Bool) → rule < 10 ^ 8 → length (told_text (outcome.Denied rule told)) ≤ 16
 denied-few rule told h = told_few (codes "denied ") rule (omega arith) h
 
-pub bad-few : (at : ℕ) (told : Bool) → at < 10 ^ 8 → length (told_text (outcome.BadRequest at told)) ≤ 16
+bad-few : (at : ℕ) (told : Bool) → at < 10 ^ 8 → length (told_text (outcome.BadRequest at told)) ≤ 16
 bad-few at told h = told_few (codes "bad ") at (omega arith) h
 
 pub refused-few : (why : Refusal) (step : ℕ) → length (told_text (outcome.Refused why step)) ≤ 16
@@ -80,11 +81,17 @@ module _ (s : Server) where
   unfolding cost_of
   tell-costs o h = (128, omega (arith, h), λ a few. (0, omega arith, λ b few. tt))
 
+  pub told-costs : (o : Outcome) (m : ℕ) → 272 ≤ m → length (told_text o) ≤ 16 → Costs m (tell s o)
+  told-costs o m h few = costs-more Outcome 272 m (tell s o) h (tell-costs o few)
+
+  -- a message that is no request
+  pub bad-costs : (test : List ℕ → Bool) (message : List ℕ) (m : ℕ) → 272 ≤ m → length message ≤ 64 → Costs m (tell s (outcome.BadRequest (longest_front test message) false))
+  bad-costs test message m h short =
+      told-costs (outcome.BadRequest (longest_front test message) false) m h (bad-few _ false (omega (arith, short, longest-within test message (length message))))
+
   pub verdict-costs : (allowed : ℕ → Asking Outcome) (verdict : Verdict) (m : ℕ) → 272 ≤ m → verdict.rule < 10 ^ 8
       → Costs m (allowed verdict.rule) → Costs m (on_verdict s allowed verdict)
-  verdict-costs allowed verdict m h k c =
-      costs-either Outcome m verdict.allow _ _ c
-      (costs-more Outcome 272 m (tell s (outcome.Denied verdict.rule false)) h (tell-costs (outcome.Denied verdict.rule false) (denied-few verdict.rule false k)))
+  verdict-costs allowed verdict m h k c = costs-either Outcome m verdict.allow _ _ c (told-costs (outcome.Denied verdict.rule false) m h (denied-few verdict.rule false k))
 
   read_costs : (on : OnMessage) (client : Pid) (label : Categories) (m : ℕ)
       → ((message : List ℕ) → length message ≤ 64 → Costs m (on client label message)) → Costs (128 + m) (read s on client label)

@@ -1,5 +1,5 @@
 -- The longest front of a text that passes a test.
-use Rattle.std.proofs.Common.{◌≡◌, ℕ, suc, zero, ◌-◌, ◌<◌, ◌≤◌, Bool, true, false, cond, List, [], length, take, refl, arith, ap, sym, ◌∙◌}
+use Rattle.std.proofs.Common.{◌≡◌, ℕ, suc, zero, ◌-◌, ◌<◌, ◌≤◌, Bool, true, false, cond, List, [], length, take, Option, Some, None, is_some, refl, arith, ap, sym, ◌∙◌}
 use Rattle.std.proofs.Math.Arith.{le_of_le-suc-ne}
 use Rattle.ix_asking.specs.serving.{Messages.{longest_front, longest_up_to}, Requests.{Begins, IsLongest}}
 
@@ -46,3 +46,12 @@ longest-is IsRequest test message begins passing none = record {
   begins = begins _ (passes test message (length message) none);
   longest = λ k h b. longest test message (length message) k h (passing (take k message) b);
 }
+
+-- what is read of a message, where something is and where nothing is
+pub by_found : {A : Type 0} (P : Option A → Type 0) (found : Option A) → ((x : A) → found ≡ Some x → P (Some x)) → (found ≡ None → P None) → P found
+by_found P None some none = none refl
+by_found P (Some x) some none = some x refl
+
+pub some_found : {A : Type 0} (found : Option A) → is_some found ≡ true → (x : A) × (found ≡ Some x)
+some_found None h = cc
+some_found (Some x) h = (x, refl)

@@ -7,7 +7,7 @@ use Rattle.ix_model.{specs.world.World.{World, Frame, HoldingOf, is_pipe}, proof
 use Rattle.ix_open.specs.declared.view.OpenView.{OpenView}
 use Rattle.ix_flow.specs.{Lines.lines_of_entry, Marks.marks_of, Moves.{cut_there, edited}, Origins.{Marked, gap_mark}, Tracking.{AreSides, AreTracks, HasEnd}, declared.sides.Sides.Sides}
 use Rattle.ix_flow.{specs.declared.tracks.Tracks.Tracks, proofs.Writes.{kept_sides, unmoved}}
-use Rattle.ix_flow.proofs.{NewObjects.{Stood, stood_step}, ReadWorlds.ends_anyway, Staying.marks_next, Through.{Through, has_end, kept_marks, not_opened, through, viewed}, Writes.followed}
+use Rattle.ix_flow.proofs.{NewObjects.stood_step, ReadWorlds.ends_anyway, Staying.marks_next, Through.{Through, has_end, kept_marks, not_opened, through, viewed}, Writes.followed}
 use Rattle.ix_model.specs.history.Events as op
 use Rattle.ix_model.specs.declared.reply.Reply.TheVariants as reply
 
@@ -53,14 +53,11 @@ module _ (h : History) (seat line pid fd len : ℕ) where
   unfolding edited
   marks_cut = marks_next h e
 
-  stood : Stood (world_of h).frame (next h e).world.frame
-  stood = stood_step _ _ _ _ refl
-
   silent : (d count k : ℕ) → e.op ≡ op.ReadFd d count → (next h e).reply ≡ reply.Bytes k → k ≡ 0
   silent d count k is gives = cc
 
   pub cut_refused : length (with_entry h e).events ≤ 6800000 → (t : Tracks) → AreTracks t h → ((next h e).reply ≡ reply.Done → ⊥) → AreTracks t (with_entry h e) × (lines_of_entry h e ≡ [])
-  cut_refused few t are other = unmoved h e few refl silent t are stood (marks_cut ∙ cut_none _ _ _ _ other)
+  cut_refused few t are other = unmoved h e few refl silent t are (stood_step _ _ _ _ refl) (marks_cut ∙ cut_none _ _ _ _ other)
 
   module _ (t : Tracks) (are : AreTracks t h) (done : (next h e).reply ≡ reply.Done) where
     abbrev file : CutBehind (world_of h).frame pid fd
@@ -89,4 +86,4 @@ module _ (h : History) (seat line pid fd len : ℕ) where
         (subst (λ end. HasEnd (with_entry h e) (kept_marks h e) b.entry.object end false) (sym seen.1) (has_end h e fd b r _ (sym r.piped ∙ file.file) _ r.near)) in
         followed h e few refl silent t _ are refl refl _
         (marks ∙ (λ i. on_side (sym seen.0 i) (sym seen.1 i) (resized gap_mark len) (kept_marks h e)))
-        (cut _ _ (kept_marks h e) (kept_sides h e are.sound stood t.sides t.labels.all.items are.sides) there)
+        (cut _ _ (kept_marks h e) (kept_sides h e are.sound (stood_step _ _ _ _ refl) t.sides t.labels.all.items are.sides) there)

@@ -8,7 +8,7 @@ use Rattle.ix_model.{specs.{rows.Auditing.audit_line, world.{Naming.PathOf, Worl
 use Rattle.ix_iso.proofs.Lowerings.{lowerings_logged}
 use Rattle.ix_flow.specs.{Lines.lines_of_entry, Lowerings.falls, Marks.marks_of, Moves.edited, Tracking.{AreFalls, AreTracks, is_noted, let_down}, declared.falls.Falls.Falls}
 use Rattle.ix_flow.specs.declared.tracks.Tracks.{Tracks}
-use Rattle.ix_flow.proofs.{FirstFall.{falls_last, falls_push, none_late}, NewObjects.{Stood, stood_step}, Pushing.stands_last, ReadMarks.{reads_nothing, tells_nothing}}
+use Rattle.ix_flow.proofs.{FirstFall.{falls_last, falls_push, none_late}, NewObjects.stood_step, Pushing.stands_last, ReadMarks.{reads_nothing, tells_nothing}}
 use Rattle.ix_flow.proofs.{Relabelling.{LetDown, Nothing, Says, log_within, opening_log, says_step, within_at}, Staying.marks_next, Through.kept_marks, Writes.{kept_sides, tracks_now}}
 use Rattle.ix_model.specs.history.Lowering as low
 use Rattle.ix_model.specs.history.Events as op
@@ -108,9 +108,6 @@ module _ (h : History) (seat line pid : ℕ) (path : PathOf) (label : Categories
   unfolding edited
   marks_label = marks_next h e
 
-  stood : Stood (world_of h).frame (next h e).world.frame
-  stood = stood_step _ _ _ _ refl
-
   silent : (d count k : ℕ) → e.op ≡ op.ReadFd d count → (next h e).reply ≡ reply.Bytes k → k ≡ 0
   silent d count k is gives = cc
 
@@ -118,7 +115,7 @@ module _ (h : History) (seat line pid : ℕ) (path : PathOf) (label : Categories
     tracks : (now : Falls) → AreFalls now (with_entry h e) → AreTracks (record t { falls = now }) (with_entry h e) × (lines_of_entry h e ≡ [])
     tracks now falls = (
       tracks_now h e are.sound t _ are refl (reads_nothing h e silent) falls _ marks_label
-          (kept_sides h e are.sound stood _ _ are.sides),
+          (kept_sides h e are.sound (stood_step _ _ _ _ refl) _ _ are.sides),
       tells_nothing h e silent,
     )
 

@@ -1,8 +1,9 @@
 -- The sides of all objects after one of them was changed.
-use Rattle.std.proofs.Common.{◌≡◌, ◌≢◌, ◌<◌, ◌+◌, ◌*◌, ◌==◌, ℕ, Bool, true, false, true≢false, List, [], ◌∷◌, length, Option, Some, None, is_some, refl, slice_get, if◌then◌else◌, sym, ap}
-use Rattle.std.proofs.{Common.{◌∙◌, subst, arith, inl, inr}, lemmas.{Bool.{eqb-true, Decides.eqb_tells}, List.{get_or-set_same, get_or-set_other}}}
+use Rattle.std.proofs.Common.{◌≡◌, ◌<◌, ◌+◌, ◌*◌, ◌==◌, ◌&&◌, ℕ, true, false, List, [], ◌∷◌, length, Option, Some, None, is_some, refl, slice_get, if◌then◌else◌, sym, ap}
+use Rattle.std.proofs.{Common.{◌∙◌, subst, arith, inl, inr}, lemmas.Bool.{eq-eqb, ne_eqb, Decides.eqb_tells}}
+use Rattle.ix_flow.proofs.ReadMarks.{side_on}
 use Rattle.ix_label.specs.Category.{Categories}
-use Rattle.ix_model.specs.{history.History.{History, world_of}, world.{Contents.{held_at, nothing_held, on_side, side, with_side}, World.{HoldingOf, at, is_pipe}}}
+use Rattle.ix_model.specs.{history.History.{History, world_of}, world.{Contents.{held_at, on_side, side}, World.{HoldingOf, at, is_pipe}}}
 use Rattle.ix_flow.specs.{Lowerings.label_of, Origins.{Marked, Origin, Written, marked_from, origins_of}, Sides.{ComesOf, IsLike, StandsIn, numbered, origin_at, source_in}}
 use Rattle.ix_flow.specs.{Tracking.{AreLabelled, AreSides, HasEnd, IsFound, IsTracked, IsUnder, side_of}, declared.{side.Side.Side, sides.Sides.Sides, source.Source.Source}}
 use Rattle.ix_flow.specs.Sides as come
@@ -35,41 +36,6 @@ pub labelled_write : (labels : List Categories) (h : History) (place start label
     → IsUnder labels (source.Write place start label) (label_of h (origin_at (source.Write place start label) 0))
 unfolding label_of
 labelled_write labels h place start label is = is
-
--- ---- what is held
-side_same : (end : ℕ) (now : List Marked) (h : HoldingOf Marked) → side end (with_side end now h) ≡ now
-side_same end now h = go _
-  where
-    one : HoldingOf Marked
-    one = record h { first = now }
-
-    two : HoldingOf Marked
-    two = record h { second = now }
-
-    go : (b : Bool) → (if b then (if b then one else two).first else (if b then one else two).second) ≡ now
-    go true = refl
-    go false = refl
-
-is_one : (n : ℕ) → n < 2 → (n == 0) ≡ false → n ≡ 1
-is_one n small isnt = elim (eqb_tells n 0) [
-  | inl here ↦ absurd (true≢false (sym here.0 ∙ isnt))
-  | inr more ↦ omega (arith, small, more.1)
-]
-
-side_other : (end other : ℕ) (now : List Marked) (h : HoldingOf Marked) → end < 2 → other < 2 → other ≢ end → side other (with_side end now h) ≡ side other h
-side_other end other now h low less apart = go _ _ refl refl
-  where
-    one : HoldingOf Marked
-    one = record h { first = now }
-
-    two : HoldingOf Marked
-    two = record h { second = now }
-
-    go : (b c : Bool) → (end == 0) ≡ b → (other == 0) ≡ c → (if c then (if b then one else two).first else (if b then one else two).second) ≡ (if c then h.first else h.second)
-    go true true p q = let e = eqb-true end 0 p in absurd (apart ((eqb-true other 0 q) ∙ sym e))
-    go true false p q = refl
-    go false true p q = refl
-    go false false p q = absurd (apart (is_one _ less q ∙ sym (is_one _ low p)))
 
 -- bytes that are marked from a number on have the origins from there on
 pub origins_marked : (origin : ℕ → Origin) (k : ℕ) (bytes : List ℕ) → origins_of (marked_from origin k bytes) ≡ numbered origin k (length bytes)
@@ -120,7 +86,7 @@ module _ (old : Sides) (labels : List Categories) (h : History) (hs : List (Hold
   }
     where
       here : side end (held_at (on_side o end f hs) o) ≡ f there
-      here = ap (side end) (get_or-set_same hs o (with_side end (f there) (held_at hs o)) nothing_held has.inside) ∙ side_same end (f there) (held_at hs o)
+      here = side_on f o end o end hs has.inside has.within has.within ∙ (λ i. if eq-eqb o o refl i && eq-eqb end end refl i then f there else there)
 
       tracked_here : (p other : ℕ) → p ≡ o → other ≡ end → IsTracked labels h (side_of new p other) (origins_of (side other (held_at (on_side o end f hs) p)))
       tracked_here p other number which =
@@ -130,14 +96,12 @@ module _ (old : Sides) (labels : List Categories) (h : History) (hs : List (Hold
           (subst (λ ms. IsLike s (origins_of ms)) (sym here) like, labelled)))
 
       stays : (p other : ℕ) → other < 2 → (p * 2 + other ≡ o * 2 + end → ⊥) → side other (held_at (on_side o end f hs) p) ≡ side other (held_at hs p)
-      stays p other low apart = elim (eqb_tells p o) [
-        | inl same ↦
-            ap (λ n. side other (held_at (on_side o end f hs) n)) same.1
-            ∙ ap (side other) (get_or-set_same hs o (with_side end (f there) (held_at hs o)) nothing_held has.inside)
-            ∙ side_other end other (f there) (held_at hs o) has.within low (λ which. apart (λ i. same.1 i * 2 + which i))
-            ∙ ap (λ n. side other (held_at hs n)) (sym same.1)
-        | inr far ↦ ap (side other) (get_or-set_other hs o p (with_side end (f there) (held_at hs o)) nothing_held far.1)
-      ]
+      stays p other low apart =
+          let elsewhere : (p == o && other == end) ≡ false = elim (eqb_tells p o) [
+            | inl same ↦ λ i. same.0 i && ne_eqb other end (λ which. apart (λ i. same.1 i * 2 + which i)) i
+            | inr far ↦ ap (λ b. b && other == end) far.0
+          ] in
+          side_on f o end p other hs has.inside has.within low ∙ ap (λ b. if b then f (side other (held_at hs p)) else side other (held_at hs p)) elsewhere
 
       tracked_there : (p other : ℕ) → other < 2 → is_some (at (world_of h).frame.objects p) ≡ true → (p * 2 + other ≡ o * 2 + end → ⊥)
           → IsTracked labels h (side_of new p other) (origins_of (side other (held_at (on_side o end f hs) p)))

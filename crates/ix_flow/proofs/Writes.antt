@@ -231,15 +231,12 @@ module _ (h : History) (seat line pid fd : ℕ) (bytes : List ℕ) where
   unfolding edited
   marks_write = marks_next h e
 
-  stood : Stood (world_of h).frame (next h e).world.frame
-  stood = stood_step _ _ _ _ refl
-
   silent : (d count k : ℕ) → e.op ≡ op.ReadFd d count → (next h e).reply ≡ reply.Bytes k → k ≡ 0
   silent d count k is gives = cc
 
   pub write_refused : length (with_entry h e).events ≤ 6800000 → (t : Tracks) → AreTracks t h → ((k : ℕ) → (next h e).reply ≡ reply.Number k → ⊥)
       → AreTracks t (with_entry h e) × (lines_of_entry h e ≡ [])
-  write_refused few t are other = unmoved h e few refl silent t are stood
+  write_refused few t are other = unmoved h e few refl silent t are (stood_step _ _ _ _ refl)
       (marks_write ∙ put_none _ _ _ _ _ _ other)
 
   module _ (t : Tracks) (are : AreTracks t h) (k : ℕ) (done : (next h e).reply ≡ reply.Number k) where
@@ -319,7 +316,7 @@ module _ (h : History) (seat line pid fd : ℕ) (bytes : List ℕ) where
       write_piped piped is = sym (is ∙ ap (λ n. option_map_or is_pipe (at (world_of (with_entry h e)).frame.objects n) false) seen.0 ∙ on_pipe_after h e fd b r)
 
       kept_all : AreSides t.sides labels.all.items (with_entry h e) (kept_marks h e)
-      kept_all = sides_more _ _ stays _ _ _ (kept_sides h e are.sound stood _ _ are.sides)
+      kept_all = sides_more _ _ stays _ _ _ (kept_sides h e are.sound (stood_step _ _ _ _ refl) _ _ are.sides)
 
       tracks : (ms : List (HoldingOf Marked)) → marks_of (with_entry h e) ≡ ms → AreSides sides labels.all.items (with_entry h e) ms
           → AreTracks (record t { sides = sides; labels = labels }) (with_entry h e) × (lines_of_entry h e ≡ [])

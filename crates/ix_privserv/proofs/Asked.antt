@@ -5,10 +5,10 @@ use Rattle.ix_model.specs.{history.Cost.cost_of, declared.{ids.Pid.Pid, privs.Pr
 use Rattle.ix_model.specs.history.Events as op
 use Rattle.ix_policy.{specs.{Deciding.decide, declared.rule.Rule.Rule}, proofs.Counting.decided-few}
 use Rattle.ix_policy.specs.declared.request.Request.TheVariants as request
-use Rattle.ix_asking.specs.{Asking.Asked, declared.serving.outcome.Outcome.Outcome, serving.Serving.{Server, tell}}
-use Rattle.ix_asking.proofs.{Every.{AllOf, all-refused}, Fronts.longest-within, Serves.{HoldsOfLine, all-claimed, all-decided, all-told}}
+use Rattle.ix_asking.specs.{Asking.Asked, declared.serving.outcome.Outcome.Outcome, serving.Serving.Server}
+use Rattle.ix_asking.proofs.{Every.{AllOf, all-refused}, Serves.{HoldsOfLine, all-claimed, all-decided, all-told}}
 use Rattle.ix_asking.specs.declared.serving.outcome.Outcome.TheVariants as outcome
-use Rattle.ix_asking.proofs.Costs.{Costs, bad-few, claim-costs, costs-more, costs-refused, granted-few, refused-few, tell-costs, verdict-costs}
+use Rattle.ix_asking.proofs.Costs.{Costs, bad-costs, claim-costs, costs-refused, granted-few, refused-few, tell-costs, verdict-costs}
 use Rattle.ix_privserv.specs.{Messages.{bad_at, begins_request, wanted}, Serving.{grant, on_want, on_message, serves}}
 
 -- ---- every call
@@ -34,19 +34,13 @@ module _ (P : Asked → Type 0) (s : Server) (each : HoldsOfLine P s) where
 module _ (rules : List Rule) (few : length rules ≤ 256) (s : Server) where
   grant_costs : (client : Pid) (want : PrivSet) (rule : ℕ) → rule ≤ 256 → Costs 400 (grant s client want rule)
   unfolding cost_of
-  grant_costs client want rule low = (
-    272,
-    omega arith,
-    λ a read. costs-refused Outcome 272 a.reply _ _ (λ why. tell-costs s (outcome.Refused why 4) (refused-few why 4))
-        (tell-costs s (outcome.Granted rule client false) (granted-few rule client false (omega (arith, low)))),
-  )
+  grant_costs client want rule low =
+      let granted = tell-costs s (outcome.Granted rule client false) (granted-few rule client false (omega (arith, low))) in
+      (272, omega arith, λ a read. costs-refused Outcome 272 a.reply _ _ (λ why. tell-costs s (outcome.Refused why 4) (refused-few why 4)) granted)
 
   want_costs : (client : Pid) (label : Categories) (message : List ℕ) (found : Option PrivSet) → length message ≤ 64
       → Costs 400 (on_want rules s client label message found)
-  want_costs client label message None short =
-      costs-more Outcome 272 400 (tell s (outcome.BadRequest (bad_at message) false)) (omega arith)
-      (tell-costs s (outcome.BadRequest (bad_at message) false)
-      (bad-few (bad_at message) false (omega (arith, short, longest-within begins_request message (length message)))))
+  want_costs client label message None short = bad-costs s begins_request message 400 (omega arith) short
   want_costs client label message (Some want) short =
       let low = decided-few rules (request.Grant label want) in
       verdict-costs s (grant s client want) (decide rules (request.Grant label want)) 400 (omega arith) (omega (arith, low, few))

@@ -5,7 +5,7 @@ use Rattle.std.{specs.{Option.is_some, Cmp.Lexicographic.bytes_decides}, proofs.
 use Rattle.ix_model.specs.{world.Naming.same_bytes, declared.privs.PrivSet.PrivSet}
 use Rattle.ix_text.specs.Privs.{privs_of}
 use Rattle.ix_asking.specs.serving.{Messages.{after_word, is_front_of}, Requests.Begins}
-use Rattle.ix_asking.proofs.{Fronts.longest-is, Words.{after-is, after-word, front-ends, front-self, front-splits}}
+use Rattle.ix_asking.proofs.{Fronts.{longest-is, by_found, some_found}, Words.{after-is, after-word, front-ends, front-self, front-splits}}
 use Rattle.ix_privserv.{specs.{Messages.{begins_request, set_of, wanted}, Requests.{IsRead, IsRequest, Wants}}, proofs.Letters.set-front}
 
 abbrev want : List ℕ
@@ -44,10 +44,6 @@ d_wanted : IsRequest (codes "want D")
 unfolding privs_of
 d_wanted = (record { 0 = 1 }, (codes "D", refl, (λ e. cc), refl))
 
-some_wanted : (text : List ℕ) (found : Option PrivSet) → wanted text ≡ found → is_some found ≡ true → (set : PrivSet) × (wanted text ≡ Some set)
-some_wanted text None h e = cc
-some_wanted text (Some set) h e = (set, h)
-
 begins : (text : List ℕ) → begins_request text ≡ true → Begins IsRequest text
 unfolding begins_request
 begins text h =
@@ -57,7 +53,7 @@ begins text h =
           let ends = front-ends want text front in
           (ends.0 ++ codes "D", subst P (ap (λ t. t ++ codes "D") (sym ends.1) ∙ append_assoc text ends.0 (codes "D")) d_wanted)
       | inr read ↦
-          let some = some_wanted text (wanted text) refl read in
+          let some = some_found (wanted text) read in
           ([], subst P (sym (append-nil text)) (some.0, read-wants text some.0 some.1))
     ]
 
@@ -83,12 +79,6 @@ passing text b =
     ]
 
 -- ---- all messages
-by_found : (message : List ℕ) (found : Option PrivSet) → wanted message ≡ found → IsRead message found
-by_found message (Some set) h = read-wants message set h
-by_found message None h = (
-  (λ w. let read = wants-read message w.0 w.1 in cc),
-  longest-is IsRequest begins_request message begins passing (front_passes [] refl),
-)
-
 pub messages-read : (message : List ℕ) → IsRead message (wanted message)
-messages-read message = by_found message (wanted message) refl
+messages-read message = by_found (IsRead message) (wanted message) (read-wants message)
+    (λ none. ((λ w. let read = wants-read message w.0 w.1 in cc), longest-is IsRequest begins_request message begins passing (front_passes [] refl)))

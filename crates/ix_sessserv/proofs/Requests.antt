@@ -4,7 +4,7 @@ use Rattle.std.proofs.Common.{if◌then◌else◌, append-nil, append_assoc}
 use Rattle.std.{specs.Option.{is_some, option_map_or}, proofs.{Math.Bool.or-true, lemmas.Bool.or_cases}}
 use Rattle.ix_text.specs.Names.{is_reserved, is_script_name, name_of}
 use Rattle.ix_asking.specs.serving.{Messages.{after_word, is_front_of}, Requests.Begins}
-use Rattle.ix_asking.proofs.{Fronts.longest-is, Words.{after-is, after-word, front-ends, front-self, front-splits}}
+use Rattle.ix_asking.proofs.{Fronts.{longest-is, by_found, some_found}, Words.{after-is, after-word, front-ends, front-self, front-splits}}
 use Rattle.ix_sessserv.specs.{Messages.{begins_request, is_reserved_login, user_in}, Requests.{IsRead, IsRequest, LogsIn}}
 use Rattle.ix_sessserv.proofs.Users.{a-name, name-front, reserved-begins}
 
@@ -43,10 +43,6 @@ logs_in-read message user l = ap user_in l.0 ∙ name-read user l.1
 a_login : IsRequest (codes "login a")
 a_login = (codes "a", (refl, a-name))
 
-some_user : (text : List ℕ) (found : Option (List ℕ)) → user_in text ≡ found → is_some found ≡ true → (user : List ℕ) × (user_in text ≡ Some user)
-some_user text None h e = cc
-some_user text (Some user) h e = (user, h)
-
 reserved_login : (text : List ℕ) (after : Option (List ℕ)) → after_word login text ≡ after → option_map_or is_reserved after false ≡ true
     → (word : List ℕ) × (text ≡ login ++ word) × (is_reserved word ≡ true)
 reserved_login text None h e = cc
@@ -62,7 +58,7 @@ begins text h =
             let ends = front-ends login text front in
             (ends.0 ++ codes "a", subst P (ap (λ t. t ++ codes "a") (sym ends.1) ∙ append_assoc text ends.0 (codes "a")) a_login)
         | inr read ↦
-            let some = some_user text (user_in text) refl read in
+            let some = some_found (user_in text) read in
             ([], subst P (sym (append-nil text)) (some.0, read-logs_in text some.0 some.1))
       ]
       | inr reserved ↦
@@ -104,12 +100,6 @@ passing text b =
     ]
 
 -- ---- all messages
-by_found : (message : List ℕ) (found : Option (List ℕ)) → user_in message ≡ found → IsRead message found
-by_found message (Some user) h = read-logs_in message user h
-by_found message None h = (
-  (λ l. let read = logs_in-read message l.0 l.1 in cc),
-  longest-is IsRequest begins_request message begins passing (front_passes [] refl),
-)
-
 pub messages-read : (message : List ℕ) → IsRead message (user_in message)
-messages-read message = by_found message (user_in message) refl
+messages-read message = by_found (IsRead message) (user_in message) (read-logs_in message)
+    (λ none. ((λ l. let read = logs_in-read message l.0 l.1 in cc), longest-is IsRequest begins_request message begins passing (front_passes [] refl)))

@@ -9,7 +9,7 @@ use Rattle.ix_name.specs.Directories.{Directories, names_of}
 use Rattle.ix_open.specs.Table.{OpenTable}
 use Rattle.ix_pipe.specs.Pipe.{Pipe}
 use Rattle.ix_label.specs.Category.{top}
-use Rattle.ix_tables.specs.{Parts.Parts, Joined.{object_of, objects_of, object_of_pipe, all_objects, joined}}
+use Rattle.ix_tables.specs.{Parts.Parts, Joined.{object_of, objects_of, object_of_pipe, all_objects, joined, AreJoined}}
 
 abbrev pub Lists : Type 0
 Lists = List (List (List ℕ × ℕ))
@@ -108,20 +108,27 @@ module _ (nodes : Nodes) (names : Directories) (pipes : List (Option Pipe)) wher
       go None = refl
       go (Some x) = refl
 
-module _ (limits : Limits) (nodes : Nodes) (names : Directories) (pipes : List (Option Pipe)) (es : OpenTable) (hs : List ℕ) (now : Parts) (view : joined limits nodes names pipes es hs ≡ now) where
+pub inode_edited : (limits : Limits) (nodes : Nodes) (names : Directories) (pipes : List (Option Pipe)) (es : OpenTable) (hs : List ℕ) (now : Parts) → joined limits nodes names pipes es hs ≡ now
+    → (nodes2 : Nodes) (n : ℕ) (h : Node → Node) (k : Object → Object) → n < length nodes.nodes
+    → ((names : List (List ℕ × ℕ)) (x : Node) → object_of names (h x) ≡ k (object_of names x)) → nodes2 ≡ changed n h nodes
+    → joined limits nodes2 names pipes es hs ≡ record now { objects = change now.objects n k }
+inode_edited limits nodes names pipes es hs now view nodes2 n h k low same is =
+    let v : Parts = joined limits nodes names pipes es hs in
+    let moved : joined limits (changed n h nodes) names pipes es hs ≡ record v { objects = change v.objects n k } = λ i. record v { objects = inode_changed nodes names pipes n h k low same i } in
+    ap (λ (u : Nodes). joined limits u names pipes es hs) is ∙ moved ∙ ap (λ (u : Parts). let w : Parts = record u { objects = change u.objects n k } in w) view
+
+module _ {limits : Limits} {nodes : Nodes} {names : Directories} {pipes : List (Option Pipe)} {es : OpenTable} {hs : List ℕ} {now : Parts}
+    (j : AreJoined limits nodes names pipes es hs) (view : joined limits nodes names pipes es hs ≡ now) where
   pub there : (n : ℕ) → is_some (at now.objects n) ≡ true → is_pipe (node now.objects n) ≡ false → (n < length nodes.nodes) × (is_some (at nodes.nodes n) ≡ true)
   there n lives other = inode_there nodes names pipes n (ap (λ (v : Parts). is_some (at v.objects n)) view ∙ lives) (ap (λ (v : Parts). is_pipe (node v.objects n)) view ∙ other)
 
-  pub ceiling_there : (n : ℕ) → n < length nodes.nodes → ceiling_of now.fss (node now.objects n) ≡ ceiling_at n nodes
-  ceiling_there n low = ap (λ (v : Parts). ceiling_of v.fss (node v.objects n)) (sym view) ∙ inode_ceiling nodes names pipes n low
-
-  pub inode_edited : (nodes2 : Nodes) (n : ℕ) (h : Node → Node) (k : Object → Object) → n < length nodes.nodes
+  pub edited_there : (nodes2 : Nodes) (n : ℕ) (h : Node → Node) (k : Object → Object) → n < length nodes.nodes
       → ((names : List (List ℕ × ℕ)) (x : Node) → object_of names (h x) ≡ k (object_of names x)) → nodes2 ≡ changed n h nodes
       → joined limits nodes2 names pipes es hs ≡ record now { objects = change now.objects n k }
-  inode_edited nodes2 n h k low same is =
-      let v : Parts = joined limits nodes names pipes es hs in
-      let moved : joined limits (changed n h nodes) names pipes es hs ≡ record v { objects = change v.objects n k } = λ i. record v { objects = inode_changed nodes names pipes n h k low same i } in
-      ap (λ (u : Nodes). joined limits u names pipes es hs) is ∙ moved ∙ ap (λ (u : Parts). let w : Parts = record u { objects = change u.objects n k } in w) view
+  edited_there = inode_edited limits nodes names pipes es hs now view
+
+  pub ceiling_there : (n : ℕ) → n < length nodes.nodes → ceiling_of now.fss (node now.objects n) ≡ ceiling_at n nodes
+  ceiling_there n low = ap (λ (v : Parts). ceiling_of v.fss (node v.objects n)) (sym view) ∙ inode_ceiling nodes names pipes n low
 
   pub inode_there_below : (n : ℕ) → n < length nodes.nodes → is_some (at now.objects n) ≡ true → is_some (at nodes.nodes n) ≡ true
   inode_there_below n low lives = go (at nodes.nodes n) (ap is_some (sym (at_inode nodes names pipes n low)) ∙ ap (λ (v : Parts). is_some (at v.objects n)) view ∙ lives)
@@ -162,6 +169,9 @@ module _ (limits : Limits) (nodes : Nodes) (names : Directories) (pipes : List (
       go : (x : Option Node) → option_map_or (λ y. y.dir) x false ≡ true → (unwrap_or (option_map (object_of (names_of names d)) x) nothing).names ≡ names_of names d
       go None h = cc
       go (Some x) h = refl
+
+  pub directory_listed : (d : ℕ) → is_dir (node now.objects d) ≡ true → d < length names.lists
+  directory_listed d dir = omega (arith, (directory_there d dir).0, j.lists)
 
   pub directory_stands : (d : ℕ) → is_dir (node now.objects d) ≡ true → is_some (at nodes.nodes d) ≡ true
   directory_stands d dir = go (at nodes.nodes d) (directory_there d dir).1

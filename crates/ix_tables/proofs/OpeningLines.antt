@@ -138,7 +138,7 @@ module _ (b : ObjSpec) (d k o : ℕ) (t : Parts) (p : HasPlace b d k o t) where
       change_apart (put t.objects o (Some (new_object (kind_said b) (Some k)))) d o (with_name (last_name b.path.names) o) (as_said b) apart
       ∙ ap (λ (os : List (Option Object)). change os d (with_name (last_name b.path.names) o)) (change_put t.objects o (new_object (kind_said b) (Some k)) (as_said b))
 
-  abbrev empty_line : Parts
+  abbrev pub empty_line : Parts
   empty_line = record t { objects = made; holdings = slice_set t.holdings o holds_nothing }
 
   -- as a line says, but for the bytes

@@ -2,10 +2,10 @@
 use Rattle.std.proofs.Common.{◌≡◌, ◌+◌, ◌<◌, ◌^◌, Bool, true, false, ℕ, List, [], ◌++◌, map, length, Option, Some, None, option_map, unwrap_or, slice_set, refl}
 use Rattle.std.proofs.Common.{nat_lt, sym, ap, subst, ◌∙◌, arith, inl, inr, length-set, get_or-set_other, get_or-set_same}
 use Rattle.std.{specs.Option.option_map_or, proofs.lemmas.{Bool.cases_eq, List.{length-map, map-set, set-append_left}}}
-use Rattle.ix_model.proofs.tables.{FreeNumbers.IsFreeInode, Inodes.first_within}
+use Rattle.ix_model.proofs.tables.{FreeNumbers.IsFreeInode, Inodes.first_within, Tables.{seen_changed, at_changed}}
 use Rattle.ix_model.specs.world.{World.{Object, at, put, is_dir}, Contents.holds_nothing, Numbers.first_pipe, Owners.names_in_all}
 use Rattle.ix_model.specs.{rows.{OnPaths.new_object, Walks.{node, nothing}}, declared.{config.Limits.Limits, reply.Kind.Kind}}
-use Rattle.ix_inode.specs.{Nodes.{Nodes, with_inode, made, vacant_in}, Shown.{kind_of, is_dir_kind, new_node}, declared.node.Node.Node}
+use Rattle.ix_inode.specs.{Nodes.{Nodes, changed, with_inode, made, vacant_in}, Shown.{kind_of, is_dir_kind, new_node}, declared.node.Node.Node}
 use Rattle.ix_name.specs.Directories.{Directories, names_of}
 use Rattle.ix_open.specs.Table.{OpenTable}
 use Rattle.ix_pipe.specs.Pipe.{Pipe}
@@ -43,39 +43,57 @@ inode_put limits nodes nodes2 names pipes es hs now long view n x low is =
           slice_set u.holdings n holds_nothing;
     } in w) view
 
-module _ (limits : Limits) (nodes : Nodes) (names : Directories) (pipes : List (Option Pipe)) (es : OpenTable) (hs : List ℕ) (j : AreJoined limits nodes names pipes es hs) where
-  -- they are joined still, where the names are as many, what is put has none, and as many are for it as there may be
+module _ {limits : Limits} {nodes : Nodes} {names : Directories} {pipes : List (Option Pipe)} {es : OpenTable} {hs : List ℕ} (j : AreJoined limits nodes names pipes es hs) where
+  -- they are joined still with something else at a number, where the names are as many, and as many are for it as there may be
+  joined_anew : (bytes : List (List ℕ)) (names2 : Directories) (n : ℕ) (x : Option Node) → length bytes ≡ length nodes.bytes → length names2.lists ≡ length names.lists
+      → names2.free + names_in names2.lists ≡ names.free + names_in names.lists
+      → ((o : ℕ) → option_map_or (λ y. y.dir) (at (put nodes.nodes n x) o) false ≡ false → names_of names2 o ≡ []) → HasNames (at (put nodes.nodes n x) n) (names_for n names2.lists)
+      → ((o : ℕ) → (o ≡ n → ⊥) → names_for o names2.lists ≡ names_for o names.lists) → AreJoined limits (record nodes { nodes = put nodes.nodes n x; bytes = bytes }) names2 pipes es hs
+  joined_anew bytes names2 n x as_many long many bare here others =
+      let same : length nodes.nodes ≡ length (put nodes.nodes n x) = sym (length-set nodes.nodes n x) in
+      record {
+        lists = long ∙ j.lists ∙ same;
+        bytes = as_many ∙ j.bytes ∙ same;
+        bare = bare;
+        entries = many ∙ j.entries;
+        links = λ o. elim (cases_eq o n) [
+          | inl e ↦ subst (λ k. HasNames (at (put nodes.nodes n x) k) (names_for k names2.lists)) (sym e) here
+          | inr ne ↦ subst (λ y. HasNames y (names_for o names2.lists)) (sym (get_or-set_other nodes.nodes n o x None ne)) (subst (HasNames (at nodes.nodes o)) (sym (others o ne)) (j.links o))
+        ];
+        first = j.first ∙ same;
+        pipes = j.pipes;
+        opens = j.opens;
+        objects = j.objects ∙ ap (λ k. k + length pipes) same;
+        homes = j.homes ∙ ap (λ k. k + length pipes) same;
+        few = subst (λ k. k + length pipes < 2 ^ 32) same j.few;
+        few_names = j.few_names;
+      }
+
+  -- an inode, or none, in the place of what has no names as a directory
   pub joined_put : (names2 : Directories) (n : ℕ) (x : Option Node) → n < length nodes.nodes → length names2.lists ≡ length names.lists
       → names2.free + names_in names2.lists ≡ names.free + names_in names.lists
       → ((o : ℕ) → names_of names o ≡ [] → names_of names2 o ≡ []) → names_of names n ≡ [] → HasNames x (names_for n names2.lists)
       → ((o : ℕ) → (o ≡ n → ⊥) → names_for o names2.lists ≡ names_for o names.lists) → AreJoined limits (with_inode n x [] nodes) names2 pipes es hs
-  joined_put names2 n x low long many bare empty some others = record {
-    lists = long ∙ j.lists ∙ sym (length-set nodes.nodes n x);
-    bytes = length-set nodes.bytes n [] ∙ j.bytes ∙ sym (length-set nodes.nodes n x);
-    bare = λ o is. elim (cases_eq o n) [
-      | inl e ↦ bare o (ap (names_of names) e ∙ empty)
-      | inr ne ↦ bare o (j.bare o (ap (λ (y : Option Node). option_map_or (λ z. z.dir) y false) (sym (get_or-set_other nodes.nodes n o x None ne)) ∙ is))
-    ];
-    entries = many ∙ j.entries;
-    links = λ o. elim (cases_eq o n) [
-      | inl e ↦ subst (λ k. HasNames (at (put nodes.nodes n x) k) (names_for k names2.lists)) (sym e) (subst (λ y. HasNames y (names_for n names2.lists))
-          (sym (get_or-set_same nodes.nodes n x None low)) some)
-      | inr ne ↦ subst (λ y. HasNames y (names_for o names2.lists)) (sym (get_or-set_other nodes.nodes n o x None ne)) (subst (HasNames (at nodes.nodes o)) (sym (others o ne)) (j.links o))
-    ];
-    first = j.first ∙ sym (length-set nodes.nodes n x);
-    pipes = j.pipes;
-    opens = j.opens;
-    objects = j.objects ∙ ap (λ k. k + length pipes) (sym (length-set nodes.nodes n x));
-    homes = j.homes ∙ ap (λ k. k + length pipes) (sym (length-set nodes.nodes n x));
-    few = subst (λ k. k + length pipes < 2 ^ 32) (sym (length-set nodes.nodes n x)) j.few;
-    few_names = j.few_names;
-  }
+  joined_put names2 n x low long many bare empty some = joined_anew _ names2 n x (length-set nodes.bytes n []) long many
+      (λ o is. elim (cases_eq o n) [
+        | inl e ↦ bare o (ap (names_of names) e ∙ empty)
+        | inr ne ↦ bare o (j.bare o (ap (λ (y : Option Node). option_map_or (λ z. z.dir) y false) (sym (get_or-set_other nodes.nodes n o x None ne)) ∙ is))
+      ]) (subst (λ y. HasNames y (names_for n names2.lists)) (sym (get_or-set_same nodes.nodes n x None low)) some)
+
+  -- so many links
+  pub joined_linked : (names2 : Directories) (n links : ℕ) → length names2.lists ≡ length names.lists → names2.free + names_in names2.lists ≡ names.free + names_in names.lists
+      → ((o : ℕ) → option_map_or (λ y. y.dir) (at nodes.nodes o) false ≡ false → names_of names2 o ≡ [])
+      → HasNames (option_map (λ y. let z : Node = record y { links = links } in z) (at nodes.nodes n)) (names_for n names2.lists)
+      → ((o : ℕ) → (o ≡ n → ⊥) → names_for o names2.lists ≡ names_for o names.lists) → AreJoined limits (changed n (λ x. record x { links = links }) nodes) names2 pipes es hs
+  joined_linked names2 n links long many bare here = joined_anew nodes.bytes names2 n _ refl long many
+      (λ o h. bare o (sym (seen_changed (λ (x : Option Node). option_map_or (λ y. y.dir) x false) (λ x. record x { links = links }) (λ y. refl) nodes.nodes n o) ∙ h))
+      (subst (λ x. HasNames x (names_for n names2.lists)) (sym (at_changed nodes.nodes n (λ x. record x { links = links }))) here)
 
 -- ---- a new inode, which no directory names yet
 abbrev pub placed : ℕ → ℕ → Kind → Parts → Parts
 placed n fs k t = record t { objects = put t.objects n (Some (new_object k (Some fs))); holdings = slice_set t.holdings n holds_nothing }
 
-module _ (limits : Limits) (nodes nodes2 : Nodes) (names : Directories) (pipes : List (Option Pipe)) (es : OpenTable) (hs : List ℕ) (now : Parts)
+module _ {limits : Limits} {nodes : Nodes} {names : Directories} {pipes : List (Option Pipe)} {es : OpenTable} {hs : List ℕ} {now : Parts}
     (j : AreJoined limits nodes names pipes es hs) (view : joined limits nodes names pipes es hs ≡ now)
     (n fs : ℕ) (k : Kind) (vacant : vacant_inode now.fss now.objects fs ≡ Some n) (kind : kind_of (is_dir (new_object k None)) ≡ k) where
   free : IsFreeInode (frame_alone now) fs n
@@ -104,7 +122,7 @@ module _ (limits : Limits) (nodes nodes2 : Nodes) (names : Directories) (pipes :
   same : object_of (names_of names n) (new_node fs (is_dir_kind k)) ≡ new_object k (Some fs)
   same = λ i. record (new_object k (Some fs)) { kind = kind i; names = nameless i }
 
-  module _ (new : nodes2 ≡ made (vacant_in fs nodes) (new_node fs (is_dir_kind k)) nodes) where
+  module _ {nodes2 : Nodes} (new : nodes2 ≡ made (vacant_in fs nodes) (new_node fs (is_dir_kind k)) nodes) where
     placed_is : nodes2 ≡ with_inode n (Some (new_node fs (is_dir_kind k))) [] nodes
     placed_is = new ∙ ap (λ (o : Option ℕ). made o (new_node fs (is_dir_kind k)) nodes) (sym (vacant_is limits nodes names pipes es hs now j view fs) ∙ vacant)
 
@@ -117,7 +135,7 @@ module _ (limits : Limits) (nodes nodes2 : Nodes) (names : Directories) (pipes :
     pub placed_joined : AreJoined limits nodes2 names pipes es hs
     placed_joined =
         let may : HasNames (Some (new_node fs (is_dir_kind k))) (names_for n names.lists) = subst (HasNames (Some (new_node fs (is_dir_kind k)))) (sym unnamed) (may_be (is_dir_kind k)) in
-        subst (λ (u : Nodes). AreJoined limits u names pipes es hs) (sym placed_is) (joined_put limits nodes names pipes es hs j names n
+        subst (λ (u : Nodes). AreJoined limits u names pipes es hs) (sym placed_is) (joined_put j names n
         (Some (new_node fs (is_dir_kind k))) low refl refl (λ o h. h) nameless may (λ o ne. refl))
 
     pub placed_view : joined limits nodes2 names pipes es hs ≡ placed n fs k now

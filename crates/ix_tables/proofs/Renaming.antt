@@ -4,14 +4,14 @@ use Rattle.std.proofs.Common.{slice_set, Option, None, option_map, refl, sym, ap
 use Rattle.std.{specs.Option.option_map_or, proofs.lemmas.Bool.Decides.eqb_tells}
 use Rattle.ix_model.specs.{world.{World.{Object, at, put, change, is_dir, is_file}, Directories.without_name}, rows.Walks.{node, child, nothing}}
 use Rattle.ix_model.specs.declared.{reply.Kind.Kind, config.Limits.Limits}
-use Rattle.ix_model.proofs.tables.{Finds.in_table, Tables.{seen_changed, at_changed, change_same}}
+use Rattle.ix_model.proofs.tables.{Finds.in_table, Tables.{change_same}}
 use Rattle.ix_model.specs.declared.reply.Kind.TheVariants as kind
 use Rattle.ix_inode.specs.{Nodes.{told_at, changed, Nodes, with_inode}, Shown.kind_of, declared.node.{Inode.Inode, Node.Node}}
 use Rattle.ix_name.specs.Directories.{Directories, names_of, under, without, with_fewer, removed, AreDifferent}
 use Rattle.ix_open.specs.Table.{OpenTable}
 use Rattle.ix_pipe.specs.Pipe.{Pipe}
-use Rattle.ix_tables.{specs.Parts.Parts, proofs.Joining.{inode_edited, Lists, names_at, at_objects, at_inode, put_inode, directory_there, names_there}}
-use Rattle.ix_tables.{proofs.Counting.{Names, names_fewer, times_fewer}, proofs.Placing.{inode_put, joined_put}}
+use Rattle.ix_tables.{specs.Parts.Parts, proofs.Joining.{inode_edited, Lists, names_at, at_objects, at_inode, put_inode, directory_there, directory_listed, names_there}}
+use Rattle.ix_tables.{proofs.Counting.{Names, names_fewer, times_fewer}, proofs.Placing.{inode_put, joined_put, joined_linked}}
 use Rattle.ix_tables.specs.Joined.{object_of, objects_of, object_of_pipe, all_objects, joined, names_in, names_for, HasLinks, HasNames, AreJoined}
 
 pub objects_named : (xs : List (Option Node)) (ls : Lists) (d : ℕ) (h : Names → Names) → length ls ≡ length xs
@@ -41,15 +41,15 @@ directory_edited limits nodes names names2 pipes es hs now long view d h low is 
 abbrev is_file_kind : Kind → Bool
 is_file_kind k = elim k [ kind.File ↦ true | _ ↦ false ]
 
-module _ (limits : Limits) (nodes nodes2 : Nodes) (names names2 : Directories) (pipes : List (Option Pipe)) (es : OpenTable) (hs : List ℕ) (now : Parts)
+module _ {limits : Limits} {nodes : Nodes} {names : Directories} {pipes : List (Option Pipe)} {es : OpenTable} {hs : List ℕ} {now : Parts}
     (j : AreJoined limits nodes names pipes es hs) (view : joined limits nodes names pipes es hs ≡ now)
     (d n : ℕ) (name : List ℕ) (dir : is_dir (node now.objects d) ≡ true) (there : child (node now.objects d) name ≡ Some n)
-    (different : AreDifferent (names_of names d)) (left : names2 ≡ removed (under name (names_of names d)) d name names) where
+    (different : AreDifferent (names_of names d)) {names2 : Directories} (left : names2 ≡ removed (under name (names_of names d)) d name names) where
   below : d < length nodes.nodes
-  below = (directory_there limits nodes names pipes es hs now view d dir).0
+  below = (directory_there j view d dir).0
 
   named : under name (names_of names d) ≡ Some n
-  named = ap (under name) (sym (names_there limits nodes names pipes es hs now view d dir)) ∙ there
+  named = ap (under name) (sym (names_there j view d dir)) ∙ there
 
   left_is : names2 ≡ with_fewer d name names
   left_is = left ∙ ap (λ o. removed o d name names) named
@@ -62,7 +62,7 @@ module _ (limits : Limits) (nodes nodes2 : Nodes) (names names2 : Directories) (
   ]
 
   in_lists : d < length names.lists
-  in_lists = omega (arith, below, j.lists)
+  in_lists = directory_listed j view d dir
 
   many : (with_fewer d name names).free + names_in (with_fewer d name names).lists ≡ names.free + names_in names.lists
   many = omega (arith, names_fewer names.lists d n name in_lists different named)
@@ -79,12 +79,12 @@ module _ (limits : Limits) (nodes nodes2 : Nodes) (names names2 : Directories) (
   ]
 
   -- an empty directory goes with its name
-  module _ (dir2 : is_dir (node now.objects n) ≡ true) (bare : (node now.objects n).names ≡ []) (gone : nodes2 ≡ with_inode n None [] nodes) where
+  module _ (dir2 : is_dir (node now.objects n) ≡ true) (bare : (node now.objects n).names ≡ []) {nodes2 : Nodes} (gone : nodes2 ≡ with_inode n None [] nodes) where
     empty : names_of names n ≡ []
-    empty = sym (names_there limits nodes names pipes es hs now view n dir2) ∙ bare
+    empty = sym (names_there j view n dir2) ∙ bare
 
     once : names_for n names.lists ≤ 1
-    once = go (at nodes.nodes n) refl (directory_there limits nodes names pipes es hs now view n dir2).1
+    once = go (at nodes.nodes n) refl (directory_there j view n dir2).1
       where
         go : (x : Option Node) → at nodes.nodes n ≡ x → option_map_or (λ y. y.dir) x false ≡ true → names_for n names.lists ≤ 1
         go None e h = cc
@@ -96,7 +96,7 @@ module _ (limits : Limits) (nodes nodes2 : Nodes) (names names2 : Directories) (
     directory_joined =
         let none : names_for n (with_fewer d name names).lists ≡ 0 = omega (arith, once, one_fewer) in
         let all : AreJoined limits (with_inode n None [] nodes) (with_fewer d name names) pipes es hs =
-        joined_put limits nodes names pipes es hs j (with_fewer d name names) n None (directory_there limits nodes names pipes es hs now view n dir2).0
+        joined_put j (with_fewer d name names) n None (directory_there j view n dir2).0
         (length-set names.lists d (without name (names_of names d))) many still_bare empty none others in
         rw (gone, left_is) all
 
@@ -108,7 +108,7 @@ module _ (limits : Limits) (nodes nodes2 : Nodes) (names names2 : Directories) (
     directory_gone =
         let edited = directory_edited limits nodes names names2 pipes es hs now j.lists view d (without name) below (ap (λ (x : Directories). x.lists) left_is) in
         inode_put limits nodes nodes2 names2 pipes es hs (record now { objects = change now.objects d (without_name name) }) j.bytes edited n None
-        (directory_there limits nodes names pipes es hs now view n dir2).0 gone
+        (directory_there j view n dir2).0 gone
 
   -- a name of a file goes, and a link with it
   module _ (file : is_file (node now.objects n) ≡ true) where
@@ -142,7 +142,7 @@ module _ (limits : Limits) (nodes nodes2 : Nodes) (names names2 : Directories) (
         go None e h = cc
         go (Some x) e h = let same : x.links ≡ i.links = cc in omega (arith, same, linked x e, one_fewer)
 
-    module _ (i : Inode) (is : Some i ≡ option_map (told_at n nodes) (at nodes.nodes n)) (fewer : nodes2 ≡ changed n (λ x. record x { links = i.links - 1 }) nodes) where
+    module _ (i : Inode) (is : Some i ≡ option_map (told_at n nodes) (at nodes.nodes n)) {nodes2 : Nodes} (fewer : nodes2 ≡ changed n (λ x. record x { links = i.links - 1 }) nodes) where
       tied_still : (x : Option Node) → at nodes.nodes n ≡ x → Some i ≡ option_map (told_at n nodes) x
           → HasNames (option_map (λ y. let z : Node = record y { links = i.links - 1 } in z) x) (names_for n (with_fewer d name names).lists)
       tied_still None e h = cc
@@ -152,32 +152,8 @@ module _ (limits : Limits) (nodes nodes2 : Nodes) (names names2 : Directories) (
           subst (λ b. HasLinks b (i.links - 1) (names_for n (with_fewer d name names).lists)) (sym (is_plain x e)) left
 
       pub file_joined : AreJoined limits nodes2 names2 pipes es hs
-      file_joined =
-          let ns2 = change nodes.nodes n (λ x. record x { links = i.links - 1 }) in
-          let long : length ns2 ≡ length nodes.nodes = length-set nodes.nodes n _ in
-          let all : AreJoined limits (changed n (λ x. record x { links = i.links - 1 }) nodes) (with_fewer d name names) pipes es hs = record {
-            lists = length-set names.lists d (without name (names_of names d)) ∙ j.lists ∙ sym long;
-            bytes = j.bytes ∙ sym long;
-            bare = λ o h. still_bare o
-                (j.bare o (sym (seen_changed (λ (x : Option Node). option_map_or (λ y. y.dir) x false) (λ x. record x { links = i.links - 1 }) (λ y. refl)
-                nodes.nodes n o) ∙ h));
-            entries = many ∙ j.entries;
-            links = λ o. elim (eqb_tells o n) [
-              | inl e ↦ subst (λ k. HasNames (at ns2 k) (names_for k (with_fewer d name names).lists)) (sym e.1)
-                  (subst (λ x. HasNames x (names_for n (with_fewer d name names).lists))
-                  (sym (at_changed nodes.nodes n (λ x. record x { links = i.links - 1 }))) (tied_still (at nodes.nodes n) refl is))
-              | inr e ↦ subst (λ x. HasNames x (names_for o (with_fewer d name names).lists)) (sym (get_or-set_other nodes.nodes n o _ None e.1))
-                  (subst (HasNames (at nodes.nodes o)) (sym (others o e.1)) (j.links o))
-            ];
-            first = j.first ∙ sym long;
-            pipes = j.pipes;
-            opens = j.opens;
-            objects = j.objects ∙ ap (λ k. k + length pipes) (sym long);
-            homes = j.homes ∙ ap (λ k. k + length pipes) (sym long);
-            few = subst (λ k. k + length pipes < 2 ^ 32) (sym long) j.few;
-            few_names = j.few_names;
-          } in
-          rw (fewer, left_is) all
+      file_joined = rw (fewer, left_is) (joined_linked j (with_fewer d name names) n (i.links - 1) (length-set names.lists d (without name (names_of names d))) many
+          (λ o h. still_bare o (j.bare o h)) (tied_still (at nodes.nodes n) refl is) others)
 
       pub file_left : joined limits nodes2 names2 pipes es hs ≡ record now { objects = change now.objects d (without_name name) }
       file_left =

@@ -3,9 +3,9 @@ use Rattle.std.proofs.Common.{◌≡◌, ◌+◌, ◌-◌, ◌<◌, true, false,
 use Rattle.std.proofs.{Common.{subst, ◌∙◌, arith, inl, inr}, lemmas.Bool.cases_lt}
 use Rattle.std.specs.Option.{option_map_or}
 use Rattle.ix_label.specs.Category.{Categories, bottom, top}
-use Rattle.ix_model.{proofs.tables.Finds.in_table, specs.{world.World.{Object, at, is_dir, is_pipe}, rows.Walks.{node, nothing}, declared.privs.PrivSet.PrivSet}}
+use Rattle.ix_model.{proofs.tables.Finds.in_table, specs.{world.World.{Object, at, is_dir, is_file, is_pipe}, rows.Walks.{node, nothing}, declared.{privs.PrivSet.PrivSet, reply.Kind.Kind}}}
 use Rattle.ix_model.specs.declared.reply.Kind.TheVariants as kind
-use Rattle.ix_inode.specs.{Nodes.{Nodes, told_at}, Shown.kind_of, declared.node.{Inode.Inode, Node.Node}}
+use Rattle.ix_inode.specs.{Nodes.{Nodes, told_at}, Shown.{kind_of, is_dir_kind}, declared.node.{Inode.Inode, Node.Node}}
 use Rattle.ix_name.specs.Directories.{Directories, names_of}
 use Rattle.ix_pipe.specs.Pipe.{Pipe}
 use Rattle.ix_tables.specs.{Joined.{object_of, object_of_pipe, all_objects}, Views.{Shows, object_by}, declared.row.ObjectRow.ObjectRow}
@@ -125,3 +125,16 @@ module _ (nodes : Nodes) (names : Directories) (pipes : List (Option Pipe)) (obj
       go : (x : Option Pipe) → option_map_or is_pipe (option_map object_of_pipe x) false ≡ is_some x
       go None = refl
       go (Some q) = refl
+
+-- ---- kinds
+pub not_file : (k : Kind) → (k ≡ kind.File → ⊥) → false ≡ is_file (record nothing { kind = k })
+not_file kind.File other = absurd (other refl)
+not_file k other = refl
+
+pub not_dir : (k : Kind) → (k ≡ kind.Dir → ⊥) → false ≡ is_dir_kind k
+not_dir kind.Dir other = absurd (other refl)
+not_dir k other = refl
+
+pub not_pipe : (k : Kind) → (k ≡ kind.Pipe → ⊥) → false ≡ is_pipe (record nothing { kind = k })
+not_pipe kind.Pipe other = absurd (other refl)
+not_pipe k other = refl

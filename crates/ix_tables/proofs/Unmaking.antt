@@ -110,7 +110,7 @@ module _ (limits : Limits) (nodes : Nodes) (names : Directories) (pipes : List (
       → nodes2 ≡ without n nodes → AreJoined limits nodes2 names pipes es hs
   idle_joined nodes2 n within idle is =
       let b = idle_bare n within idle in
-      subst (λ (u : Nodes). AreJoined limits u names pipes es hs) (sym is) (joined_put limits nodes names pipes es hs j names n None within refl refl (λ o h. h) b.1.0 b.1.1 (λ o ne. refl))
+      subst (λ (u : Nodes). AreJoined limits u names pipes es hs) (sym is) (joined_put j names n None within refl refl (λ o h. h) b.1.0 b.1.1 (λ o ne. refl))
 
   pub idle_gone : (nodes2 : Nodes) (n : ℕ) → n < length nodes.nodes → option_map_or (λ x. not (stays (frame_alone now) n x)) (at now.objects n) false ≡ true
       → nodes2 ≡ without n nodes → joined limits nodes2 names pipes es hs ≡ object_let_go n now

@@ -6,11 +6,9 @@ use Rattle.ix_tables.proofs.tables.Tables.child.Goals as goal
 pub returns-in-Some : goal.returns-in-Some
 returns-in-Some c = c.in-Some.ensures
     ∙ ap (under c.args.name.now.bytes.now)
-    (sym (names_there c.self.inside.limits c.self.inside.inodes c.self.inside.names c.self.inside.pipes c.self.inside.opens c.self.inside.homes.items
-    c.args.self.now c.self.view_is c.args.dir c.requires))
+    (sym (names_there c.self.invariant.0 c.self.view_is c.args.dir c.requires))
 
 pub returns-in-None : goal.returns-in-None
 returns-in-None c = c.in-None.ensures
     ∙ ap (under c.args.name.now.bytes.now)
-    (sym (names_there c.self.inside.limits c.self.inside.inodes c.self.inside.names c.self.inside.pipes c.self.inside.opens c.self.inside.homes.items
-    c.args.self.now c.self.view_is c.args.dir c.requires))
+    (sym (names_there c.self.invariant.0 c.self.view_is c.args.dir c.requires))

@@ -3,19 +3,16 @@ use Rattle.ix_tables.proofs.{Joining.directory_stands, Renaming.{directory_joine
 use Rattle.ix_tables.proofs.tables.Tables.remove_dir.Goals as goal
 
 pub free-requires : goal.free-requires
-free-requires c = directory_stands c.self.inside.limits c.self.inside.inodes c.self.inside.names c.self.inside.pipes c.self.inside.opens
-    c.self.inside.homes.items c.args.self.now c.self.view_is c.args.n c.requires.is_dir
+free-requires c = directory_stands c.self.invariant.0 c.self.view_is c.args.n c.requires.is_dir
 
 pub invariant_of-self : goal.invariant_of-self
 invariant_of-self c = (
-  directory_joined c.self.inside.limits c.self.inside.inodes c.free.new.self c.self.inside.names c.remove.new.self c.self.inside.pipes
-      c.self.inside.opens c.self.inside.homes.items c.args.self.now c.self.invariant.0 c.self.view_is c.args.dir c.args.n c.args.name.now.bytes.now c.requires.dir
+  directory_joined c.self.invariant.0 c.self.view_is c.args.dir c.args.n c.args.name.now.bytes.now c.requires.dir
       c.requires.child c.lemma_names_differ.ensures c.remove.ensures.left c.requires.is_dir c.requires.bare c.free.ensures,
   c.self.invariant.1
       ∙ sym (rw c.free.ensures (length-set c.self.inside.inodes.nodes c.args.n None)),
 )
 
 pub returns : goal.returns
-returns c = directory_gone c.self.inside.limits c.self.inside.inodes c.free.new.self c.self.inside.names c.remove.new.self c.self.inside.pipes
-    c.self.inside.opens c.self.inside.homes.items c.args.self.now c.self.invariant.0 c.self.view_is c.args.dir c.args.n c.args.name.now.bytes.now c.requires.dir
+returns c = directory_gone c.self.invariant.0 c.self.view_is c.args.dir c.args.n c.args.name.now.bytes.now c.requires.dir
     c.requires.child c.lemma_names_differ.ensures c.remove.ensures.left c.requires.is_dir c.requires.bare c.free.ensures
