@@ -26,7 +26,7 @@ fn bits(word: &[u8]) -> Option<u8>
     let (to_ceil, rest) = after_letter(to_priv, b'C', 4, rest);
     let (to_thaw, rest) = after_letter(to_ceil, b'T', 8, rest);
     let (all, rest) = after_letter(to_thaw, b'L', 16, rest);
-    if rest.is_empty() { Some(all) } else { None }
+    rest.is_empty().then_some(all)
 }
 
 /// The set of privileges that the word spells: a dash, or some of the letters D, P, C, T and L of DOWN, PRIV, CEIL, THAW and LOG,
