@@ -1,7 +1,8 @@
 -- The longest front of a text that passes a test.
-use Rattle.std.proofs.Common.{◌≡◌, ℕ, suc, zero, ◌-◌, ◌<◌, ◌≤◌, Bool, true, false, cond, List, [], length, take, Option, Some, None, is_some, refl, arith, ap, sym, ◌∙◌}
+use Rattle.std.proofs.Common.{◌≡◌, ℕ, suc, zero, ◌-◌, ◌<◌, ◌≤◌, Bool, true, false, cond, List, [], ◌++◌, length, take, Option, Some, None, is_some, refl, arith, ap, sym, ◌∙◌, subst, append-nil, append_assoc}
 use Rattle.std.proofs.Math.Arith.{le_of_le-suc-ne}
-use Rattle.ix_asking.specs.serving.{Messages.{longest_front, longest_up_to}, Requests.{Begins, IsLongest}}
+use Rattle.ix_asking.specs.serving.{Messages.{is_front_of, longest_front, longest_up_to}, Requests.{Begins, IsLongest}}
+use Rattle.ix_asking.proofs.Words.{front-ends}
 
 -- where the longest of those at hand doesn't pass, it is among the shorter ones
 pub shorter : (test : List ℕ → Bool) (text : List ℕ) (n : ℕ) → 0 < n → test (take n text) ≡ false → longest_up_to (n - 1) test text ≡ longest_up_to n test text
@@ -55,3 +56,12 @@ by_found P (Some x) some none = some x refl
 pub some_found : {A : Type 0} (found : Option A) → is_some found ≡ true → (x : A) × (found ≡ Some x)
 some_found None h = cc
 some_found (Some x) h = (x, refl)
+
+-- a front of the word begins what the word begins, and a request begins itself
+pub word-begins : (IsRequest : List ℕ → Type 0) (word end text : List ℕ) → IsRequest (word ++ end) → is_front_of word text ≡ true → Begins IsRequest text
+word-begins IsRequest word end text is front =
+    let ends = front-ends word text front in
+    (ends.0 ++ end, subst IsRequest (ap (λ t. t ++ end) (sym ends.1) ∙ append_assoc text ends.0 end) is)
+
+pub request-begins : (IsRequest : List ℕ → Type 0) (text : List ℕ) → IsRequest text → Begins IsRequest text
+request-begins IsRequest text is = ([], subst IsRequest (sym (append-nil text)) is)

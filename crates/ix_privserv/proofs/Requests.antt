@@ -1,11 +1,11 @@
 -- Messages are read as they stand.
 use Rattle.std.proofs.Common.{◌≡◌, ℕ, Bool, true, false, List, [], ◌++◌, codes, Option, Some, None, option_and_then, refl, ap, sym, ◌∙◌, subst, if◌then◌else◌}
-use Rattle.std.proofs.Common.{inl, inr, append-nil, append_assoc}
+use Rattle.std.proofs.Common.{inl, inr}
 use Rattle.std.{specs.{Option.is_some, Cmp.Lexicographic.bytes_decides}, proofs.{Math.Bool.or-true, lemmas.Bool.or_cases}}
 use Rattle.ix_model.specs.{world.Naming.same_bytes, declared.privs.PrivSet.PrivSet}
 use Rattle.ix_text.specs.Privs.{privs_of}
 use Rattle.ix_asking.specs.serving.{Messages.{after_word, is_front_of}, Requests.Begins}
-use Rattle.ix_asking.proofs.{Fronts.{longest-is, by_found, some_found}, Words.{after-is, after-word, front-ends, front-self, front-splits}}
+use Rattle.ix_asking.proofs.{Fronts.{longest-is, by_found, some_found, word-begins, request-begins}, Words.{after-is, after-word, front-self, front-splits}}
 use Rattle.ix_privserv.{specs.{Messages.{begins_request, set_of, wanted}, Requests.{IsRead, IsRequest, Wants}}, proofs.Letters.set-front}
 
 abbrev want : List ℕ
@@ -46,16 +46,12 @@ d_wanted = (record { 0 = 1 }, (codes "D", refl, (λ e. cc), refl))
 
 begins : (text : List ℕ) → begins_request text ≡ true → Begins IsRequest text
 unfolding begins_request
-begins text h =
-    let P : List ℕ → Type 0 = λ t. IsRequest t in
-    elim (or_cases (is_front_of want text) (is_some (wanted text)) h) [
-      | inl front ↦
-          let ends = front-ends want text front in
-          (ends.0 ++ codes "D", subst P (ap (λ t. t ++ codes "D") (sym ends.1) ∙ append_assoc text ends.0 (codes "D")) d_wanted)
-      | inr read ↦
-          let some = some_found (wanted text) read in
-          ([], subst P (sym (append-nil text)) (some.0, read-wants text some.0 some.1))
-    ]
+begins text h = elim (or_cases (is_front_of want text) (is_some (wanted text)) h) [
+  | inl front ↦ word-begins IsRequest want (codes "D") text d_wanted front
+  | inr read ↦
+      let some = some_found (wanted text) read in
+      request-begins IsRequest text (some.0, read-wants text some.0 some.1)
+]
 
 front_passes : (text : List ℕ) → is_front_of want text ≡ true → begins_request text ≡ true
 unfolding begins_request

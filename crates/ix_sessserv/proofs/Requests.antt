@@ -1,10 +1,10 @@
 -- Messages are read as they stand.
 use Rattle.std.proofs.Common.{◌≡◌, ℕ, Bool, true, false, ◌||◌, List, [], ◌++◌, codes, Option, Some, None, option_and_then, refl, ap, sym, ◌∙◌, subst, inl, inr}
-use Rattle.std.proofs.Common.{if◌then◌else◌, append-nil, append_assoc}
+use Rattle.std.proofs.Common.{if◌then◌else◌, append_assoc}
 use Rattle.std.{specs.Option.{is_some, option_map_or}, proofs.{Math.Bool.or-true, lemmas.Bool.or_cases}}
 use Rattle.ix_text.specs.Names.{is_reserved, is_script_name, name_of}
 use Rattle.ix_asking.specs.serving.{Messages.{after_word, is_front_of}, Requests.Begins}
-use Rattle.ix_asking.proofs.{Fronts.{longest-is, by_found, some_found}, Words.{after-is, after-word, front-ends, front-self, front-splits}}
+use Rattle.ix_asking.proofs.{Fronts.{longest-is, by_found, some_found, word-begins, request-begins}, Words.{after-is, after-word, front-self, front-splits}}
 use Rattle.ix_sessserv.specs.{Messages.{begins_request, is_reserved_login, user_in}, Requests.{IsRead, IsRequest, LogsIn}}
 use Rattle.ix_sessserv.proofs.Users.{a-name, name-front, reserved-begins}
 
@@ -50,21 +50,17 @@ reserved_login text (Some word) h e = (word, after-is login text word h, e)
 
 begins : (text : List ℕ) → begins_request text ≡ true → Begins IsRequest text
 unfolding begins_request
-begins text h =
-    let P : List ℕ → Type 0 = λ t. IsRequest t in
-    elim (or_cases (is_front_of login text || is_some (user_in text)) (is_reserved_login text) h) [
-      | inl two ↦ elim (or_cases (is_front_of login text) (is_some (user_in text)) two) [
-        | inl front ↦
-            let ends = front-ends login text front in
-            (ends.0 ++ codes "a", subst P (ap (λ t. t ++ codes "a") (sym ends.1) ∙ append_assoc text ends.0 (codes "a")) a_login)
-        | inr read ↦
-            let some = some_found (user_in text) read in
-            ([], subst P (sym (append-nil text)) (some.0, read-logs_in text some.0 some.1))
-      ]
-      | inr reserved ↦
-          let word = reserved_login text (after_word login text) refl reserved in
-          (codes "a", (word.0 ++ codes "a", (ap (λ t. t ++ codes "a") word.1 ∙ append_assoc login word.0 (codes "a"), reserved-begins word.0 word.2)))
-    ]
+begins text h = elim (or_cases (is_front_of login text || is_some (user_in text)) (is_reserved_login text) h) [
+  | inl two ↦ elim (or_cases (is_front_of login text) (is_some (user_in text)) two) [
+    | inl front ↦ word-begins IsRequest login (codes "a") text a_login front
+    | inr read ↦
+        let some = some_found (user_in text) read in
+        request-begins IsRequest text (some.0, read-logs_in text some.0 some.1)
+  ]
+  | inr reserved ↦
+      let word = reserved_login text (after_word login text) refl reserved in
+      (codes "a", (word.0 ++ codes "a", (ap (λ t. t ++ codes "a") word.1 ∙ append_assoc login word.0 (codes "a"), reserved-begins word.0 word.2)))
+]
 
 front_passes : (text : List ℕ) → is_front_of login text ≡ true → begins_request text ≡ true
 unfolding begins_request
