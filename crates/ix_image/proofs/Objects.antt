@@ -5,7 +5,7 @@ use Rattle.ix_model.specs.{opening.Valid.is_within, world.Naming.is_name, declar
 use Rattle.ix_text.specs.Names.{is_script_name}
 use Rattle.ix_image.specs.{declared.marks.Marks.Marks, Trees.{LinkOf, Holds, Bytes, Links, are_links}, Labelled.label_bytes, Laws.AreBytes, Image.{is_size_of_file_system, is_count_of_names}}
 use Rattle.ix_image.specs.{Image.{four, name_bytes, file_system_bytes, link_bytes, held_bytes, flag, marks_bytes, IsFileSystem, IsLink, AreHeld, is_size_of_file}, Reading.{set_at, marks_at}}
-use Rattle.ix_image.specs.Reading.{Read, ◌>>=◌, number_at, name_at, file_system_at, file_systems_at, link_at, links_at, file_at, directory_at, held_at, flag_at}
+use Rattle.ix_image.specs.Reading.{Read, ◌>>=◌, number_at, name_at, many_at, file_system_at, file_systems_at, link_at, links_at, file_at, directory_at, held_at, flag_at}
 use Rattle.ix_image.proofs.Fielding.{OneField, Took, took_both, stepped, bind_ok, taken, bytes_field, word_field, number_field, small_field, name_field, label_field}
 
 -- ---- tests
@@ -29,35 +29,42 @@ pub size_field : OneField (number_at is_size_of_file_system) four (λ n. is_size
 size_field = number_field _ (λ n h. omega (arith, most_within 1 _ n h))
 
 -- ---- many of one kind
-module _ {A : Type 0} (read : List ℕ → Read A) (write : A → List ℕ) (may : A → Type 0) (one : OneField read write may) (many : ℕ → List ℕ → Read (List A))
-    (none : (bytes : List ℕ) → many zero bytes ≡ Ok ([], bytes))
-    (more : (n : ℕ) (bytes : List ℕ) → many (suc n) bytes ≡ (read bytes >>= λ first. many n first.1 >>= λ others. Ok (first.0 ∷ others.0, others.1))) where
-  pub many_take : (n : ℕ) (bytes : List ℕ) (xs : List A) (rest : List ℕ) → AreBytes bytes → many n bytes ≡ Ok (xs, rest) → Took bytes (flat_map write xs) rest
+module _ {A : Type 0} (read : List ℕ → Read A) where
+  pub no_more : (bytes : List ℕ) → many_at read zero bytes ≡ Ok ([], bytes)
+  unfolding many_at
+  no_more bytes = refl
+
+  pub one_more : (n : ℕ) (bytes : List ℕ) → many_at read (suc n) bytes ≡ (read bytes >>= λ first. many_at read n first.1 >>= λ others. Ok (first.0 ∷ others.0, others.1))
+  unfolding many_at
+  one_more n bytes = refl
+
+module _ {A : Type 0} (read : List ℕ → Read A) (write : A → List ℕ) (may : A → Type 0) (one : OneField read write may) where
+  pub many_take : (n : ℕ) (bytes : List ℕ) (xs : List A) (rest : List ℕ) → AreBytes bytes → many_at read n bytes ≡ Ok (xs, rest) → Took bytes (flat_map write xs) rest
       × ((length xs ≡ n) × AllByRecursion may xs)
   many_take zero bytes xs rest are e =
       let whole : Took bytes [] bytes = record { parts = refl; are_bytes = are } in
-      taken _ ([], bytes) (xs, rest) (flat_map write) (λ x. (length x ≡ 0) × AllByRecursion may x) (sym (none _) ∙ e) (whole, (refl, tt))
+      taken _ ([], bytes) (xs, rest) (flat_map write) (λ x. (length x ≡ 0) × AllByRecursion may x) (sym (no_more read _) ∙ e) (whole, (refl, tt))
   many_take (suc n) bytes xs rest are e =
-      let s = stepped one _ _ _ are (sym (more n bytes) ∙ e) in
+      let s = stepped one _ _ _ are (sym (one_more read n bytes) ∙ e) in
       let b = bind_ok _ _ _ s.next in
       let t = many_take n _ _ _ s.took.are_bytes b.1 in
       taken bytes (s.value ∷ b.0.0, b.0.1) (xs, rest) (flat_map write) (λ x. (length x ≡ suc n) × AllByRecursion may x) b.2
       (subst (λ (x : List ℕ). Took bytes x b.0.1) (sym (flat_map-cons write s.value b.0.0)) (took_both s.took t.0), (ap suc t.1.0, (s.allowed, t.1.1)))
 
-  pub many_again : (xs : List A) (rest : List ℕ) → AllByRecursion may xs → many (length xs) (flat_map write xs ++ rest) ≡ Ok (xs, rest)
-  many_again [] rest all = none _
+  pub many_again : (xs : List A) (rest : List ℕ) → AllByRecursion may xs → many_at read (length xs) (flat_map write xs ++ rest) ≡ Ok (xs, rest)
+  many_again [] rest all = no_more read _
   many_again (x ∷ xs) rest all =
-      more (length xs) (flat_map write (x ∷ xs) ++ rest) ∙ rw (
+      one_more read (length xs) (flat_map write (x ∷ xs) ++ rest) ∙ rw (
         ap (λ b. b ++ rest) (flat_map-cons write x xs)
             ∙ append_assoc (write x) (flat_map write xs) rest,
         one.again x (flat_map write xs ++ rest) all.0,
         many_again xs rest all.1,
       ) refl
 
-  pub many_field : (n : ℕ) → OneField (many n) (flat_map write) (λ xs. (length xs ≡ n) × AllByRecursion may xs)
+  pub many_field : (n : ℕ) → OneField (many_at read n) (flat_map write) (λ xs. (length xs ≡ n) × AllByRecursion may xs)
   many_field n = record {
     takes = many_take n;
-    again = λ xs rest is. ap (λ k. many k (flat_map write xs ++ rest)) (sym is.0) ∙ many_again xs _ is.1;
+    again = λ xs rest is. ap (λ k. many_at read k (flat_map write xs ++ rest)) (sym is.0) ∙ many_again xs _ is.1;
   }
 
 -- ---- file systems
@@ -91,16 +98,8 @@ file_system_field = record { takes = takes; again = again }
           size_field.again s.inodes rest is.inodes,
         ) refl
 
-pub no_systems : (bytes : List ℕ) → file_systems_at zero bytes ≡ Ok ([], bytes)
-unfolding file_systems_at
-no_systems bytes = refl
-
-pub more_systems : (n : ℕ) (bytes : List ℕ) → file_systems_at (suc n) bytes ≡ (file_system_at bytes >>= λ first. file_systems_at n first.1 >>= λ others. Ok (first.0 ∷ others.0, others.1))
-unfolding file_systems_at
-more_systems n bytes = refl
-
 pub file_systems_field : (n : ℕ) → OneField (file_systems_at n) (flat_map file_system_bytes) (λ xs. (length xs ≡ n) × AllByRecursion IsFileSystem xs)
-file_systems_field = many_field _ file_system_bytes IsFileSystem file_system_field file_systems_at no_systems more_systems
+file_systems_field = many_field _ file_system_bytes IsFileSystem file_system_field
 
 -- ---- names
 named : OneField (name_at is_name) name_bytes (λ x. is_name x ≡ true)
@@ -120,16 +119,8 @@ link_field = record { takes = takes; again = again }
     again l rest is =
         ap link_at (append_assoc (name_bytes l.0) _ rest) ∙ rw (named.again l.0 (four l.1 ++ rest) is.name, word_field.again l.1 rest is.object) refl
 
-pub no_links : (bytes : List ℕ) → links_at zero bytes ≡ Ok ([], bytes)
-unfolding links_at
-no_links bytes = refl
-
-pub more_links : (n : ℕ) (bytes : List ℕ) → links_at (suc n) bytes ≡ (link_at bytes >>= λ first. links_at n first.1 >>= λ others. Ok (first.0 ∷ others.0, others.1))
-unfolding links_at
-more_links n bytes = refl
-
 pub links_field : (n : ℕ) → OneField (links_at n) (flat_map link_bytes) (λ xs. (length xs ≡ n) × AllByRecursion IsLink xs)
-links_field = many_field _ link_bytes IsLink link_field links_at no_links more_links
+links_field = many_field _ link_bytes IsLink link_field
 
 -- ---- what objects hold
 file_size_field : OneField (number_at is_size_of_file) four (λ n. is_size_of_file n ≡ true)

@@ -3,7 +3,7 @@ use Rattle.std.{proofs.{Common.{◌≡◌, ℕ, zero, suc, ◌+◌, ◌-◌, ◌
 use Rattle.ix_model.specs.declared.config.FsSpec.{FsSpec}
 use Rattle.ix_image.specs.{declared.{fault.Fault.Fault, node.Node.Node}, Trees.{LinkOf, NodeOf}, Meant.{links_read, node_of, nodes_of}}
 use Rattle.ix_image.specs.Reading.{Read, ◌>>=◌, link_at, links_at, file_system_at, file_systems_at, node_at, nodes_at}
-use Rattle.ix_image.proofs.{Looping.{with_front, goes_on, ends_at, all_read, none_read_yet}, Objects.{no_systems, more_systems, no_links, more_links}}
+use Rattle.ix_image.proofs.{Looping.{with_front, goes_on, ends_at, all_read, none_read_yet}, Objects.{no_more, one_more}}
 
 -- ---- names
 -- names that were read, and those that are left, are all
@@ -12,21 +12,21 @@ pub record LinksSoFar (n i : ℕ) (bytes rest : List ℕ) : Type 0 where
   pub whole : with_front front (links_at (n - i) rest) ≡ links_at n bytes
 
 pub links_begin : (n : ℕ) (bytes : List ℕ) → LinksSoFar n 0 bytes bytes
-links_begin n bytes = record { front = []; whole = none_read_yet (λ s. link_at) (λ l. tt {0}) (λ s. links_at) (λ s. no_links) (λ s. more_links) n (tt) bytes }
+links_begin n bytes = record { front = []; whole = none_read_yet (λ s. link_at) (λ l. tt {0}) (λ s. links_at) (λ s. no_more link_at) (λ s. one_more link_at) n (tt) bytes }
 
 pub links_go_on : (n i : ℕ) (bytes rest after : List ℕ) (l : LinkOf) → i < n → link_at rest ≡ Ok (l, after) → LinksSoFar n i bytes rest → LinksSoFar n (i + 1) bytes after
 links_go_on n i bytes rest after l low h so_far =
     record {
       front = so_far.front ++ l ∷ [];
-      whole = goes_on (λ s. link_at) (λ l. tt {0}) (λ s. links_at) (λ s. no_links) (λ s. more_links) so_far.front n i (tt) rest l _
+      whole = goes_on (λ s. link_at) (λ l. tt {0}) (λ s. links_at) (λ s. no_more link_at) (λ s. one_more link_at) so_far.front n i (tt) rest l _
           (links_at n bytes) low h so_far.whole;
     }
 
 pub links_end : (n i : ℕ) (bytes rest : List ℕ) (f : Fault) → i < n → link_at rest ≡ Err f → LinksSoFar n i bytes rest → links_at n bytes ≡ Err f
-links_end n i bytes rest f low h so_far = ends_at (λ s. link_at) (λ l. tt {0}) (λ s. links_at) (λ s. no_links) (λ s. more_links) so_far.front n i (tt) rest f (links_at n bytes) low h so_far.whole
+links_end n i bytes rest f low h so_far = ends_at (λ s. link_at) (λ l. tt {0}) (λ s. links_at) (λ s. no_more link_at) (λ s. one_more link_at) so_far.front n i (tt) rest f (links_at n bytes) low h so_far.whole
 
 all_links : (n i : ℕ) (bytes rest : List ℕ) (so_far : LinksSoFar n i bytes rest) → n ≤ i → links_at n bytes ≡ Ok (so_far.front, rest)
-all_links n i bytes rest so_far high = all_read (λ s. link_at) (λ l. tt {0}) (λ s. links_at) (λ s. no_links) (λ s. more_links) _ n i (tt) _ (links_at n bytes) high so_far.whole
+all_links n i bytes rest so_far high = all_read (λ s. link_at) (λ l. tt {0}) (λ s. links_at) (λ s. no_more link_at) (λ s. one_more link_at) _ n i (tt) _ (links_at n bytes) high so_far.whole
 
 pub links_readable : (n i : ℕ) (bytes rest : List ℕ) → LinksSoFar n i bytes rest → n ≤ i → is_ok (links_at n bytes) ≡ true
 links_readable n i bytes rest so_far high = ap is_ok (all_links n i _ _ so_far high)
@@ -38,18 +38,18 @@ links_are n i bytes rest so_far high =
 
 -- ---- file systems
 pub systems_begin : (n : ℕ) (bytes : List ℕ) → with_front [] (file_systems_at (n - 0) bytes) ≡ file_systems_at n bytes
-systems_begin n bytes = none_read_yet (λ s. file_system_at) (λ l. tt {0}) (λ s. file_systems_at) (λ s. no_systems) (λ s. more_systems) n (tt) bytes
+systems_begin n bytes = none_read_yet (λ s. file_system_at) (λ l. tt {0}) (λ s. file_systems_at) (λ s. no_more file_system_at) (λ s. one_more file_system_at) n (tt) bytes
 
 pub systems_go_on : (front : List FsSpec) (n i : ℕ) (bytes : List ℕ) (x : FsSpec) (after : List ℕ) (total : Read (List FsSpec)) → i < n → file_system_at bytes ≡ Ok (x, after)
     → with_front front (file_systems_at (n - i) bytes) ≡ total → with_front (front ++ x ∷ []) (file_systems_at (n - (i + 1)) after) ≡ total
-systems_go_on front n i bytes = goes_on (λ s. file_system_at) (λ l. tt {0}) (λ s. file_systems_at) (λ s. no_systems) (λ s. more_systems) front n i (tt) bytes
+systems_go_on front n i bytes = goes_on (λ s. file_system_at) (λ l. tt {0}) (λ s. file_systems_at) (λ s. no_more file_system_at) (λ s. one_more file_system_at) front n i (tt) bytes
 
 pub systems_end : (front : List FsSpec) (n i : ℕ) (bytes : List ℕ) (f : Fault) (total : Read (List FsSpec)) → i < n → file_system_at bytes ≡ Err f
     → with_front front (file_systems_at (n - i) bytes) ≡ total → total ≡ Err f
-systems_end front n i bytes = ends_at (λ s. file_system_at) (λ l. tt {0}) (λ s. file_systems_at) (λ s. no_systems) (λ s. more_systems) front n i (tt) bytes
+systems_end front n i bytes = ends_at (λ s. file_system_at) (λ l. tt {0}) (λ s. file_systems_at) (λ s. no_more file_system_at) (λ s. one_more file_system_at) front n i (tt) bytes
 
 pub all_systems : (front : List FsSpec) (n i : ℕ) (bytes : List ℕ) (total : Read (List FsSpec)) → n ≤ i → with_front front (file_systems_at (n - i) bytes) ≡ total → total ≡ Ok (front, bytes)
-all_systems front n i bytes = all_read (λ s. file_system_at) (λ l. tt {0}) (λ s. file_systems_at) (λ s. no_systems) (λ s. more_systems) _ n i (tt) _
+all_systems front n i bytes = all_read (λ s. file_system_at) (λ l. tt {0}) (λ s. file_systems_at) (λ s. no_more file_system_at) (λ s. one_more file_system_at) _ n i (tt) _
 
 -- ---- objects
 module _ (fss : List FsSpec) where

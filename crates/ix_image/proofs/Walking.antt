@@ -1,14 +1,14 @@
 -- Names that stand one behind the other: how they are read, and read again one by one.
 use Rattle.std.{proofs.Common.{◌≡◌, ℕ, zero, suc, ◌-◌, true, List, [], ◌∷◌, length, Ok, Err, refl, sym, ap, ◌∙◌, arith}, specs.Result.is_ok}
-use Rattle.ix_image.specs.{declared.fault.Fault.Fault, Trees.LinkOf, Reading.{Read, ◌>>=◌, link_at, links_at}, Meant.links_read}
+use Rattle.ix_image.specs.{declared.fault.Fault.Fault, Trees.LinkOf, Reading.{Read, ◌>>=◌, many_at, link_at, links_at}, Meant.links_read}
 
 -- none
 pub none_readable : is_ok (links_at 0 []) ≡ true
-unfolding links_at
+unfolding many_at
 none_readable = refl
 
 pub none_read : (text : List ℕ) → links_read (links_at 0 text) ≡ []
-unfolding links_at
+unfolding many_at
 none_read text = refl
 
 -- names of which the first was read, from what the others gave
@@ -20,7 +20,7 @@ abbrev from_first : ℕ → Read LinkOf → Read (List LinkOf)
 from_first n r = r >>= λ l. behind_first l.0 (links_at n l.1)
 
 begins_so : (n : ℕ) (text : List ℕ) → links_at (suc n) text ≡ from_first n (link_at text)
-unfolding links_at
+unfolding many_at
 begins_so n text = refl
 
 -- as many as were to be read

@@ -116,6 +116,14 @@ order_at fss least bytes = do
   n ← word_at bytes
   if nat_le least n.0 && nat_lt n.0 (inodes_in fss) then Ok n else Err (breaks 5 bytes)
 
+-- so many of one kind
+unfoldable pub many_at : {A : Type 0} → (List ℕ → Read A) → ℕ → List ℕ → Read (List A)
+many_at read zero bytes = Ok ([], bytes)
+many_at read (suc n) bytes = do
+  first ← read bytes
+  others ← many_at read n first.1
+  Ok (first.0 ∷ others.0, others.1)
+
 -- ---- file systems
 unfoldable pub file_system_at : List ℕ → Read FsSpec
 file_system_at bytes = do
@@ -126,12 +134,8 @@ file_system_at bytes = do
   Ok (record { name = name.0; ceiling = ceiling.0; blocks = blocks.0; inodes = inodes.0 }, inodes.1)
 
 -- so many of them
-unfoldable pub file_systems_at : ℕ → List ℕ → Read (List FsSpec)
-file_systems_at zero bytes = Ok ([], bytes)
-file_systems_at (suc n) bytes = do
-  first ← file_system_at bytes
-  others ← file_systems_at n first.1
-  Ok (first.0 ∷ others.0, others.1)
+abbrev pub file_systems_at : ℕ → List ℕ → Read (List FsSpec)
+file_systems_at = many_at file_system_at
 
 -- ---- objects
 -- a name with the number of its object
@@ -142,12 +146,8 @@ link_at bytes = do
   Ok ((name.0, object.0), object.1)
 
 -- so many of them
-unfoldable pub links_at : ℕ → List ℕ → Read (List LinkOf)
-links_at zero bytes = Ok ([], bytes)
-links_at (suc n) bytes = do
-  first ← link_at bytes
-  others ← links_at n first.1
-  Ok (first.0 ∷ others.0, others.1)
+abbrev pub links_at : ℕ → List ℕ → Read (List LinkOf)
+links_at = many_at link_at
 
 -- the bytes of a file, behind their number
 unfoldable pub file_at : List ℕ → Read Holds
