@@ -15,6 +15,7 @@ pub use copying::Copying;
 pub use making::{count_in, make_next, run};
 pub use serving::deciding::decided;
 pub use serving::ended::served;
+pub use serving::fronts::{Requests, bad_at};
 pub use serving::outcome::Outcome;
 pub use serving::telling::{Telling, tell, untold};
 pub use stop::{Stop, given};

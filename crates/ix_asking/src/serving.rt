@@ -2,6 +2,7 @@
 
 pub mod deciding;
 pub mod ended;
+pub mod fronts;
 pub mod outcome;
 pub mod spelling;
 pub mod telling;

@@ -1,8 +1,9 @@
 //! The messages to the privilege server.
 
-ghost use Rattle.std.specs.Prelude.{◌≡◌, ◌≤◌, length};
-ghost use Rattle.ix_privserv.specs.Messages.{bad_at, begins_request, wanted};
+ghost use Rattle.std.specs.Prelude.{◌≡◌};
+ghost use Rattle.ix_privserv.specs.Messages.{begins_request, wanted};
 
+use ix_asking::Requests;
 use ix_model::PrivSet;
 use ix_text::{is, privs_of};
 
@@ -18,22 +19,14 @@ pub(crate) fn wanted(message: &[u8]) -> Option<PrivSet>
     privs_of(word)
 }
 
-/// Whether some request begins with the text.
-#[tactic(auto, unfolding(crate::specs::Messages::begins_request))]
-fn begins_request(text: &[u8]) -> bool
-    ensures { result ≡ begins_request text.now }
-{
-    b"want ".starts_with(text) || wanted(text).is_some()
-}
+/// The requests to the privilege server.
+pub(crate) struct Wants;
 
-/// How many bytes the longest front of the message has that some request begins with.
-pub(crate) fn bad_at(message: &[u8]) -> u32
-    requires { length message.now ≤ 4096 }
-    ensures { result ≡ bad_at message.now }
-{
-    let mut at = message.len();
-    'fronts: while at > 0 && !begins_request(&message[..at]) {
-        at -= 1;
+impl Requests for Wants {
+    ghost begins = { begins_request };
+
+    #[tactic(auto, unfolding(crate::specs::Messages::begins_request))]
+    fn is_begun(text: &[u8]) -> bool {
+        b"want ".starts_with(text) || wanted(text).is_some()
     }
-    at as u32
 }

@@ -3,8 +3,8 @@ ghost use Rattle.ix_policy.specs.declared.rule.Rule.{Rule};
 ghost use Rattle.ix_asking.specs.{Asking.{first, heard, IsDue}, serving.{Serving.{Server, if_refused, on_claim, tell}, Telling.{telling_asks, telling_most}}};
 ghost use Rattle.ix_privserv.specs.{Places.{asks_at, most_at}, Serving.{on_message}};
 
-use crate::message::{bad_at, wanted};
-use ix_asking::{Asks, Outcome, Step, Telling, decided, tell, untold};
+use crate::message::{Wants, wanted};
+use ix_asking::{Asks, Outcome, Step, Telling, bad_at, decided, tell, untold};
 use ix_label::Label;
 use ix_model::{Call, Fd, Pid, PrivSet, Reply};
 use ix_policy::{Policy, Request};
@@ -58,7 +58,7 @@ fn on_message(policy: &Policy, client: Pid, label: Label, message: &[u8]) -> At
 {
     let Some(want) = wanted(message) else {
         return At::Tell(tell(Outcome::BadRequest {
-            at: bad_at(message),
+            at: bad_at::<Wants>(message),
             told: false,
         }));
     };

@@ -1,8 +1,9 @@
 //! The messages to the session server.
 
-ghost use Rattle.std.specs.Prelude.{◌≡◌, ◌≤◌, length, option_map};
-ghost use Rattle.ix_sessserv.specs.Messages.{after_login, bad_at, begins_request, is_reserved_login, user_in};
+ghost use Rattle.std.specs.Prelude.{◌≡◌, option_map};
+ghost use Rattle.ix_sessserv.specs.Messages.{after_login, begins_request, is_reserved_login, user_in};
 
+use ix_asking::Requests;
 use ix_model::Name;
 use ix_text::{is_reserved, name_of};
 
@@ -32,22 +33,14 @@ fn is_reserved_login(text: &[u8]) -> bool
     }
 }
 
-/// Whether some request begins with the text.
-#[tactic(auto, unfolding(crate::specs::Messages::begins_request))]
-fn begins_request(text: &[u8]) -> bool
-    ensures { result ≡ begins_request text.now }
-{
-    b"login ".starts_with(text) || user_in(text).is_some() || is_reserved_login(text)
-}
+/// The requests to the session server.
+pub(crate) struct LogsIn;
 
-/// How many bytes the longest front of the message has that some request begins with.
-pub(crate) fn bad_at(message: &[u8]) -> u32
-    requires { length message.now ≤ 4096 }
-    ensures { result ≡ bad_at message.now }
-{
-    let mut at = message.len();
-    'fronts: while at > 0 && !begins_request(&message[..at]) {
-        at -= 1;
+impl Requests for LogsIn {
+    ghost begins = { begins_request };
+
+    #[tactic(auto, unfolding(crate::specs::Messages::begins_request))]
+    fn is_begun(text: &[u8]) -> bool {
+        b"login ".starts_with(text) || user_in(text).is_some() || is_reserved_login(text)
     }
-    at as u32
 }

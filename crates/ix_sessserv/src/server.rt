@@ -5,9 +5,9 @@ ghost use Rattle.ix_asking.specs.{Asking.{first, heard, IsDue}, serving.Serving.
 ghost use Rattle.ix_sessserv.specs.Places.{asks_at, most_at};
 ghost use Rattle.ix_sessserv.specs.Serving.{all_five, child_in, clear_of, drop_all, give_up, grant_if_any, on_message, privs_of, set_ceiling, succeed};
 
-use crate::message::{bad_at, user_in};
+use crate::message::{LogsIn, user_in};
 use bitflags::Flags;
-use ix_asking::{Asks, Outcome, Step, Telling, decided, tell, untold};
+use ix_asking::{Asks, Outcome, Step, Telling, bad_at, decided, tell, untold};
 use ix_label::Label;
 use ix_model::{Call, Fd, Keep, Pid, PrivSet, Refusal, Reply};
 use ix_policy::{Policy, Request};
@@ -104,7 +104,7 @@ fn on_message(policy: &Policy, client: Pid, label: Label, message: &[u8]) -> At
 {
     let Some(user) = user_in(message) else {
         return At::Tell(tell(Outcome::BadRequest {
-            at: bad_at(message),
+            at: bad_at::<LogsIn>(message),
             told: false,
         }));
     };
