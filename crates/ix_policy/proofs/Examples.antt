@@ -1,5 +1,5 @@
 -- The definition on texts, computed.
-use Rattle.std.{proofs.Common.{◌≡◌, [], ◌∷◌, codes, Ok, Err, refl}, specs.{Char.encode_utf8, Str.{chars, is_utf8}}}
+use Rattle.std.{proofs.Common.{◌≡◌, [], ◌∷◌, map, replicate, codes, Ok, Err, refl}, specs.{Char.encode_utf8, Str.{chars, is_utf8}}}
 use Rattle.serde_json.proofs.OnLiterals.{serde_json_on_literals}
 use Rattle.ix_label.specs.declared.form.Form.TheVariants.{One}
 use Rattle.ix_policy.specs.{Fields.{act_at, key_count, user_at}, Policies.{elements, next_rules, policy, rule_of, rules_after, rules_in, rules_of, value_of}}
@@ -36,28 +36,8 @@ pub grant_to_ann : policy One (codes "{\"rules\":[{\"act\":\"grant\",\"user\":\"
 unfolding serde_json_on_literals chars is_utf8 encode_utf8 policy value_of rules_in rules_of elements key_count rules_after next_rules rule_of act_at user_at
 grant_to_ann = refl
 
--- a number too great for a float
-pub great_number : policy One (codes "[1e309]") ≡ Err fault.Syntax
+-- no JSON: a number too great for a float, also behind an element that is no rule; half a surrogate pair; bytes behind the value; a byte order mark; no UTF-8
+pub no_json : map (policy One) (codes "[1e309]" ∷ codes "{\"rules\":[3,1e309]}" ∷ codes "[\"\\ud83d\"]" ∷ codes "{\"rules\":[]}x" ∷ (239 ∷ 187 ∷ 191 ∷ codes "{\"rules\":[]}") ∷ (255 ∷ []) ∷ [])
+    ≡ replicate 6 (Err fault.Syntax)
 unfolding serde_json_on_literals chars is_utf8 encode_utf8 policy value_of
-great_number = refl
-
--- it stands behind an element that is no rule
-pub great_number_behind : policy One (codes "{\"rules\":[3,1e309]}") ≡ Err fault.Syntax
-unfolding serde_json_on_literals chars is_utf8 encode_utf8 policy value_of
-great_number_behind = refl
-
-pub lone_surrogate : policy One (codes "[\"\\ud83d\"]") ≡ Err fault.Syntax
-unfolding serde_json_on_literals chars is_utf8 encode_utf8 policy value_of
-lone_surrogate = refl
-
-pub more_bytes : policy One (codes "{\"rules\":[]}x") ≡ Err fault.Syntax
-unfolding serde_json_on_literals chars is_utf8 encode_utf8 policy value_of
-more_bytes = refl
-
-pub byte_order_mark : policy One (239 ∷ 187 ∷ 191 ∷ codes "{\"rules\":[]}") ≡ Err fault.Syntax
-unfolding serde_json_on_literals chars is_utf8 encode_utf8 policy value_of
-byte_order_mark = refl
-
-pub no_utf8 : policy One (255 ∷ []) ≡ Err fault.Syntax
-unfolding serde_json_on_literals chars is_utf8 encode_utf8 policy value_of
-no_utf8 = refl
+no_json = refl

@@ -2,9 +2,8 @@
 use Rattle.std.proofs.Common.{◌≡◌, ℕ, suc, ◌+◌, ◌-◌, ◌<◌, ◌≤◌, true, List, [], ◌∷◌, ◌++◌, length, drop, Option, Some, None, inl, inr, refl, sym, ap, ◌∙◌, arith}
 use Rattle.std.proofs.Common.{slice_get, append_assoc}
 use Rattle.std.{specs.{Prelude.codes, List.flat_map, Option.option_map_or}, proofs.lemmas.{List.append-nil, Option.slice_get_within}}
-use Rattle.ix_label.specs.declared.form.Form.{Form}
-use Rattle.ix_model.specs.{world.World.{Object, Process, at}, history.Views.{shown_of, view_of}, declared.audit.AuditLine.AuditLine}
-use Rattle.ix_report.{specs.{Feeds.{EndsOnce, has_no_feed}, LineText.{audit_line, object_line, process_line, tail_line}}, proofs.feeds.Lines.lines_end}
+use Rattle.ix_model.specs.{world.World.at, history.Views.{shown_of, view_of}, declared.audit.AuditLine.AuditLine}
+use Rattle.ix_report.{specs.{Feeds.{EndsOnce, has_no_feed}, LineText.{audit_line, tail_line}}, proofs.feeds.Lines.lines_end}
 use Rattle.ix_replay.specs.report.Report.{object_text, process_text, texts_from, objects_text, processes_text, closing_text}
 use Rattle.ix_replay.specs.report.Telling.{IsPiece, Tells, left_of, objects_left, processes_left, log_left, last_world, pieces_of}
 use Rattle.ix_replay.specs.declared.reporting.closing.Next.TheVariants as stage
@@ -55,19 +54,9 @@ ended r is h = let none : 0 < 0 = rw is at h in absurd (omega (arith, none))
 heading_ends : (front : List ℕ) → has_no_feed front ≡ true → EndsOnce (front ++ 10 ∷ [])
 heading_ends front h = (front, h, refl)
 
-object_piece : (form : Form) (objects : List (Option Object)) (n : ℕ) → IsPiece (object_text form objects n)
-object_piece form objects n = go (at objects n)
-  where
-    go : (o : Option Object) → IsPiece (option_map_or (λ x. object_line form n (view_of x)) o [])
-    go None = inl refl
-    go (Some o) = inr (lines_end.object form n (view_of o))
-
-process_piece : (form : Form) (processes : List (Option Process)) (pid : ℕ) → IsPiece (process_text form processes pid)
-process_piece form processes pid = go (at processes pid)
-  where
-    go : (o : Option Process) → IsPiece (option_map_or (λ p. process_line form pid (shown_of p)) o [])
-    go None = inl refl
-    go (Some p) = inr (lines_end.process form pid (shown_of p))
+line_or_none : {A : Type 0} (line : A → List ℕ) → ((x : A) → EndsOnce (line x)) → (o : Option A) → IsPiece (option_map_or line o [])
+line_or_none line ends None = inl refl
+line_or_none line ends (Some x) = inr (ends x)
 
 module _ (r : Closing) (before after : List ℕ) where
   -- the heading of the objects
@@ -91,7 +80,7 @@ module _ (r : Closing) (before after : List ℕ) where
         ∙ ap (λ t. before ++ t) (texts_join (object_text r.form (last_world r).frame.objects n) (texts_from (object_text r.form (last_world r).frame.objects)
         (n + 1) (length (last_world r).frame.objects - (n + 1)))
         (codes "processes\n") (processes_left r 0)));
-    piece = (object_text r.form (last_world r).frame.objects n, e, object_piece r.form (last_world r).frame.objects n);
+    piece = (object_text r.form (last_world r).frame.objects n, e, line_or_none _ (λ x. lines_end.object r.form n (view_of x)) (at (last_world r).frame.objects n));
     fewer = rw is (omega (arith, within));
     same = record { form = refl; history = refl };
   }
@@ -114,7 +103,7 @@ module _ (r : Closing) (before after : List ℕ) where
   process_told pid is within e = record {
     text = rw (e, is, texts_next (process_text r.form (last_world r).frame.processes) pid (length (last_world r).frame.processes) within)
         (append_assoc before (process_text r.form (last_world r).frame.processes pid) _ ∙ ap (λ t. before ++ t) (sym (append_assoc (process_text r.form (last_world r).frame.processes pid) _ _)));
-    piece = (process_text r.form (last_world r).frame.processes pid, e, process_piece r.form (last_world r).frame.processes pid);
+    piece = (process_text r.form (last_world r).frame.processes pid, e, line_or_none _ (λ p. lines_end.process r.form pid (shown_of p)) (at (last_world r).frame.processes pid));
     fewer = rw is (omega (arith, within));
     same = record { form = refl; history = refl };
   }
