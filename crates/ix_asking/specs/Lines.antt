@@ -2,6 +2,7 @@
 use Rattle.std.specs.Prelude.{ℕ, List, [], ◌∷◌, ◌++◌, map, Option, Some, None}
 use Rattle.ix_model.specs.history.Events.{Event}
 use Rattle.ix_model.specs.history.Made.{Made}
+use Rattle.ix_model.specs.declared.reply.Reply.{Reply}
 use Rattle.ix_asking.specs.Asking.{Asking, Done, Ask, Answered}
 use Rattle.ix_asking.specs.Runs.{entry_of}
 
@@ -9,6 +10,10 @@ use Rattle.ix_asking.specs.Runs.{entry_of}
 pub record Calls : Type 0 where
   pub entries : List Event
   pub next : Option Event
+
+-- an answer without bytes
+abbrev pub plain : Reply → Answered
+plain r = record { reply = r; bytes = [] }
 
 abbrev pub events_of : List Made → List Event
 events_of made = map (λ m. m.event) made

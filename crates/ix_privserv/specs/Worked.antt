@@ -4,13 +4,12 @@ use Rattle.std.specs.Fmt.{decimal}
 use Rattle.ix_label.specs.Category.{bottom}
 use Rattle.ix_model.specs.history.Events.{Op}
 use Rattle.ix_model.specs.history.Events as op
-use Rattle.ix_model.specs.declared.reply.Reply.{Reply}
 use Rattle.ix_model.specs.declared.reply.Reply.TheVariants as reply
 use Rattle.ix_policy.specs.declared.rule.Act.TheVariants as act
 use Rattle.ix_policy.specs.declared.rule.Rule.{Rule}
 use Rattle.ix_asking.specs.declared.serving.outcome.Outcome.TheVariants as outcome
 use Rattle.ix_asking.specs.Asking.{Answered, Asked, Came, next}
-use Rattle.ix_asking.specs.Lines.{calls_then, no_calls}
+use Rattle.ix_asking.specs.Lines.{calls_then, no_calls, plain}
 use Rattle.ix_asking.specs.Runs.{entry_of}
 use Rattle.ix_asking.specs.serving.Serving.{Server}
 use Rattle.ix_privserv.specs.Serving.{serves}
@@ -25,9 +24,6 @@ rules =
     (record { act = act.Session; user = None; clear = bottom; privs = record { 0 = 1 }; allow = true })
     ∷ (record { act = act.Grant; user = None; clear = bottom; privs = record { 0 = 1 }; allow = true })
     ∷ []
-
-abbrev pub plain : Reply → Answered
-plain r = record { reply = r; bytes = [] }
 
 -- process 2 has claimed the other end, wants DOWN, and gets it
 abbrev pub answers : List Answered

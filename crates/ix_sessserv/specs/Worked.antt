@@ -7,13 +7,12 @@ use Rattle.ix_model.specs.history.Events as op
 use Rattle.ix_model.specs.declared.call.Keep.TheVariants as keep
 use Rattle.ix_model.specs.declared.ids.Fd.{Fd}
 use Rattle.ix_model.specs.declared.refusal.Refusal.TheVariants as refusal
-use Rattle.ix_model.specs.declared.reply.Reply.{Reply}
 use Rattle.ix_model.specs.declared.reply.Reply.TheVariants as reply
 use Rattle.ix_policy.specs.declared.rule.Act.TheVariants as act
 use Rattle.ix_policy.specs.declared.rule.Rule.{Rule}
 use Rattle.ix_asking.specs.declared.serving.outcome.Outcome.TheVariants as outcome
 use Rattle.ix_asking.specs.Asking.{Answered, Asked, Came, next}
-use Rattle.ix_asking.specs.Lines.{calls_then, no_calls}
+use Rattle.ix_asking.specs.Lines.{calls_then, no_calls, plain}
 use Rattle.ix_asking.specs.Runs.{entry_of}
 use Rattle.ix_asking.specs.serving.Serving.{Server}
 use Rattle.ix_sessserv.specs.Serving.{serves}
@@ -28,9 +27,6 @@ hand = record { 0 = 4 }
 -- the one rule allows `ann` sessions with LOG
 abbrev pub rules : List Rule
 rules = (record { act = act.Session; user = Some (codes "ann"); clear = bottom; privs = record { 0 = 16 }; allow = true }) ∷ []
-
-abbrev pub plain : Reply → Answered
-plain r = record { reply = r; bytes = [] }
 
 -- process 2 has claimed the other end, and asks for a session of `ann`; the child is process 3, and the grant is refused
 abbrev pub answers : List Answered
