@@ -1,5 +1,6 @@
 -- The longest front of a text that passes a test.
-use Rattle.std.proofs.Common.{◌≡◌, ℕ, suc, zero, ◌-◌, ◌<◌, ◌≤◌, Bool, true, false, cond, List, [], ◌++◌, length, take, Option, Some, None, is_some, refl, arith, ap, sym, ◌∙◌, subst, append-nil, append_assoc}
+use Rattle.std.proofs.Common.{◌≡◌, ℕ, suc, zero, ◌-◌, ◌<◌, ◌≤◌, Bool, true, false, cond, List, [], ◌++◌, length, take, Option, Some, None, is_some, refl, arith, ap, sym, ◌∙◌}
+use Rattle.std.proofs.Common.{subst, append-nil, append_assoc}
 use Rattle.std.proofs.Math.Arith.{le_of_le-suc-ne}
 use Rattle.ix_asking.specs.serving.{Messages.{is_front_of, longest_front, longest_up_to}, Requests.{Begins, IsLongest}}
 use Rattle.ix_asking.proofs.Words.{front-ends}

@@ -23,7 +23,8 @@ links_go_on n i bytes rest after l low h so_far =
     }
 
 pub links_end : (n i : ℕ) (bytes rest : List ℕ) (f : Fault) → i < n → link_at rest ≡ Err f → LinksSoFar n i bytes rest → links_at n bytes ≡ Err f
-links_end n i bytes rest f low h so_far = ends_at (λ s. link_at) (λ l. tt {0}) (λ s. links_at) (λ s. no_more link_at) (λ s. one_more link_at) so_far.front n i (tt) rest f (links_at n bytes) low h so_far.whole
+links_end n i bytes rest f low h so_far =
+    ends_at (λ s. link_at) (λ l. tt {0}) (λ s. links_at) (λ s. no_more link_at) (λ s. one_more link_at) so_far.front n i (tt) rest f (links_at n bytes) low h so_far.whole
 
 all_links : (n i : ℕ) (bytes rest : List ℕ) (so_far : LinksSoFar n i bytes rest) → n ≤ i → links_at n bytes ≡ Ok (so_far.front, rest)
 all_links n i bytes rest so_far high = all_read (λ s. link_at) (λ l. tt {0}) (λ s. links_at) (λ s. no_more link_at) (λ s. one_more link_at) _ n i (tt) _ (links_at n bytes) high so_far.whole

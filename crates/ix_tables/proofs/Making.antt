@@ -31,7 +31,8 @@ module _ {limits : Limits} {nodes : Nodes} {names : Directories} {pipes : List (
   may_enter = (in_lists, (has_entry, ap (under name) (sym (names_there j view d dir)) ∙ absent))
 
   -- ---- the name with so many links, where what stands at its number may have that many and one name more
-  module _ {nodes2 : Nodes} {names2 : Directories} (links : ℕ) (set : nodes2 ≡ changed n (λ x. record x { links = links }) nodes) (added : names2 ≡ with_more d name n names) (within : n < length nodes.nodes) where
+  module _ {nodes2 : Nodes} {names2 : Directories} (links : ℕ) (set : nodes2 ≡ changed n (λ x. record x { links = links }) nodes)
+      (added : names2 ≡ with_more d name n names) (within : n < length nodes.nodes) where
     one_more : (o : ℕ) → names_for o (with_more d name n names).lists ≡ names_for o names.lists + cond (n == o) 1 0
     one_more o = times_more names.lists d n name in_lists o
 
@@ -50,8 +51,9 @@ module _ {limits : Limits} {nodes : Nodes} {names : Directories} {pipes : List (
         let others : (o : ℕ) → (o ≡ n → ⊥) → names_for o (with_more d name n names).lists ≡ names_for o names.lists = λ o ne.
         let no : (n == o) ≡ false = elim (eqb_tells n o) [ inl f ↦ absurd (ne (sym f.1)) | inr f ↦ f.0 ] in
         omega (arith, one_more o, ap (λ b. cond {A = ℕ} b 1 0) no) in
-        rw (set, added) (joined_linked j (with_more d name n names) n links (length-set names.lists d (names_of names d ++ (name, n) ∷ [])) (omega (arith, names_more names.lists d n name in_lists, some))
-        still_bare (subst (HasNames (option_map (λ y. let z : Node = record y { links = links } in z) (at nodes.nodes n))) here tied) others)
+        rw (set, added) (joined_linked j (with_more d name n names) n links (length-set names.lists d (names_of names d ++ (name, n) ∷ []))
+        (omega (arith, names_more names.lists d n name in_lists, some)) still_bare
+        (subst (HasNames (option_map (λ y. let z : Node = record y { links = links } in z) (at nodes.nodes n))) here tied) others)
 
     named_view : joined limits nodes2 names2 pipes es hs ≡ record now { objects = change now.objects d (with_name name n) }
     named_view =

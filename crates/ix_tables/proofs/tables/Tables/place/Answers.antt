@@ -10,7 +10,8 @@ empty c =
     let at : slice_get names (length names - 1) ≡ Some (name_of c.in-Some.name) =
     ap (λ (p : PathOf). slice_get p.names (length p.names - 1)) (sym c.as_path.ensures) ∙ sym c.last_name.ensures
     ∙ ap (option_map name_of) c.in-Some.is in
-    made_empty _ _ _ _ _ c.requires c.make.new.self _ c.to_name.result c.kind_said.result (c.to_name.ensures ∙ name_at names (length names - 1) _ at) c.kind_said.ensures c.make.ensures c.set_as_said.ensures
+    made_empty _ _ _ _ _ c.requires c.make.new.self _ c.to_name.result c.kind_said.result (c.to_name.ensures
+    ∙ name_at names (length names - 1) _ at) c.kind_said.ensures c.make.ensures c.set_as_said.ensures
 
 pub fill-requires-clause-room : goal.fill-requires-clause-room
 fill-requires-clause-room c = room_for_line _ _ _ _ _ c.requires _ (empty c.before.before)
