@@ -1,4 +1,4 @@
-use Rattle.std.proofs.{Common.{◌+◌, sym, ap, ◌∙◌}, lemmas.{Bool.{ltb-false, ltb-true}, Option.slice_get_past}}
+use Rattle.std.proofs.{Common.{◌+◌, sym, ap, ◌∙◌}, lemmas.{Bool.ltb-false, Option.slice_get_past}}
 use Rattle.ix_check.proofs.{LookedAt.item_at, LaneTurns.{has_turn, lane_over, names_none, no_lane, no_turn}}
 use Rattle.ix_check.proofs.judge.called.Goals as goal
 
@@ -14,24 +14,15 @@ returns-in_default-get g c state among =
 
 pub returns-in_default-phase : goal.returns-in_default-phase
 returns-in_default-phase g c state among =
-    let found = c.in-Some-get.ensures.lookup in
-    let within = ltb-true c.in-Some.seat _ (sym found.0) in
     lane_over _ _ _ _ state among _ _ (ap (λ n. n + 1) c.len.ensures.len) _
-    _ c.in-Some.ensures (item_at _ _ _ within found.1)
-    (sym c.in_default-phase.ensures)
+    _ c.in-Some.ensures (item_at _ _ _ c.in-Some-get.ensures.lookup.3.0 c.in-Some-get.ensures.lookup.1) (sym c.in_default-phase.ensures)
 
 pub returns-then-all_from : goal.returns-then-all_from
 returns-then-all_from g c state among =
-    let found = c.in-Some-get.ensures.lookup in
-    let within = ltb-true c.in-Some.seat _ (sym found.0) in
     has_turn _ _ _ _ state among _ _ (ap (λ n. n + 1) c.len.ensures.len) _
-    _ _ c.in-Some.ensures (item_at _ _ _ within found.1)
-    (sym c.in-Some-phase.ensures) (sym c.if-all_from.true ∙ c.all_from.ensures)
+    _ _ c.in-Some.ensures (item_at _ _ _ c.in-Some-get.ensures.lookup.3.0 c.in-Some-get.ensures.lookup.1) (sym c.in-Some-phase.ensures) (sym c.if-all_from.true ∙ c.all_from.ensures)
 
 pub returns-else-all_from : goal.returns-else-all_from
 returns-else-all_from g c state among =
-    let found = c.in-Some-get.ensures.lookup in
-    let within = ltb-true c.in-Some.seat _ (sym found.0) in
     no_turn _ _ _ _ state among _ _ (ap (λ n. n + 1) c.len.ensures.len) _
-    _ _ c.in-Some.ensures (item_at _ _ _ within found.1)
-    (sym c.in-Some-phase.ensures) (sym c.if-all_from.false ∙ c.all_from.ensures)
+    _ _ c.in-Some.ensures (item_at _ _ _ c.in-Some-get.ensures.lookup.3.0 c.in-Some-get.ensures.lookup.1) (sym c.in-Some-phase.ensures) (sym c.if-all_from.false ∙ c.all_from.ensures)
