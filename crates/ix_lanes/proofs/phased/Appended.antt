@@ -3,16 +3,7 @@ use Rattle.std.proofs.Common.{◌≡◌, ℕ, List, [], ◌∷◌, ◌++◌, len
 use Rattle.ix_model.specs.history.Events.{Event}
 use Rattle.ix_asking.specs.{Asking.{Answered, Asking, Done, Ask, followed}, Lines.{Calls, calls_then, no_calls, with_entry_first, with_entries_first}}
 use Rattle.ix_asking.specs.Runs.{entry_of}
-use Rattle.ix_lanes.proofs.serially.OneEntry.{all_answered}
-
--- an entry, and what comes after it, are all that is asked for
-pub first_and_rest : (e f : Event) (c : Calls) (events : List Event) → with_entry_first e c ≡ all_answered (f ∷ events) → (e ≡ f) × (c ≡ all_answered events)
-first_and_rest e f c events h =
-    let entries : e ∷ c.entries ≡ f ∷ events = ap (λ (x : Calls). x.entries) h in
-    let next : c.next ≡ None = ap (λ (x : Calls). x.next) h in
-    let first : e ≡ f = cc in
-    let later : c.entries ≡ events = cc in
-    (first, λ i. record { entries = later i; next = next i })
+use Rattle.ix_lanes.proofs.serially.OneEntry.{all_answered, first_entry}
 
 module _ {A B : Type 0} (seat : ℕ) (more : A → Asking B) where
   -- What asks for no call that isn't among these answers came to something, and what follows that asks after them.
@@ -25,7 +16,7 @@ module _ {A B : Type 0} (seat : ℕ) (more : A → Asking B) where
   appended (Ask a next) [] es same is = let none : Some (entry_of seat a) ≡ None = ap (λ (c : Calls). c.next) is in cc
   appended (Ask a next) (x ∷ answers) [] same is = cc
   appended (Ask a next) (x ∷ answers) (e ∷ es) same is =
-      let parts = first_and_rest (entry_of seat a) e (calls_then seat (next x) answers no_calls) es is in
+      let parts = first_entry _ _ _ _ is in
       let rest = appended (next x) answers es (omega (arith, same)) parts.1 in (
         rest.0,
         λ later. ap (with_entry_first (entry_of seat a)) (rest.1 later) ∙ ap (λ f. with_entries_first (f ∷ es) (calls_then seat (more rest.0) later no_calls)) parts.0,

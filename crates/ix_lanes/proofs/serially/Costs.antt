@@ -1,6 +1,6 @@
 -- What entries cost, and what the lines need that they come from.
 use Rattle.std.proofs.Common.{◌≡◌, ℕ, ◌+◌, ◌≤◌, List, [], ◌∷◌, ◌++◌, length, Option, Some, None, refl, arith, min}
-use Rattle.std.{specs.Prelude.IfSome, proofs.lemmas.List.{Sums.{sum_by-cons, sum_by-append, sum-map}, length-take}}
+use Rattle.std.{specs.Prelude.IfSome, proofs.lemmas.List.{Sums.{sum_by-cons, sum_by-append, sum-map}, length-take}, proofs.lemmas.Option.IfSome_then}
 use Rattle.ix_model.specs.{world.{World.{Frame, World}, Contents.readable}, rows.{Table.{Decision, verdict}, Telling.told, Walks.{OpenFile, behind}}}
 use Rattle.ix_model.specs.{history.Cost.{cost_of, cost_of_history}, history.Shown.AreShown, history.Step.{answer, plainly, read_answer, step, step_of}}
 use Rattle.ix_model.specs.{history.Events.{Op, Event}, declared.reply.Reply.Reply}
@@ -17,6 +17,7 @@ use Rattle.ix_privserv.proofs.Asked as privileges_asked
 use Rattle.ix_sessserv.specs.Serving as sessions
 use Rattle.ix_sessserv.proofs.Asked as sessions_asked
 use Rattle.ix_lanes.specs.declared.asking.handed.Handed.{Handed}
+use Rattle.ix_lanes.proofs.serially.LineCalls.{OfOne, asked_of_line}
 use Rattle.ix_lanes.specs.asking.{Asked.{Names, Numbers, asked, fd_of, pid_of}, Handing.who_in, LineAsks.{by_rules, line_asks, one_call, server_of}}
 use Rattle.ix_lanes.specs.declared.asking.handed.Handed.TheVariants as handed
 
@@ -83,23 +84,6 @@ pub few_bytes : (w : World) (place : ℕ) (e : Event) → AreFew e.op (length (s
 few_bytes w place e = few_by w place e.pid e.op
 
 -- ---- one line
-cost_asked : (header : Numbers) (names : Names) (n : ℕ) (l : Line) → IfSome (asked header names n l) (λ a. cost_of a.op ≤ cost_of_line l)
-unfolding asked cost_of cost_of_line
-cost_asked header names n line.Skipped = tt
-cost_asked header names n (line.Version form) = tt
-cost_asked header names n (line.Limit w k) = tt
-cost_asked header names n (line.Fs name ceiling blocks inodes) = tt
-cost_asked header names n (line.Proc name label ceiling cap lic) = tt
-cost_asked header names n (line.Dir path label frozen) = tt
-cost_asked header names n (line.File path label frozen cap lic bytes) = tt
-cost_asked header names n (line.Policy text) = tt
-cost_asked header names n line.Phase = tt
-cost_asked header names n (line.Lane name) = tt
-cost_asked header names n (line.Copy proc from to count) = tt
-cost_asked header names n (line.Priv proc fd) = tt
-cost_asked header names n (line.Login proc fd hand named) = tt
-cost_asked header names n _ = omega arith
-
 one_costs : (o : Option Asked) (m : ℕ) → IfSome o (λ a. cost_of a.op ≤ m) → Costs m (one_call o)
 one_costs None m h = tt
 one_costs (Some a) m h = (0, omega (arith, h), λ x few. tt)
@@ -139,4 +123,4 @@ module _ (rules : Option (List Rule)) (few : (r : List Rule) → rules ≡ Some 
   line-costs (line.Copy proc from to count) = copies_cost proc from to count
   line-costs (line.Priv proc fd) = priv_costs proc fd
   line-costs (line.Login proc fd hand q) = login_costs proc fd hand q
-  line-costs l = one_costs (asked header names n l) (cost_of_line l) (cost_asked header names n l)
+  line-costs l = one_costs (asked header names n l) (cost_of_line l) (IfSome_then _ (asked_of_line header names n l) (λ a. λ (h : OfOne n l a). h.1))

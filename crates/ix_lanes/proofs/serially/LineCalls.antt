@@ -1,8 +1,9 @@
 -- What holds of every call that a line asks for.
-use Rattle.std.{proofs.Common.{◌≡◌, ℕ, List, [], ◌∷◌, Option, Some, None, refl}, specs.Prelude.IfSome}
+use Rattle.std.{proofs.{Common.{◌≡◌, ◌≤◌, ℕ, List, [], ◌∷◌, Option, Some, None, refl, arith}, lemmas.Option.IfSome_then}, specs.Prelude.IfSome}
+use Rattle.ix_model.specs.history.Cost.{cost_of}
 use Rattle.ix_model.specs.history.Events as op
 use Rattle.ix_policy.specs.declared.rule.Rule.{Rule}
-use Rattle.ix_script.specs.declared.line.Line.{Line}
+use Rattle.ix_script.specs.{scripts.Need.{cost_of_line}, declared.line.Line.Line}
 use Rattle.ix_script.specs.declared.line.Line.TheVariants as line
 use Rattle.ix_asking.specs.{declared.serving.outcome.Outcome.Outcome, Asking.{Asked, Asking}, Copies.{copies, write_all}}
 use Rattle.ix_asking.proofs.{Every.{AllOf, all-mapped}, Serves.GivesNoLabel}
@@ -57,9 +58,12 @@ module _ (P : Asked → Type 0) (rules : Option (List Rule)) (header : Numbers) 
       (sessions_asked.all-served P (server_of header names n proc fd) each r (ceilings r is (pid_of header names proc)) (record { 0 = fd_of names hand })))
   all-of-line l one each ceilings = all_one (asked header names n l) one
 
--- ---- the number of the line
-asked_of_line : (header : Numbers) (names : Names) (n : ℕ) (l : Line) → IfSome (asked header names n l) (OfLine n)
-unfolding asked
+-- ---- the number of the line, and what it costs
+abbrev pub OfOne : ℕ → Line → Asked → Type 0
+OfOne n l a = OfLine n a × (cost_of a.op ≤ cost_of_line l)
+
+pub asked_of_line : (header : Numbers) (names : Names) (n : ℕ) (l : Line) → IfSome (asked header names n l) (OfOne n l)
+unfolding asked cost_of cost_of_line
 asked_of_line header names n line.Skipped = tt
 asked_of_line header names n (line.Version form) = tt
 asked_of_line header names n (line.Limit w k) = tt
@@ -73,10 +77,10 @@ asked_of_line header names n (line.Lane name) = tt
 asked_of_line header names n (line.Copy proc from to count) = tt
 asked_of_line header names n (line.Priv proc fd) = tt
 asked_of_line header names n (line.Login proc fd hand named) = tt
-asked_of_line header names n _ = refl
+asked_of_line header names n _ = (refl, omega arith)
 
 -- each call that a line asks for has its number
 pub all-numbered : (rules : Option (List Rule)) (header : Numbers) (names : Names) (n : ℕ) (l : Line)
     → AllOf (OfLine n) (line_asks rules header names n l)
 all-numbered rules header names n l =
-    all-of-line (OfLine n) rules header names n l (asked_of_line header names n l) (λ pid o plain. refl) (λ r is pid target rule. refl)
+    all-of-line (OfLine n) rules header names n l (IfSome_then _ (asked_of_line header names n l) (λ a. λ (h : OfOne n l a). h.0)) (λ pid o plain. refl) (λ r is pid target rule. refl)

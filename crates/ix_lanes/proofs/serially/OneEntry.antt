@@ -61,7 +61,7 @@ first_seat count e events h =
     (ltb-true e.seat count parts.0, parts.1)
 
 -- an entry that comes first, and what comes after it
-first_entry : (e f : Event) (c : Calls) (events : List Event) → with_entry_first e c ≡ all_answered (f ∷ events)
+pub first_entry : (e f : Event) (c : Calls) (events : List Event) → with_entry_first e c ≡ all_answered (f ∷ events)
     → (e ≡ f) × (c ≡ all_answered events)
 first_entry e f c events h =
     let entries : e ∷ c.entries ≡ f ∷ events = ap (λ (x : Calls). x.entries) h in
@@ -124,8 +124,7 @@ module _ (count : ℕ) (before after : LanesAsk) (w : World) (place : ℕ) (e : 
     seats = (first_seat count e events g.seats).1;
     calls = λ k k_within. elim (cases_eq e.seat k) [
       | inl it ↦ subst (λ (m : ℕ). after m (replies_from (step_of w place e).world (place + 1) m events) ≡ all_answered (entries_of m events)) it
-          (first_entry e e (after e.seat (replies_from (step_of w place e).world (place + 1) e.seat events)) (entries_of e.seat events)
-          (sym (goes_on a events) ∙ g.calls e.seat a.within ∙ ap all_answered (entries-mine e.seat e events refl))).1
+          (first_entry _ _ _ _ (sym (goes_on a events) ∙ g.calls e.seat a.within ∙ ap all_answered (entries-mine e.seat e events refl))).1
       | inr apart ↦ sym (stays a events k apart) ∙ g.calls k k_within ∙ ap all_answered (entries-other k e events apart)
     ];
     order = tail_rises e events g.order;

@@ -5,7 +5,7 @@ use Rattle.ix_lanes.specs.{asking.{LineAsks.line_asks, Places.standing}, declare
 use Rattle.ix_lanes.specs.{histories.{Indexed.line_in, Serial.serial_from}, running.{Left.{is_over, part_left}, Phases.seat_at, Serially.role_begins}}
 use Rattle.ix_lanes.specs.declared.asking.handed.Handed.TheVariants as handed
 use Rattle.ix_lanes.proofs.{found.Roles.line-there, phased.{LaneLines.seat_one_more, Lefts.not_over, Placed.placed-line}}
-use Rattle.ix_lanes.proofs.running.serial_calls.Place.find.Goals.{in-Some+in-Some-line+else-not-matches, in-Over, in_default-matches, in_default}
+use Rattle.ix_lanes.proofs.running.serial_calls.Place.find.Goals.{Then-not-matches, in-Some+in-Some-line+else-not-matches, in-Over, in_default-matches, in_default}
 use Rattle.ix_lanes.proofs.phased.InOrder.{asking_apart, asking_seat, begun_left, begun_within, lane_mine, lane_there, lane_within, placed_set, skipped, unasked}
 use Rattle.ix_lanes.proofs.running.serial_calls.Place.find.Goals as goal
 
@@ -14,40 +14,31 @@ bounds-places-seat c =
     let seat : c.lines.self.seat ≡ Some c.in-Some.seat = asking_seat _ _ _ c.in-Some.seat c.seat_asking.ensures c.in-Some.is in
     lane_within c.args.script.now c.lines.places c.lines.self.at c.in-Some.seat c.lines.invariant.placed (sym c.lines.invariant.seat ∙ seat)
 
+-- the line asks for something
+begun : (c : Then-not-matches) → is_over c.begin.new.begun ≡ false
+begun c = elim c.match-matches.branch [
+  | in-Over w ↦ absurd (true≢false (sym w.matches-is ∙ c.if-not-matches.true))
+  | in_default-matches w ↦ not_over c.begin.new.begun w.in_default-matches.not-Over
+]
+
 pub returns-then-not-matches-clause-left : goal.returns-then-not-matches-clause-left
 returns-then-not-matches-clause-left c =
-    let s : List Line = c.args.script.now in
-    let i = c.lines.self.at in
-    let k = c.in-Some.seat in
-    let seat : c.lines.self.seat ≡ Some c.in-Some.seat = asking_seat _ _ _ c.in-Some.seat c.seat_asking.ensures c.in-Some.is in
-    let p : Places = slice_index_or c.lines.places k c.index-places-seat.result in
-    let there = lane_there s c.lines.places i k c.lines.invariant.placed (sym c.lines.invariant.seat ∙ seat) c.index-places-seat.result in
-    let same : c.in-Some-line.line ≡ line_in s i = let e = sym c.in-Some-line.is ∙ c.line_kept-self.ensures in cc in
-    let not : is_over c.begin.new.begun ≡ false = elim c.match-matches.branch [
-      | in-Over w ↦ absurd (true≢false (sym w.matches-is ∙ c.if-not-matches.true))
-      | in_default-matches w ↦ not_over c.begin.new.begun w.in_default-matches.not-Over
-    ] in
+    let seat = asking_seat _ _ _ c.in-Some.seat c.seat_asking.ensures c.in-Some.is in
+    let there = lane_there c.args.script.now c.lines.places c.lines.self.at _ c.lines.invariant.placed (sym c.lines.invariant.seat ∙ seat) c.index-places-seat.result in
+    let same : c.in-Some-line.line ≡ line_in c.args.script.now c.lines.self.at = let e = sym c.in-Some-line.is ∙ c.line_kept-self.ensures in cc in
     λ w place.
-    begun_left s i (omega (arith, c.lines-test.true, c.len.ensures.len)) c.lines.places k p there c.lines.self.seat seat (option_map (λ q. q.now) c.args.policy) c.args.header.now
-    c.requires.policy c.requires.header c.in-Some-line.line same c.begin.new.copying c.begin.new.begun c.begin.ensures.asks not w place
+    begun_left c.args.script.now c.lines.self.at (omega (arith, c.lines-test.true, c.len.ensures.len)) _ _ _ there _ seat _ _ c.requires.policy c.requires.header c.in-Some-line.line same
+    c.begin.new.copying c.begin.new.begun c.begin.ensures.asks (begun (goal.at.returns-then-not-matches-clause-left c).Then-not-matches) w place
     ∙ c.lines.invariant.left w place
 
 pub returns-then-not-matches-clause-within : goal.returns-then-not-matches-clause-within
 returns-then-not-matches-clause-within c =
-    let s : List Line = c.args.script.now in
-    let i = c.lines.self.at in
-    let k = c.in-Some.seat in
-    let seat : c.lines.self.seat ≡ Some c.in-Some.seat = asking_seat _ _ _ c.in-Some.seat c.seat_asking.ensures c.in-Some.is in
-    let p : Places = slice_index_or c.lines.places k c.index-places-seat.result in
-    let there = lane_there s c.lines.places i k c.lines.invariant.placed (sym c.lines.invariant.seat ∙ seat) c.index-places-seat.result in
-    let same : c.in-Some-line.line ≡ line_in s i = let e = sym c.in-Some-line.is ∙ c.line_kept-self.ensures in cc in
-    let apart : role_begins (role_of (line_in s i)) ≡ false = ap role_begins (sym c.role_at-role.ensures) ∙ asking_apart _ _ _ k c.seat_asking.ensures c.in-Some.is in
-    let not : is_over c.begin.new.begun ≡ false = elim c.match-matches.branch [
-      | in-Over w ↦ absurd (true≢false (sym w.matches-is ∙ c.if-not-matches.true))
-      | in_default-matches w ↦ not_over c.begin.new.begun w.in_default-matches.not-Over
-    ] in
-    begun_within s i (omega (arith, c.lines-test.true, c.len.ensures.len)) c.lines.places k p there c.lines.self.seat seat (option_map (λ q. q.now) c.args.policy) c.args.header.now
-    c.requires.policy c.requires.header c.in-Some-line.line same c.begin.new.copying c.begin.new.begun c.begin.ensures.asks not c.begin.new.written
+    let seat = asking_seat _ _ _ c.in-Some.seat c.seat_asking.ensures c.in-Some.is in
+    let there = lane_there c.args.script.now c.lines.places c.lines.self.at _ c.lines.invariant.placed (sym c.lines.invariant.seat ∙ seat) c.index-places-seat.result in
+    let same : c.in-Some-line.line ≡ line_in c.args.script.now c.lines.self.at = let e = sym c.in-Some-line.is ∙ c.line_kept-self.ensures in cc in
+    let apart : role_begins (role_of (line_in c.args.script.now c.lines.self.at)) ≡ false = ap role_begins (sym c.role_at-role.ensures) ∙ asking_apart _ _ _ c.in-Some.seat c.seat_asking.ensures c.in-Some.is in
+    begun_within c.args.script.now c.lines.self.at (omega (arith, c.lines-test.true, c.len.ensures.len)) _ _ _ there _ seat _ _ c.requires.policy c.requires.header c.in-Some-line.line same
+    c.begin.new.copying c.begin.new.begun c.begin.ensures.asks (begun (goal.at.returns-then-not-matches-clause-within c).Then-not-matches) c.begin.new.written
     c.lines.invariant.seat c.line_kept-self.result c.line_kept-self.ensures apart c.begin.ensures.pending c.begin.ensures.holds
 
 pub bind-requires : goal.bind-requires

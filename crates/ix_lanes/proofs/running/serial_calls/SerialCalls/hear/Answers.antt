@@ -5,7 +5,7 @@ use Rattle.ix_asking.specs.Asking.{Answered}
 use Rattle.ix_script.specs.{lines.Before.lanes_of, declared.line.Line.Line, scripts.Schedule.seat_after}
 use Rattle.ix_lanes.specs.{asking.{Asked.Names, Places.standing}, declared.asking.places.Places.Places}
 use Rattle.ix_lanes.specs.histories.{Indexed.line_in, Serial.{header_of, names_of, serial_from}}
-use Rattle.ix_lanes.specs.running.{Left.IsHeard, Phases.seat_at, Serially.{ArePlaced, LeavesLines, SerialLeft, entries_left, most_entries, next_entry}}
+use Rattle.ix_lanes.specs.running.{Phases.seat_at, Serially.{ArePlaced, LeavesLines, SerialLeft, entries_left, most_entries, next_entry}}
 use Rattle.ix_lanes.proofs.{found.Roles.{line-there, seat-stays}, phased.{LaneLines.seat_one_more, Placed.placed-line}}
 use Rattle.ix_lanes.proofs.phased.InOrder.{due_seen, goes_on, indexed, lane_is, lane_mine, lane_within, line_asks_on, line_done, lines_behind, placed_set}
 use Rattle.ix_lanes.proofs.phased.InOrder.{still_fewer, still_within}
@@ -20,52 +20,30 @@ heard-requires-clause-due c =
 
 pub invariant_of-self : goal.invariant_of-self
 invariant_of-self c =
-    let i = c.self.inside in
-    let s : List Line = i.script.now in
     let st = due_seen c.self.view_is c.requires.due in
-    let k = lane_is i.here.seat st.2 in
-    let names : Names = names_of (map standing i.places.items) k.0 in
-    let a : Answered = record { reply = c.args.reply.now; bytes = c.args.bytes.now } in
-    let told = subst (IsHeard (header_of s) names (i.here.at + 1) (line_in s i.here.at) i.copying i.part c.heard.new.copying c.heard.new.part a) c.in_default.is
-    (c.heard.ensures (header_of s) names (i.here.at + 1) (line_in s i.here.at) (st.1 k.0 k.1)) in
-    (c.self.invariant.0, still_within s i.places.items i.here.at i.here.seat i.here.line i.written i.copying i.part c.self.invariant.1 st.0 k.0 k.1 c.heard.new.copying c.heard.new.part a told)
+    let k = lane_is c.self.inside.here.seat st.2 in
+    let told = rw c.in_default.is at (c.heard.ensures _ _ _ _ (st.1 k.0 k.1)) in
+    (c.self.invariant.0, still_within _ _ _ _ _ _ _ _ c.self.invariant.1 st.0 k.0 k.1 _ _ _ told)
 
 pub returns-in_default-clause-on : goal.returns-in_default-clause-on
 returns-in_default-clause-on c =
     let i = c.self.inside in
-    let s : List Line = i.script.now in
     let st = due_seen c.self.view_is c.requires.due in
-    let k = lane_is i.here.seat st.2 in
-    let names : Names = names_of (map standing i.places.items) k.0 in
-    let a : Answered = record { reply = c.args.reply.now; bytes = c.args.bytes.now } in
-    let told = subst (IsHeard (header_of s) names (i.here.at + 1) (line_in s i.here.at) i.copying i.part c.heard.new.copying c.heard.new.part a) c.in_default.is
-    (c.heard.ensures (header_of s) names (i.here.at + 1) (line_in s i.here.at) (st.1 k.0 k.1)) in
-    let over = goes_on s i.places.items i.here.at i.here.seat i.here.line i.written i.copying i.part c.self.invariant.1 st.0 k.0 k.1 c.heard.new.copying c.heard.new.part a told in
+    let k = lane_is c.self.inside.here.seat st.2 in
+    let told = rw c.in_default.is at (c.heard.ensures _ _ _ _ (st.1 k.0 k.1)) in
+    let over = goes_on _ _ _ _ _ _ _ _ c.self.invariant.1 st.0 k.0 k.1 _ _ _ told in
     λ w place e next gave.
     ap (λ x. entries_left x w place) (sym c.self.view_is)
-    ∙ line_asks_on s (map standing i.places.items) i.here.at i.here.seat k.0 k.1 i.copying i.part st.0 c.heard.new.copying c.heard.new.part over a told.0 w
+    ∙ line_asks_on i.script.now (map standing i.places.items) i.here.at i.here.seat k.0 k.1 i.copying i.part st.0 c.heard.new.copying c.heard.new.part over _ told.0 w
     place e (ap next_entry c.self.view_is ∙ next) gave
 
 pub returns-in_default-clause-fewer : goal.returns-in_default-clause-fewer
 returns-in_default-clause-fewer c =
-    let i = c.self.inside in
-    let s : List Line = i.script.now in
     let st = due_seen c.self.view_is c.requires.due in
-    let k = lane_is i.here.seat st.2 in
-    let names : Names = names_of (map standing i.places.items) k.0 in
-    let a : Answered = record { reply = c.args.reply.now; bytes = c.args.bytes.now } in
-    let told = subst (IsHeard (header_of s) names (i.here.at + 1) (line_in s i.here.at) i.copying i.part c.heard.new.copying c.heard.new.part a) c.in_default.is
-    (c.heard.ensures (header_of s) names (i.here.at + 1) (line_in s i.here.at) (st.1 k.0 k.1)) in
-    let less = still_fewer s i.places.items i.here.at i.here.seat i.here.line i.written i.copying i.part c.self.invariant.1 st.0 k.0 k.1 c.heard.new.copying c.heard.new.part a told in
-    subst (λ (x : SerialLeft). most_entries (record {
-      script = s;
-      names = map standing i.places.items;
-      at = i.here.at;
-      seat = i.here.seat;
-      copying =
-          c.heard.new.copying;
-      part = c.heard.new.part;
-    }) < most_entries x) c.self.view_is less
+    let k = lane_is c.self.inside.here.seat st.2 in
+    let told = rw c.in_default.is at (c.heard.ensures _ _ _ _ (st.1 k.0 k.1)) in
+    let less = still_fewer _ _ _ _ _ _ _ _ c.self.invariant.1 st.0 k.0 k.1 _ _ _ told in
+    omega (arith, less, ap most_entries c.self.view_is)
 
 pub index_mut-requires : goal.index_mut-requires
 index_mut-requires c =
