@@ -82,7 +82,7 @@ module _ (s : List Line) (seat : ℕ) where
             }
 
     -- a lane without a line in a phase asks for nothing there
-    pub idle_asks : (names : Names) → HasNone s seat k → next_asks s seat k names ≡ asking.Done names
+    idle_asks : (names : Names) → HasNone s seat k → next_asks s seat k names ≡ asking.Done names
     idle_asks names none =
         let i : ℕ = length (lines_before k s) in
         let j : ℕ = length (lines_before (suc k) s) in
@@ -98,9 +98,12 @@ pub none_next : (s : List Line) (p : Asking Names) → is_some (next_phase s (fi
 none_next s (asking.Done names) h = refl
 none_next s (Ask a later) h = cc
 
-pub next_none : (s : List Line) (p : Asking Names) → is_done p ≡ true → is_some (next_phase s (first p)) ≡ false
+next_none : (s : List Line) (p : Asking Names) → is_done p ≡ true → is_some (next_phase s (first p)) ≡ false
 next_none s (asking.Done names) h = refl
 next_none s (Ask a later) h = cc
+
+pub none_idle : (s t : List Line) (seat k : ℕ) (names : Names) (p : Asking Names) → p ≡ next_asks s seat k names → HasNone s seat k → is_some (next_phase t (first p)) ≡ true → ⊥
+none_idle s t seat k names p asks none some = true≢false (sym some ∙ next_none t p (ap is_done (asks ∙ idle_asks s seat k names none)))
 
 done_came : (p : Asking Names) → is_done p ≡ true → first p ≡ Came (names_done p)
 done_came (asking.Done names) h = refl

@@ -1,11 +1,11 @@
-use Rattle.std.proofs.Common.{◌≡◌, ◌+◌, ◌-◌, ℕ, false, List, Some, option_map, sym, ap, ◌∙◌, subst, true≢false, arith}
+use Rattle.std.proofs.Common.{◌≡◌, ◌+◌, ◌-◌, ◌<◌, ℕ, false, List, Some, option_map, sym, ap, ◌∙◌, subst, true≢false, arith}
 use Rattle.ix_script.specs.declared.{line.Line.Line, schedule.Stretch.Stretch}
 use Rattle.ix_asking.specs.Asking as asking
 use Rattle.ix_lanes.specs.{asking.{LineAsks.{line_asks, lines_ask}, Places.standing, Ruled.rules_told}, histories.Serial.header_of}
 use Rattle.ix_lanes.specs.running.{Left.{is_over, part_left}, Phases.{lane_among, lane_between}, Stretches.IsAmong}
 use Rattle.ix_lanes.specs.declared.asking.handed.Handed.TheVariants as handed
 use Rattle.ix_lanes.proofs.{found.Roles.line-there, phased.Among.{among_mine, among_more, idle_passed}, phased.Placed.{keeps-lines, placed-line}}
-use Rattle.ix_lanes.proofs.{phased.Lefts.{here_begun, line_begun, line_skipped, not_over}, running.here.Here.find.Goals.{in-Over, in_default}}
+use Rattle.ix_lanes.proofs.{phased.Lefts.{here_begun, line_begun, line_skipped, not_over}, running.here.Here.find.Goals.{Then-not-matches, in-Over, in_default}}
 use Rattle.ix_lanes.proofs.running.here.Here.find.Goals as goal
 
 pub lines-preserved-then-self : goal.lines-preserved-then-self
@@ -26,33 +26,28 @@ lines-preserved-then-self c =
       keeps = c.lines.invariant.keeps;
     }
 
+-- the line asks for something
+begun : (c : Then-not-matches) → is_over c.begin.new.begun ≡ false
+begun c = elim c.match-matches.branch [
+  | in-Over w ↦ absurd (true≢false (sym w.matches-is ∙ c.if-not-matches.true))
+  | in_default w ↦ not_over c.begin.new.begun w.in_default.not-Over
+]
+
 pub returns-then-not-matches-clause-left : goal.returns-then-not-matches-clause-left
 returns-then-not-matches-clause-left c =
-    let s : List Line = c.args.script.now in
-    let there = line-there s c.lines.self.at (omega (arith, c.lines-test.true, c.requires.within.1)) ∙ ap Some (sym c.line_at-self.ensures) in
-    let mine = among_mine s c.args.lane c.lines.self.at c.lines.self.stretch c.lines.self.come c.lines.invariant.among (omega (arith, c.if-self.false)) in
-    let apart : is_over c.begin.new.begun ≡ false = elim c.match-matches.branch [
-      | in-Over w ↦ absurd (true≢false (sym w.matches-is ∙ c.if-not-matches.true))
-      | in_default w ↦ not_over c.begin.new.begun w.in_default.not-Over
-    ] in
-    line_begun s c.args.lane c.args.end c.lines.self.at (option_map (λ p. p.now) c.args.policy) c.args.header.now (standing c.lines.places) c.line_at-self.result c.requires.policy c.requires.header
-    c.lines-test.true c.requires.within.1 there mine c.begin.new.written c.begin.new.copying c.begin.new.begun
-    c.begin.ensures.asks c.begin.ensures.pending c.begin.ensures.holds c.begin.ensures.apart apart
+    let there = line-there c.args.script.now c.lines.self.at (omega (arith, c.lines-test.true, c.requires.within.1)) ∙ ap Some (sym c.line_at-self.ensures) in
+    let mine = among_mine _ _ _ c.lines.self.stretch _ c.lines.invariant.among (omega (arith, c.if-self.false)) in
+    line_begun _ _ _ _ _ _ (standing c.lines.places) _ c.requires.policy c.requires.header c.lines-test.true c.requires.within.1 there mine c.begin.new.written c.begin.new.copying c.begin.new.begun
+    c.begin.ensures.asks c.begin.ensures.pending c.begin.ensures.holds c.begin.ensures.apart (begun (goal.at.returns-then-not-matches-clause-left c).Then-not-matches)
     ∙ c.lines.invariant.left
 
 pub returns-then-not-matches-clause-here : goal.returns-then-not-matches-clause-here
 returns-then-not-matches-clause-here c =
-    let s : List Line = c.args.script.now in
-    let there = line-there s c.lines.self.at (omega (arith, c.lines-test.true, c.requires.within.1)) ∙ ap Some (sym c.line_at-self.ensures) in
-    let mine = among_mine s c.args.lane c.lines.self.at c.lines.self.stretch c.lines.self.come c.lines.invariant.among (omega (arith, c.if-self.false)) in
-    let apart : is_over c.begin.new.begun ≡ false = elim c.match-matches.branch [
-      | in-Over w ↦ absurd (true≢false (sym w.matches-is ∙ c.if-not-matches.true))
-      | in_default w ↦ not_over c.begin.new.begun w.in_default.not-Over
-    ] in
-    here_begun s c.args.lane c.args.end c.lines.self.at (option_map (λ p. p.now) c.args.policy) c.args.header.now (standing c.lines.places) c.line_at-self.result c.requires.policy c.requires.header
-    c.lines-test.true c.requires.within.1 there mine c.begin.new.written c.begin.new.copying c.begin.new.begun
-    c.begin.ensures.asks c.begin.ensures.pending c.begin.ensures.holds c.begin.ensures.apart apart
-    c.lines.self.stretch c.lines.self.come c.lines.invariant.among (omega (arith, c.if-self.false))
+    let inside : c.lines.self.at < c.lines.self.stretch.end = omega (arith, c.if-self.false) in
+    let there = line-there c.args.script.now c.lines.self.at (omega (arith, c.lines-test.true, c.requires.within.1)) ∙ ap Some (sym c.line_at-self.ensures) in
+    here_begun _ _ _ _ _ _ (standing c.lines.places) _ c.requires.policy c.requires.header c.lines-test.true c.requires.within.1 there (among_mine _ _ _ _ _ c.lines.invariant.among inside)
+    c.begin.new.written c.begin.new.copying c.begin.new.begun c.begin.ensures.asks c.begin.ensures.pending c.begin.ensures.holds c.begin.ensures.apart
+    (begun (goal.at.returns-then-not-matches-clause-here c).Then-not-matches) _ _ c.lines.invariant.among inside
 
 pub bind-requires : goal.bind-requires
 bind-requires c =

@@ -1,4 +1,4 @@
-use Rattle.std.proofs.Common.{◌≡◌, ◌∷◌, ◌+◌, ◌<◌, List, Some, map, drop, take, sym, ap, ◌∙◌, subst, length, arith}
+use Rattle.std.proofs.Common.{◌≡◌, ◌∷◌, ◌+◌, List, Some, map, drop, take, sym, ap, ◌∙◌, subst, length, arith}
 use Rattle.std.{specs.Vec.with_item, proofs.lemmas.List.with_items_is}
 use Rattle.ix_model.specs.{history.Step.step_of, world.World.World}
 use Rattle.ix_asking.specs.Asking.{Answered}
