@@ -14,7 +14,7 @@ seven o a b c d e f g p q r s t u v one two three four five six last =
     last ∙ ap (λ x. x ++ v) (six ∙ ap (λ x. x ++ u) (five ∙ ap (λ x. x ++ t) (four ∙ ap (λ x. x ++ s) (three ∙ ap (λ x. x ++ r) (two ∙ ap (λ x. x ++ q) one))))) ∙ simp append_assoc
 
 module _ (h : History) (place o first count : ℕ) (out : List ℕ) {a b c d e f g : List ℕ} (one : a ≡ out ++ (decimal place ++ codes " ")) (two : b ≡ a ++ (decimal first ++ codes " "))
-    (three : c ≡ b ++ (decimal count ++ codes " ")) (labels : List Categories) (seen : Categories) (fall : Option ℕ) (number label : ℕ) {src : Source}
+    (three : c ≡ b ++ (decimal count ++ codes " ")) (labels : List Categories) (seen : Categories) (fall : Option ℕ) (number label : ℕ) (src : Source)
     (looked : seen ≡ get_or labels label bottom) where
   -- the parts, where one names a source, and others its number and the number of the byte
   line_of : (word : List ℕ) (that k : ℕ) (l : Categories) (via : Option ℕ) → d ≡ c ++ word → e ≡ d ++ (decimal that ++ codes " ") → f ≡ e ++ (decimal k ++ codes " ")

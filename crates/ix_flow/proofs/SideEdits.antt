@@ -1,5 +1,5 @@
 -- The sides of all objects after one of them was changed.
-use Rattle.std.proofs.Common.{◌≡◌, ◌<◌, ◌+◌, ◌*◌, ◌==◌, ◌&&◌, ℕ, true, false, List, [], ◌∷◌, length, Option, Some, None, is_some, refl, slice_get, if◌then◌else◌, sym, ap}
+use Rattle.std.proofs.Common.{◌≡◌, ◌<◌, ◌+◌, ◌*◌, ◌==◌, ◌&&◌, ℕ, Bool, true, false, List, [], ◌∷◌, length, Option, Some, None, is_some, refl, slice_get, if◌then◌else◌, sym, ap}
 use Rattle.std.proofs.{Common.{◌∙◌, subst, arith, inl, inr}, lemmas.Bool.{eq-eqb, ne_eqb, Decides.eqb_tells}}
 use Rattle.ix_flow.proofs.ReadMarks.{side_on}
 use Rattle.ix_label.specs.Category.{Categories}
