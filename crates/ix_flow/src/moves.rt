@@ -1,10 +1,10 @@
-ghost use Rattle.std.specs.{Prelude.{◌≡◌, ◌≤◌, ◌+◌, ◌++◌, ℕ, [], true, false, Some, length, take, OnOk}, Option.{option_map_or}};
+ghost use Rattle.std.specs.{Prelude.{◌≡◌, ◌≤◌, ◌+◌, ◌++◌, ℕ, List, [], true, false, Some, length, take, drop, if◌then◌else◌, OnOk}, Option.{option_map_or}};
 ghost use Rattle.ix_label.specs.Category.{Categories};
 ghost use Rattle.ix_model.specs.history.Events as op;
-ghost use Rattle.ix_model.specs.{history.{History.{world_of}, Made.{entry}, Views.{size_at}}, world.{Naming.{PathOf}, World.{at}}};
+ghost use Rattle.ix_model.specs.{history.{History.{History, world_of}, Made.{entry}, Views.{size_at}}, world.{Contents.{on_side}, Naming.{PathOf}, World.{at}}};
 ghost use Rattle.ix_model.specs.declared.{audit.Act.TheVariants.{DownFile}, ids.Pid.{Pid}, reply.Reply.{Reply}};
 ghost use Rattle.ix_model.specs.world.World as world;
-ghost use Rattle.ix_flow.specs.Following.{Follows, FollowsInto};
+ghost use Rattle.ix_flow.specs.{Following.{Follows, FollowsInto}, Marks.{marks_of}, Tracking.{AreSides, HasEnd}};
 
 use crate::sides::Written;
 use crate::telling::{Read, tell};
@@ -56,8 +56,19 @@ impl Tracks {
         };
         let lines = tell(side, &self.labels, &self.falls, &read, out)?;
         self.count(lines)?;
+        self.take(view.obj, view.end, piped, count)?;
+        Ok(())
+    }
+
+    /// What was read is no longer in a pipe.
+    #[inline(always)]
+    fn take(&mut self, obj: Obj, end: u8, piped: bool, count: u32) -> Result<(), NoMemory>
+        ensures sides { OnOk result ((labels : List Categories) (past : History) → AreSides self.old.sides labels past (marks_of past) → HasEnd past (marks_of past) obj.0 end piped
+            → AreSides self.new.sides labels past (if piped then on_side obj.0 end (drop count) (marks_of past) else marks_of past)) }
+        ensures rest { OnOk result (self.new ≡ record self.old { sides = self.new.sides }) }
+    {
         if piped {
-            self.sides.drain(view.obj, view.end, count)?;
+            self.sides.drain(obj, end, count)?;
         }
         Ok(())
     }

@@ -1,6 +1,5 @@
-use Rattle.std.proofs.Common.{◌≡◌, ◌≤◌, ◌∙◌, ℕ, Bool, true, false, Option, Some, None, option_map, drop, if◌then◌else◌, refl, sym, ap, subst}
-use Rattle.ix_model.specs.world.Contents.{on_side}
-use Rattle.ix_flow.{specs.{Marks.marks_of, Tracking.{AreSides, HasEnd}}, proofs.{ReadTracks.{followed, has_side, idle, is_opened}, tracks.Tracks.read.Goals.{then-piped, else-piped}}}
+use Rattle.std.proofs.Common.{◌≡◌, ◌≤◌, ◌∙◌, ℕ, Bool, true, false, Option, Some, None, option_map, if◌then◌else◌, refl, sym, ap, subst}
+use Rattle.ix_flow.{specs.{Marks.marks_of, Tracking.{AreSides, AreTracks}}, proofs.{ReadTracks.{followed, has_side, idle, is_opened}, tracks.Tracks.read.Goals.{then-piped, else-piped}}}
 use Rattle.ix_model.specs.declared.reply.Reply.TheVariants as reply
 use Rattle.ix_flow.proofs.tracks.Tracks.read.Goals as goal
 
@@ -11,11 +10,8 @@ none_of : {A : Type 0} (o : Option A) → ((x : A) → o ≡ Some x → ⊥) →
 none_of None isnt = refl
 none_of (Some x) isnt = absurd (isnt x refl)
 
-begins : (piped : Bool) (at front first rest : ℕ) → at ≡ first → ((piped ≡ true) × (first ≡ front)) → at ≡ (if piped then front else rest)
-begins piped at front first rest is known = is ∙ known.1 ∙ ap (λ b. if b then front else rest) (sym known.0)
-
-begins_there : (piped : Bool) (at front first rest : ℕ) → at ≡ first → ((piped ≡ false) × (first ≡ rest)) → at ≡ (if piped then front else rest)
-begins_there piped at front first rest is known = is ∙ known.1 ∙ ap (λ b. if b then front else rest) (sym known.0)
+begins : (b piped : Bool) (at front first rest : ℕ) → at ≡ first → ((piped ≡ b) × (first ≡ (if b then front else rest))) → at ≡ (if piped then front else rest)
+begins b piped at front first rest is known = is ∙ known.1 ∙ ap (λ x. if x then front else rest) (sym known.0)
 
 pub returns-in_default-clause-follows : goal.returns-in_default-clause-follows
 returns-in_default-clause-follows c = λ seat line limit before step are.
@@ -42,41 +38,16 @@ returns-in_default-get-clause-follows c = λ seat line limit before step are.
     _ c.in-Bytes.is c.if-count-eq0.false _ _ (λ b. refl) (λ b. refl) (λ b. refl) (sym c.opened.ensures ∙ c.in-Some.is)
     (sym c.get.ensures ∙ ap (option_map (λ s. s.now)) (none_of _ c.in_default-get.not-Some)))
 
-pub returns-in_ok-drain-clause-follows : goal.returns-in_ok-drain-clause-follows
-returns-in_ok-drain-clause-follows c = λ seat line limit before step are.
+pub returns-clause-follows : goal.returns-clause-follows
+returns-clause-follows c = λ seat line limit before step are.
     let same = ap (λ t. t.sides) c.in_ok-count.ensures in
-    followed _ _ _ _ _ _ step refl _ are (subst (λ (n : ℕ). n ≤ 6800000) c.requires.place c.requires.few)
+    let all = followed _ _ _ _ _ _ step refl _ are (subst (λ (n : ℕ). n ≤ 6800000) c.requires.place c.requires.few)
     _ c.in-Bytes.is c.if-count-eq0.false _ _ (λ b. refl) (λ b. refl) (λ b. refl) (sym c.opened.ensures ∙ c.in-Some.is)
     _ (sym c.get.ensures ∙ ap (option_map (λ s. s.now)) c.in-Some-get.is) _ c.is_pipe-piped.ensures _
     (elim c.if-piped.branch [
-      | then-piped w ↦ begins _ _ _ _ _ w.from-is
-          (w.if-piped.true, w.front-from.ensures)
-      | else-piped w ↦ begins_there _ _ _ _ _ w.from-is
-          (w.if-piped.false, w.saturating_sub-from.ensures)
+      | then-piped w ↦ begins true _ _ _ _ _ w.from-is (w.if-piped.true, w.front-from.ensures)
+      | else-piped w ↦ begins false _ _ _ _ _ w.from-is (w.if-piped.false, w.saturating_sub-from.ensures)
     ])
-    _ _ _ _ _ _ c.requires.place
-    c.in_ok-lines.ensures.text c.in_ok-lines.ensures.lines c.in_ok-count.ensures
-    (λ labels past stand there.
-    let marks = marks_of past in
-    subst (λ b. AreSides c.drain.new.self labels past (if b then on_side c.in-Some.view.obj.0 c.in-Some.view.end (drop c.in-Bytes.count) marks else marks)) (sym c.if-piped-2.true)
-    (c.in_ok-drain.ensures labels past marks (subst (λ s. AreSides s labels past marks) (sym same) stand)
-    (subst (λ b. HasEnd past marks c.in-Some.view.obj.0 c.in-Some.view.end b) c.if-piped-2.true there)))
-
-pub returns-else-piped-2-clause-follows : goal.returns-else-piped-2-clause-follows
-returns-else-piped-2-clause-follows c = λ seat line limit before step are.
-    let same = ap (λ t. t.sides) c.in_ok-count.ensures in
-    followed _ _ _ _ _ _ step refl _ are (subst (λ (n : ℕ). n ≤ 6800000) c.requires.place c.requires.few)
-    _ c.in-Bytes.is c.if-count-eq0.false _ _ (λ b. refl) (λ b. refl) (λ b. refl) (sym c.opened.ensures ∙ c.in-Some.is)
-    _ (sym c.get.ensures ∙ ap (option_map (λ s. s.now)) c.in-Some-get.is) _ c.is_pipe-piped.ensures _
-    (elim c.if-piped.branch [
-      | then-piped w ↦ begins _ _ _ _ _ w.from-is
-          (w.if-piped.true, w.front-from.ensures)
-      | else-piped w ↦ begins_there _ _ _ _ _ w.from-is
-          (w.if-piped.false, w.saturating_sub-from.ensures)
-    ])
-    _ _ _ _ _ _ c.requires.place
-    c.in_ok-lines.ensures.text c.in_ok-lines.ensures.lines c.in_ok-count.ensures
-    (λ labels past stand there.
-    let marks = marks_of past in
-    subst (λ b. AreSides c.count.new.self.sides labels past (if b then on_side c.in-Some.view.obj.0 c.in-Some.view.end (drop c.in-Bytes.count) marks else marks)) (sym c.if-piped-2.false)
-    (subst (λ s. AreSides s labels past marks) (sym same) stand))
+    _ _ _ _ _ _ c.requires.place c.in_ok-lines.ensures.text c.in_ok-lines.ensures.lines c.in_ok-count.ensures
+    (λ labels past stand there. c.in_ok-take.ensures.sides labels past (subst (λ s. AreSides s labels past (marks_of past)) (sym same) stand) there) in
+    (subst (λ t. AreTracks t c.args.core.now) (sym c.in_ok-take.ensures.rest) all.0, all.1)
