@@ -1,5 +1,5 @@
 -- The shortest spelling of a payload, by the lengths of its spellings.
-use Rattle.std.proofs.Common.{◌≡◌, ℕ, zero, suc, ◌+◌, ◌*◌, ◌<◌, ◌≤◌, ◌==◌, Bool, true, false, ◌&&◌, ◌||◌, cond, codes, replicate, ap, List, [], ◌∷◌, ◌++◌, drop}
+use Rattle.std.proofs.Common.{◌≡◌, ℕ, zero, suc, ◌+◌, ◌*◌, ◌<◌, ◌≤◌, ◌==◌, Bool, true, false, ◌||◌, cond, codes, replicate, ap, List, [], ◌∷◌, ◌++◌, drop}
 use Rattle.std.{proofs.Common.{length, get_or, Some, None, refl, sym, ◌∙◌, arith}, specs.{Prelude.if◌then◌else◌, List.{flat_map, list_all}, Fmt.decimal}}
 use Rattle.std.proofs.lemmas.{Bool.{and_parts, lt-ltb, le-ltb, eq-eqb}, List.{at_drop_more, length-append, length-replicate}}
 use Rattle.ix_text.specs.Spellings.{hex_pair}

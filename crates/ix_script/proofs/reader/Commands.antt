@@ -1,6 +1,7 @@
 -- A command that gives no name and is no server's tells nothing but that it is one.
 use Rattle.std.proofs.Common.{◌≡◌, ◌⊎◌, inl, inr, true≢false, ℕ, ◌+◌, ◌≤◌, nat_le, nat_lt, Bool, true, false, ◌||◌, cond, List, [], ◌∷◌, ◌++◌, length, Option, Some, None, option_map, Result}
-use Rattle.std.{proofs.{Common.{Ok, Err, refl, sym, ap, ◌∙◌, subst, arith}, lemmas.{Bool.{le-leb, lt-leb, ltb-true}, List.append-nil, Option.same_Some}}, specs.{List.{fold, list_all, list_any}, Option.{IsSome, is_none}, Result.OnOk}}
+use Rattle.std.{proofs.{Common.{Ok, Err, refl, sym, ap, ◌∙◌, subst, arith}, lemmas.{Bool.{le-leb, lt-leb, ltb-true}, List.append-nil, Option.same_Some}}}
+use Rattle.std.{specs.{List.{fold, list_all, list_any}, Option.{IsSome, is_none}, Result.OnOk}}
 use mir.Val.{bool_byte}
 use Rattle.ix_text.{specs.{Bytes.is_empty, Names.is_script_name}, proofs.Tests.bool_cases}
 use Rattle.ix_script.specs.{lines.{Kinds.places_fault, Forms.places, Roles.role_of, Rules.is_outside}, declared.{line.{FdWord.FdWord, KeepWord.KeepWord}, header.Header.Header, body.Body.Body}}
@@ -10,7 +11,7 @@ use Rattle.ix_script.specs.{reader.Told.{HeaderTold, BodyTold, MakesMore, NamesM
 use Rattle.ix_script.specs.declared.{index.{Given.Given, Names.Names, Tree.Tree}, line.Line.Line}
 use Rattle.ix_model.specs.{declared.{call.Mode.Mode, config.{Limits.Limits, ObjSpec.ObjSpec}}, world.Naming.PathOf, opening.Valid.is_valid, history.Cost.cost_of_path}
 use Rattle.ix_script.proofs.{lines.{Readings.stand, Follows.follows}, reader.{PhaseLanes.OneMore, Keeping.header_next, Validity.fits_of}}
-use Rattle.ix_script.specs.lines.Before.{form_told, fs_told, limits_after, what_told, proc_name_told, object_told, is_policy, group, is_phase, in_body, lane_after, lane_now}
+use Rattle.ix_script.specs.lines.Before.{fs_told, limits_after, what_told, proc_name_told, object_told, is_policy, group, is_phase, in_body, lane_after, lane_now}
 use Rattle.ix_script.specs.lines.Before.{phase_lanes_after, lanes_after, new_fds, new_procs, fds_given, procs_given, in_lane, is_command, commands}
 use Rattle.ix_script.proofs.reader.Pushed.{body_push, lane_push, phase_lanes_push, lanes_push, fds_push, procs_given_push, commands_push}
 use Rattle.ix_label.specs.declared.form.Form as spelled
@@ -183,7 +184,8 @@ still _ a b c d e f g = record { phase = refl; lane = λ at. refl; phase_lanes =
 -- what is kept of the body, with one line more
 pub body_next : (b n : Body) (before : List Line) (x : Line) → BodyTold b before → n.started ≡ (b.started || is_phase x) → option_map
     (λ s. s.now) n.lane ≡ lane_after (option_map (λ s. s.now) b.lane) x → n.in_order ≤ length n.lanes → list_all is_script_name n.lanes ≡ true
-    → phase_lanes_in n ≡ phase_lanes_after (phase_lanes_in b) x → n.lanes ≡ lanes_after b.lanes x → ((items : List (List ℕ × List ℕ)) → AreIndexed b.fds items → AreIndexed n.fds (items ++ in_lane (option_map (λ s. s.now) b.lane) (new_fds x)))
+    → phase_lanes_in n ≡ phase_lanes_after (phase_lanes_in b) x → n.lanes ≡ lanes_after b.lanes x → ((items : List (List ℕ × List ℕ)) → AreIndexed b.fds items
+    → AreIndexed n.fds (items ++ in_lane (option_map (λ s. s.now) b.lane) (new_fds x)))
     → ((items : List (List ℕ × List ℕ)) → AreIndexed b.procs items → AreIndexed n.procs
     (items ++ in_lane (option_map (λ s. s.now) b.lane) (new_procs x))) → n.commands ≡ cond (is_command x) (b.commands + 1) b.commands
     → BodyTold n (before ++ x ∷ [])
@@ -204,7 +206,8 @@ body_next b n before x told started lane within named phase_lanes_are lanes_are 
 
 -- what is kept of the body, with one lane more
 pub lane_added : (b n : Body) (name : List ℕ) (lines : List Line) → BodyTold b lines → n.started ≡ b.started → option_map (λ s. s.now) n.lane ≡ Some name
-    → n.lanes ≡ lanes_after b.lanes (line.Lane name) → list_all is_script_name n.lanes ≡ true → OneMore n.in_order n.lanes n.others (phase_lanes_in b) name → n.fds ≡ b.fds → n.procs ≡ b.procs → n.commands ≡ b.commands
+    → n.lanes ≡ lanes_after b.lanes (line.Lane name) → list_all is_script_name n.lanes ≡ true → OneMore n.in_order n.lanes n.others (phase_lanes_in b) name
+    → n.fds ≡ b.fds → n.procs ≡ b.procs → n.commands ≡ b.commands
     → BodyTold n (lines ++ line.Lane name ∷ [])
 lane_added b n name lines told started lane lanes named more fds procs commands =
     let at = option_map (λ s. s.now) b.lane in
@@ -284,7 +287,8 @@ module _ {labels : spelled.Form} {f : Form} {words : List (List ℕ)} {cost : �
       let k = tells x.0 y.0 x.1 y.1 in
       record { line = make x.0 y.0; says = is ∙ (λ i. option_map (λ x. make x.0 x.1) (both (x.1 i) (y.1 i))); is_command = k.0; costs = k.1 }
 
-  of_three : {A B C : Type 0} {a : Option A} {b : Option B} {c : Option C} (make : A → B → C → Line) → IsSome a → IsSome b → IsSome c → said labels f words ≡ option_map (λ x. make x.0 x.1.0 x.1.1) (both a (both b c))
+  of_three : {A B C : Type 0} {a : Option A} {b : Option B} {c : Option C} (make : A → B → C → Line) → IsSome a → IsSome b → IsSome c
+      → said labels f words ≡ option_map (λ x. make x.0 x.1.0 x.1.1) (both a (both b c))
       → ((x : A) (y : B) (z : C) → a ≡ Some x → b ≡ Some y → c ≡ Some z → (role_of (make x y z) ≡ role.Command) × (cost_of_line (make x y z) ≡ cost)) → CommandSaid labels f words cost
   of_three make some more last is tells =
       let x = there _ some in

@@ -1,10 +1,13 @@
 -- A plan of more and more lines.
-use Rattle.std.proofs.{Common.{◌≡◌, ℕ, zero, suc, ◌+◌, ◌-◌, ◌<◌, ◌≤◌, false, true, arith, drop, List, [], ◌∷◌, ◌++◌, length, take, get_or, Option, Some, None, refl, sym, ap, ◌∙◌, subst, add-one, inl, inr}, Math.Seq.{get_or-append_seam, take-suc}}
+use Rattle.std.proofs.Common.{◌≡◌, ℕ, zero, suc, ◌+◌, ◌-◌, ◌<◌, ◌≤◌, false, true, arith, drop, List, [], ◌∷◌, ◌++◌, length, take, get_or, Option, Some, None, refl, sym, ap}
+use Rattle.std.proofs.{Common.{◌∙◌, subst, add-one, inl, inr}, Math.Seq.{get_or-append_seam, take-suc}}
 use Rattle.std.specs.{List.{position_from, slice_get}, Option.option_map_or}
-use Rattle.std.proofs.lemmas.{Bool.{cases_Bool, cases_lt, false≢true}, List.{append-nil, drop_all, get_or_append_left, length-append, take_all}, Option.{none-some, slice_get_past, slice_get-get_or, get_or_from_slice_get}}
+use Rattle.std.proofs.lemmas.{Bool.{cases_Bool, cases_lt, false≢true}, List.{append-nil, drop_all, get_or_append_left, length-append, take_all}}
+use Rattle.std.proofs.lemmas.Option.{none-some, slice_get_past, slice_get-get_or, get_or_from_slice_get}
 use Rattle.ix_model.specs.declared.config.Limits.{Limits}
 use Rattle.ix_script.specs.lines.{Before.{fs_told, limits_after, proc_told, object_told, is_policy}, Roles.{EndsHeader, IsHeaderEnd, role_of, in_header, is_header, header_only}}
-use Rattle.ix_script.{specs.{scripts.Held.IsPlan, declared.{plan.Plan.Plan, line.Line.Line, role.Role.Role}}, proofs.reader.{Pushed.{fss_push, limits_push, procs_push, objects_push}, Walking.policy_later}}
+use Rattle.ix_script.specs.{scripts.Held.IsPlan, declared.{plan.Plan.Plan, line.Line.Line, role.Role.Role}}
+use Rattle.ix_script.proofs.reader.{Pushed.{fss_push, limits_push, procs_push, objects_push}, Walking.policy_later}
 use Rattle.ix_script.specs.declared.line.Line.TheVariants as line
 use Rattle.ix_script.specs.declared.role.Role.TheVariants as role
 

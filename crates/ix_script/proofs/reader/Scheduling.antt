@@ -1,7 +1,8 @@
 -- The schedule of lines, made line after line.
 use Rattle.std.proofs.Common.{◌≡◌, ℕ, zero, suc, ◌+◌, ◌-◌, ◌<◌, ◌≤◌, ◌==◌, nat_lt, map, replicate, Bor, Bool, true, false, ◌||◌, cond, List, [], ◌∷◌, ◌++◌, length, drop, take, set, get_or, max}
 use Rattle.std.proofs.Common.{count_by, Option, Some, None, option_map, refl, sym, ap, ◌∙◌, subst, ◌⊎◌, arith, append_assoc, add-one, inl, inr}
-use Rattle.std.{specs.{List.slice_get, Option.{option_copied, option_map_or}, Slice.IsItemAt, Vec.vec_items}, proofs.lemmas.List.{append-nil, get_or-map, get_or_past, drop_all, length-drop, length-map, length-replicate, map-append, map-set, get_or-set_same, get_or-set_other}}
+use Rattle.std.{specs.{List.slice_get, Option.{option_copied, option_map_or}, Slice.IsItemAt, Vec.vec_items}}
+use Rattle.std.{proofs.lemmas.List.{append-nil, get_or-map, get_or_past, drop_all, length-drop, length-map, length-replicate, map-append, map-set, get_or-set_same, get_or-set_other}}
 use Rattle.std.proofs.{Math.{Nat.max_comm, Seq.{drop-cons, take-nil}}, lemmas.{Bool.{cases_Bool, cases_eq, cases_lt, eq-eqb, le-ltb, lt-ltb, ne_eqb, false≢true}, List.Sums.sum_by-cons}}
 use Rattle.std.proofs.lemmas.Option.{none-some, same_Some, slice_get-get_or, slice_get_past}
 use Rattle.std.specs.declared.vec.Vec.{Vec}
@@ -274,7 +275,8 @@ start_made names lines made seats long none all = record {
   marks = ap length all ∙ length-replicate _ _;
 }
 
-pub all_made : (names : List (List ℕ)) (lines : List Line) (s : Schedule) (begun i : ℕ) → length lines ≤ i → s.phases ≡ max begun 1 → Made names lines (map vec_items s.stretches.items) s.seats.items begun i
+pub all_made : (names : List (List ℕ)) (lines : List Line) (s : Schedule) (begun i : ℕ) → length lines ≤ i → s.phases ≡ max begun 1
+    → Made names lines (map vec_items s.stretches.items) s.seats.items begun i
     → IsSchedule s lines names
 unfolding phases
 all_made names lines s begun i past count m =

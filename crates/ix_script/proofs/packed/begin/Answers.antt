@@ -1,4 +1,4 @@
-use Rattle.std.proofs.Common.{◌≡◌, suc, sym, ap, ◌∙◌, arith}
+use Rattle.std.proofs.Common.{◌≡◌, suc, ap, ◌∙◌, arith}
 use Rattle.ix_script.{specs.scripts.Packed.begin_at, proofs.reader.Packing.begin_later}
 use Rattle.ix_script.proofs.packed.begin.Goals as goal
 

@@ -1,9 +1,10 @@
-use Rattle.std.proofs.Common.{◌≡◌, ℕ, ◌+◌, ◌<◌, ◌++◌, ◌∷◌, [], List, length, drop, get_or, None, Some, slice_get, Bool, cond, sym, ap, ◌∙◌, arith}
+use Rattle.std.proofs.Common.{◌≡◌, ℕ, ◌+◌, ◌<◌, ◌++◌, ◌∷◌, [], List, length, drop, None, Some, slice_get, Bool, cond, sym, ap, ◌∙◌, arith}
 use Rattle.std.proofs.lemmas.List.{take_rest}
-use Rattle.ix_script.specs.{declared.{role.Role.Role, line.Line.Line, schedule.Stretch.Stretch}, lines.Before.form_told, scripts.Schedule.{seat_begun, seat_from}}
+use Rattle.ix_script.specs.{declared.{role.Role.Role, line.Line.Line, schedule.Stretch.Stretch}, scripts.Schedule.{seat_begun, seat_from}}
 use Rattle.ix_script.{specs.scripts.Held.own_of, proofs.back.LaneBack.lane_at}
 use Rattle.ix_script.specs.declared.line.Line.TheVariants as line
-use Rattle.ix_script.proofs.reader.Scheduling.{phase_role, lane_role, begun_here, none_here, unseated, other_phase, other_lane, seat_low, part_within, added_own, own_here, none_marked, still_marked, seat_set}
+use Rattle.ix_script.proofs.reader.Scheduling.{phase_role, lane_role, begun_here, none_here, unseated, other_phase, other_lane, seat_low, part_within}
+use Rattle.ix_script.proofs.reader.Scheduling.{added_own, own_here, none_marked, still_marked, seat_set}
 use Rattle.ix_script.proofs.reader.Scheduling.{stretch_here}
 use Rattle.ix_script.proofs.schedule.add_line.Goals as goal
 
@@ -39,26 +40,26 @@ returns-in_default-seat_of-clause-begun c =
 
 pub slice_bounds-seat_of-count : goal.slice_bounds-seat_of-count
 slice_bounds-seat_of-count c =
-    let lane = lane_at (form_told c.args.lines.now.said) c.args.lines.now.said c.args.index c.unwrap-text.result.now c.unwrap-role.result (rw c.unwrap-text.ensures at c.text_at.ensures).0 (rw c.unwrap-text.ensures at c.text_at.ensures).1
+    let lane = lane_at _ c.args.lines.now.said c.args.index _ _ (rw c.unwrap-text.ensures at c.text_at.ensures).0 (rw c.unwrap-text.ensures at c.text_at.ensures).1
     (sym c.unwrap-role.ensures ∙ c.role.ensures) c.in-Lane.is in
     lane.long
 
 pub slice_bounds-seat_of-start : goal.slice_bounds-seat_of-start
 slice_bounds-seat_of-start c =
-    let lane = lane_at (form_told c.args.lines.now.said) c.args.lines.now.said c.args.index c.unwrap-text.result.now c.unwrap-role.result (rw c.unwrap-text.ensures at c.text_at.ensures).0 (rw c.unwrap-text.ensures at c.text_at.ensures).1
+    let lane = lane_at _ c.args.lines.now.said c.args.index _ _ (rw c.unwrap-text.ensures at c.text_at.ensures).0 (rw c.unwrap-text.ensures at c.text_at.ensures).1
     (sym c.unwrap-role.ensures ∙ c.role.ensures) c.in-Lane.is in
     lane.long
 
 pub returns-in_default-seat_of-clause-more : goal.returns-in_default-seat_of-clause-more
 returns-in_default-seat_of-clause-more c =
-    let lane = lane_at (form_told c.args.lines.now.said) c.args.lines.now.said c.args.index c.unwrap-text.result.now c.unwrap-role.result (rw c.unwrap-text.ensures at c.text_at.ensures).0 (rw c.unwrap-text.ensures at c.text_at.ensures).1
+    let lane = lane_at _ c.args.lines.now.said c.args.index _ _ (rw c.unwrap-text.ensures at c.text_at.ensures).0 (rw c.unwrap-text.ensures at c.text_at.ensures).1
     (sym c.unwrap-role.ensures ∙ c.role.ensures) c.in-Lane.is in
     λ seat. unseated c.args.lanes.now seat c.args.begun c.args.index c.args.lines.now.said (drop 5 c.unwrap-text.result.now) _ ((rw c.unwrap-text.ensures at c.text_at.ensures).1
     ∙ ap (λ (l : Line). Some l) lane.says) (sym (c.seat_of.ensures ∙ ap (λ n. seat_from 0 n c.args.lanes.now) (take_rest c.unwrap-text.result.now 5)) ∙ c.in_default-seat_of.is)
 
 pub returns-in_default-seat_of-clause-marked : goal.returns-in_default-seat_of-clause-marked
 returns-in_default-seat_of-clause-marked c =
-    let lane = lane_at (form_told c.args.lines.now.said) c.args.lines.now.said c.args.index c.unwrap-text.result.now c.unwrap-role.result (rw c.unwrap-text.ensures at c.text_at.ensures).0 (rw c.unwrap-text.ensures at c.text_at.ensures).1
+    let lane = lane_at _ c.args.lines.now.said c.args.index _ _ (rw c.unwrap-text.ensures at c.text_at.ensures).0 (rw c.unwrap-text.ensures at c.text_at.ensures).1
     (sym c.unwrap-role.ensures ∙ c.role.ensures) c.in-Lane.is in
     let none : seat_begun c.args.lanes.now (slice_get c.args.lines.now.said c.args.index) ≡ None =
     ap (seat_begun c.args.lanes.now) ((rw c.unwrap-text.ensures at c.text_at.ensures).1 ∙ ap (λ (l : Line). Some l) lane.says)
@@ -91,7 +92,7 @@ returns-clause-more c =
     let items = c.args.stretches.now.items in
     let at : ℕ = c.in-Some.seat in
     let stretch : Stretch = record { phase = c.saturating_sub.result; first = c.args.index + 1; end = c.part_end.result } in
-    let lane = lane_at (form_told c.args.lines.now.said) c.args.lines.now.said c.args.index c.unwrap-text.result.now c.unwrap-role.result (rw c.unwrap-text.ensures at c.text_at.ensures).0 (rw c.unwrap-text.ensures at c.text_at.ensures).1
+    let lane = lane_at _ c.args.lines.now.said c.args.index _ _ (rw c.unwrap-text.ensures at c.text_at.ensures).0 (rw c.unwrap-text.ensures at c.text_at.ensures).1
     (sym c.unwrap-role.ensures ∙ c.role.ensures) c.in-Lane.is in
     let name : List ℕ = drop 5 c.unwrap-text.result.now in
     let place : seat_from 0 name c.args.lanes.now ≡ Some at =
@@ -106,7 +107,7 @@ returns-clause-more c =
 
 pub returns-clause-marked : goal.returns-clause-marked
 returns-clause-marked c =
-    let lane = lane_at (form_told c.args.lines.now.said) c.args.lines.now.said c.args.index c.unwrap-text.result.now c.unwrap-role.result (rw c.unwrap-text.ensures at c.text_at.ensures).0 (rw c.unwrap-text.ensures at c.text_at.ensures).1
+    let lane = lane_at _ c.args.lines.now.said c.args.index _ _ (rw c.unwrap-text.ensures at c.text_at.ensures).0 (rw c.unwrap-text.ensures at c.text_at.ensures).1
     (sym c.unwrap-role.ensures ∙ c.role.ensures) c.in-Lane.is in
     let name : List ℕ = drop 5 c.unwrap-text.result.now in
     let place : seat_from 0 name c.args.lanes.now ≡ Some c.in-Some.seat =

@@ -1,5 +1,5 @@
 use Rattle.std.proofs.Common.{[], ◌∷◌, ◌++◌, option_map, Some, sym, ap, ◌∙◌, refl, subst, arith}
-use Rattle.ix_script.specs.{lines.Before.{is_command, in_lane, new_fds, new_procs}, reader.{Told.phase_lanes_in, Indexed.AreIndexed}}
+use Rattle.ix_script.specs.{lines.Before.{is_command, in_lane}, reader.{Told.phase_lanes_in, Indexed.AreIndexed}}
 use Rattle.ix_script.proofs.reader.{Commands.{still, on_ok, one_counted, or_true, or_false, body_next, lane_added, none_in}, Indexing.two_in_lane}
 use Rattle.ix_script.proofs.reader.PhaseLanes.{OneMore, comes_next, next_more, other_more}
 use Rattle.ix_script.specs.declared.line.Line.TheVariants as line
@@ -18,7 +18,8 @@ pub returns-in-Open : goal.returns-in-Open
 returns-in-Open c =
     let x = c.args.line.now in
     let b = c.args.self.now in
-    on_ok c.add.result (λ given lines told. body_next b _ lines x told (rw c.in-Open.is (sym (or_false b.started))) (rw c.in-Open.is refl) told.within told.named (rw c.in-Open.is refl) (rw c.in-Open.is refl)
+    on_ok c.add.result (λ given lines told. body_next b _ lines x told (rw c.in-Open.is (sym (or_false b.started))) (rw c.in-Open.is refl) told.within
+    told.named (rw c.in-Open.is refl) (rw c.in-Open.is refl)
     (λ items h. rw c.in-Open.is (rw c.as_ref.ensures.value at (given items h))) (none_in b.procs _ (rw c.in-Open.is refl))
     (one_counted _ _ _ _ c.from.ensures c.is_command.ensures)) c.add.ensures
 
@@ -80,7 +81,8 @@ returns-then-is_next c = λ lines told.
     let known = c.in_ok-add_name-in-Lane.ensures.lanes in
     let next =
     comes_next _ _ _ _ (rw c.as_bytes-in-Lane.ensures.bytes at (sym c.is_next.ensures.next ∙ c.if-is_next.true)) in
-    rw c.in-Lane.is (lane_added b _ _ _ told refl (ap (λ n. Some n) c.as_bytes.ensures.bytes) known (c.in_ok-add_name-in-Lane.ensures.named told.named) (next_more _ _ _ _ _ known told.within next) refl refl
+    rw c.in-Lane.is (lane_added b _ _ _ told refl (ap (λ n. Some n) c.as_bytes.ensures.bytes) known (c.in_ok-add_name-in-Lane.ensures.named told.named)
+    (next_more _ _ _ _ _ known told.within next) refl refl
     (one_counted _ _ _ _ c.from.ensures (c.is_command.ensures ∙ ap is_command c.in-Lane.is)))
 
 pub returns-else-is_next : goal.returns-else-is_next

@@ -1,6 +1,6 @@
 use Rattle.std.proofs.Common.{◌≡◌, ℕ, List, Some, refl, sym, ap, ◌∙◌, drop}
-use Rattle.ix_script.specs.{lines.{Before.{form_told, lanes_after}, Faults.line_fault, Roles.role_of, Said.line_of}, reader.Readers.LineRight}
-use Rattle.ix_script.specs.{scripts.{Need.cost_of_line, Packed.{line_in, with_line}}, declared.{draft.Draft.Draft, line.Line.Line}}
+use Rattle.ix_script.specs.{lines.{Before.{lanes_after}, Roles.role_of}}
+use Rattle.ix_script.specs.{scripts.{Need.cost_of_line, Packed.{with_line}}, declared.{draft.Draft.Draft, line.Line.Line}}
 use Rattle.ix_script.specs.declared.line.Line.TheVariants as line
 use Rattle.ix_script.proofs.{reader.Commands.{begun_body, header_quiet, lane_behind, lane_added, on_ok}, reader.Packing.right_later}
 use Rattle.ix_script.proofs.{reader.PhaseLanes.{ComesNext, comes_next, next_more}, back.NextLane.{next_right, next_known}}

@@ -33,7 +33,8 @@ pub invariant_of-self-2 : goal.invariant_of-self-2
 invariant_of-self-2 c =
     let line : Line = line_in c.args.form c.args.text.now in
     let next = subst (λ (f : FrontOf). IsNext f c.args.text.now) (sym c.self.view_is) c.requires.next in
-    let is : c.args.form ≡ form_told (held c.self.inside.form 0 c.self.inside.text.now c.self.inside.ends.items ++ line ∷ []) = sym c.requires.form ∙ ap (λ (f : FrontOf). form_told (f.said ++ line ∷ [])) (sym c.self.view_is) in
+    let is : c.args.form ≡ form_told (held c.self.inside.form 0 c.self.inside.text.now c.self.inside.ends.items ++ line ∷ []) = sym c.requires.form
+    ∙ ap (λ (f : FrontOf). form_told (f.said ++ line ∷ [])) (sym c.self.view_is) in
     let after = one_more line c.self.inside.ends.items c.in_ok-push.ensures.items c.self.invariant.1 refl next c.self.invariant.0.2 is c.self.invariant.0.0 in
     let role : c.push-2.new.self.items ≡ c.self.inside.roles.items ++ role_of line ∷ [] = rw (c.in-Ok.ensures.items, c.requires.role) refl in (
       (
@@ -53,7 +54,8 @@ pub returns : goal.returns
 returns c =
     let line : Line = line_in c.args.form c.args.text.now in
     let next = subst (λ (f : FrontOf). IsNext f c.args.text.now) (sym c.self.view_is) c.requires.next in
-    let is : c.args.form ≡ form_told (held c.self.inside.form 0 c.self.inside.text.now c.self.inside.ends.items ++ line ∷ []) = sym c.requires.form ∙ ap (λ (f : FrontOf). form_told (f.said ++ line ∷ [])) (sym c.self.view_is) in
+    let is : c.args.form ≡ form_told (held c.self.inside.form 0 c.self.inside.text.now c.self.inside.ends.items ++ line ∷ []) = sym c.requires.form
+    ∙ ap (λ (f : FrontOf). form_told (f.said ++ line ∷ [])) (sym c.self.view_is) in
     let after = one_more line c.self.inside.ends.items c.in_ok-push.ensures.items c.self.invariant.1 refl next c.self.invariant.0.2 is c.self.invariant.0.0 in
     let said = after.held_is ∙ ap (λ (f : FrontOf). f.said ++ line ∷ []) c.self.view_is in
     λ i. record { text = (c.self.view_is i).text; said = said i; at = (c.self.view_is i).at + length c.args.text.now + 1 }

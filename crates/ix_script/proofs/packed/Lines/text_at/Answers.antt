@@ -1,6 +1,6 @@
 use Rattle.std.{proofs.{Common.{List, ℕ, length, get_or, Some, sym, ap, ◌∙◌, subst, arith}, lemmas.Option.slice_get_past}, specs.List.slice_get}
 use Rattle.ix_label.specs.declared.form.Form.{Form}
-use Rattle.ix_script.specs.{lines.Before.form_told, scripts.Packed.{FrontOf, IsLine, begin_at, between, held, line_in}, declared.line.Line.Line}
+use Rattle.ix_script.specs.{lines.Before.form_told, scripts.Packed.{FrontOf, IsLine, begin_at, between, held, line_in}}
 use Rattle.ix_script.proofs.reader.Packing.{length-held, line_at}
 use Rattle.ix_script.proofs.packed.Lines.text_at.Goals as goal
 

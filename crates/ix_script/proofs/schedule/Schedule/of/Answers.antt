@@ -3,7 +3,8 @@ use Rattle.ix_script.proofs.reader.Scheduling.{blanked, start_made, made_next, a
 use Rattle.ix_script.proofs.schedule.Schedule.of.Goals as goal
 
 pub lines-init : goal.lines-init
-lines-init c = start_made c.args.lanes.now c.args.lines.now.said _ _ (length-map _ vec_items ∙ c.in_ok-stretches.ensures.len) c.in_ok-stretches.ensures.none (c.in_ok-resize.ensures.items ∙ blanked c.new-seats.result.items _ _ _ c.new-seats.ensures.items c.new-seats.ensures.len c.len-2.ensures)
+lines-init c = start_made c.args.lanes.now c.args.lines.now.said _ _ (length-map _ vec_items ∙ c.in_ok-stretches.ensures.len) c.in_ok-stretches.ensures.none
+    (c.in_ok-resize.ensures.items ∙ blanked c.new-seats.result.items _ _ _ c.new-seats.ensures.items c.new-seats.ensures.len c.len-2.ensures)
 
 pub lines-preserved : goal.lines-preserved
 lines-preserved c =
@@ -12,7 +13,8 @@ lines-preserved c =
       c.lines-test.true,
       c.len-index-end.ensures,
     ))
-    c.in_ok-begun.ensures.begun (length-map _ vec_items ∙ c.in_ok-begun.ensures.lanes ∙ sym c.lines.invariant.lanes) c.in_ok-begun.ensures.more c.in_ok-begun.ensures.seats c.in_ok-begun.ensures.marked c.lines.invariant
+    c.in_ok-begun.ensures.begun (length-map _ vec_items ∙ c.in_ok-begun.ensures.lanes ∙ sym c.lines.invariant.lanes) c.in_ok-begun.ensures.more
+    c.in_ok-begun.ensures.seats c.in_ok-begun.ensures.marked c.lines.invariant
 
 pub returns : goal.returns
 returns c = all_made c.args.lanes.now c.args.lines.now.said _ c.lines.begun c.lines.index (omega (arith, c.lines-test.false, c.len-index-end.ensures)) c.max-2.ensures c.lines.invariant
