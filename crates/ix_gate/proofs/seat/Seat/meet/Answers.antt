@@ -15,7 +15,8 @@ join_seat-requires g c =
 
 pub load-requires : goal.load-requires
 load-requires g c =
-    (search rules, search rules, free_look_allowed _ _ _ _ _ _ _ _ (ap (λ m. m.0.stage) c.join_seat.ensures.2 ∙ (idle_of _ _ (ap (λ k. k.taken) c.self.view_is ∙ c.requires.free.0) c.self.invariant.carries).0))
+    let free = (idle_of _ _ (ap (λ k. k.taken) c.self.view_is ∙ c.requires.free.0) c.self.invariant.carries).0 in
+    (search rules, search rules, free_look_allowed _ _ _ _ _ _ _ _ (ap (λ m. m.0.stage) c.join_seat.ensures.2 ∙ free))
 
 pub invariant_of-self : goal.invariant_of-self
 invariant_of-self g c = at_rest_after_look _ _ _ _ _ _ _ _ _ c.self.invariant refl refl refl refl c.join_seat.ensures.2 c.load.ensures.2

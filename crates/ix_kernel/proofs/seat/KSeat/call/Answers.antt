@@ -13,8 +13,8 @@ give-requires-clause-history g c κs = (
 
 pub returns : goal.returns
 returns g c =
-    let tells = entry_tells c.args.self.now c.self.inside.seat c.take-held.new.self c.give.new.self c.take-held.result.core.value c.step-answer.new.self.core.value c.step-answer.result c.number-number.result
-    c.args.line c.args.pid (op_of c.args.call.now) c.args.buf.now c.step-answer.new.buf (record {
+    let tells = entry_tells c.args.self.now c.self.inside.seat c.take-held.new.self c.give.new.self c.take-held.result.core.value c.step-answer.new.self.core.value
+    c.step-answer.result c.number-number.result c.args.line c.args.pid (op_of c.args.call.now) c.args.buf.now c.step-answer.new.buf (record {
       same = c.self.view_is;
       mine = c.number-number.ensures.number ∙ ap (λ (k : KSeatState). k.number) c.take-held.ensures.seat ∙ ap (λ (k : KSeatState). k.number) c.self.view_is;
       base = c.take-held.ensures.base;

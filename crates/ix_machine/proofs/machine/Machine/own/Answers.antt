@@ -1,4 +1,3 @@
-use Rattle.ix_model.specs.history.Calls.{op_of}
 use Rattle.ix_machine.proofs.Stepped.{still_answers, tested_still}
 use Rattle.ix_machine.proofs.machine.Machine.own.Goals as goal
 
