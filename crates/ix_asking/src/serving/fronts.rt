@@ -5,6 +5,7 @@ ghost use Rattle.ix_asking.specs.serving.Messages.{longest_front};
 pub trait Requests {
     ghost use Rattle.std.specs.Prelude.{ℕ, Bool, List};
 
+    /// The test whether some request begins with a text.
     ghost begins: { List ℕ → Bool };
 
     /// Whether some request begins with the text.
