@@ -9,7 +9,7 @@ ghost use Rattle.ix_iso.specs.Noninterference.{Noninterferent};
 ghost use Rattle.ix_fcalls.specs.Spots.{view_through};
 ghost use Rattle.ix_core.specs.{Marking.{way_of, goes_fresh}, Stepping.{StepsTo, Shows, AnswersAlike, StepsAs, MakesNext}, Stops.{StopsWhereFull}};
 
-use crate::marking::call_checked;
+use crate::marking::{call_checked, goes_fresh, is_own_label, known, own_label};
 use ix_float::Way;
 use ix_journal::Journal;
 use ix_label::Steps;
@@ -108,6 +108,12 @@ impl Core {
         let place = self.journal.len() + 1;
         self.journal.keep(seat, line, pid, call);
         let (machine, marks) = (&mut self.machine, &mut self.marks);
+        if goes_fresh(marks, pid, call) {
+            return Answer::Given(known(machine, marks, place, pid, call, buf));
+        }
+        if is_own_label(call) {
+            return Answer::Given(own_label(machine, marks, place, pid, call, buf));
+        }
         Answer::Given(call_checked(machine, marks, place, pid, call, buf, steps))
     }
 

@@ -30,7 +30,7 @@ struct Before {
 }
 
 /// Whether a call is a read through a descriptor that is fresh for reading, or a write through one that is fresh for writing.
-fn goes_fresh(marks: &Marks, pid: Pid, call: &Call<'_>) -> bool
+pub(crate) fn goes_fresh(marks: &Marks, pid: Pid, call: &Call<'_>) -> bool
     ensures { result ≡ is_some (mark_through marks.now pid.0 (op_of call.now)) }
 {
     match call {
@@ -41,14 +41,14 @@ fn goes_fresh(marks: &Marks, pid: Pid, call: &Call<'_>) -> bool
 }
 
 /// Whether a call is a look of a process at its own label.
-fn is_own_label(call: &Call<'_>) -> bool
+pub(crate) fn is_own_label(call: &Call<'_>) -> bool
     ensures { IsTrue result → op_of call.now ≡ op.SelfLabel }
 {
     matches!(call, Call::SelfLabel)
 }
 
 /// A read or a write through a descriptor that is fresh for it. It looks at no label, and leaves the marks as they are.
-fn known(
+pub(crate) fn known(
     machine: &mut Machine,
     marks: &Marks,
     place: u32,
@@ -69,7 +69,7 @@ fn known(
 }
 
 /// A look of a process at its own label. It changes no label, and leaves the marks as they are.
-fn own_label(
+pub(crate) fn own_label(
     machine: &Machine,
     marks: &Marks,
     place: u32,
@@ -90,8 +90,8 @@ fn own_label(
     machine.told_label(pid)
 }
 
-/// The call of a process. A read or a write through a descriptor that is fresh for it looks at no label. Else the marks are told
-/// of each label that the call changed, and of the descriptor that it closed or refreshed.
+/// The call of a process, which looks at labels. The marks are told of each label that it changed, and of the descriptor that
+/// it closed or refreshed.
 #[inline(always)]
 pub(crate) fn call_checked<L: Ledger>(
     machine: &mut Machine,
@@ -105,18 +105,10 @@ pub(crate) fn call_checked<L: Ledger>(
     requires sound { Sound machine.old }
     requires few { length machine.old.frame.processes < 2 ^ 32 - 1 }
     requires ready { AreReady marks.old machine.old.frame }
-    requires known { AreKnown marks.old machine.old.frame }
     requires raised { marks.old.raised + 3 ≤ 2 ^ 62 }
     ensures answers { Answers (step machine.old place pid.0 (op_of call.now)) machine.new result buf.old buf.new }
     ensures told { AreTold marks.old marks.new machine.old place pid.0 (op_of call.now) }
-    ensures fresh { is_some (mark_through marks.old pid.0 (op_of call.now)) ≡ true → steps.new ≡ steps.old }
 {
-    if goes_fresh(marks, pid, call) {
-        return known(machine, marks, place, pid, call, buf);
-    }
-    if is_own_label(call) {
-        return own_label(machine, marks, place, pid, call, buf);
-    }
     let before = seen_before(machine, pid, call, steps);
     let reply = machine.call(place, pid, call, buf, steps);
     tell_process(marks, machine, pid, &before.process, steps);
