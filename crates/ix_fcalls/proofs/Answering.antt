@@ -17,22 +17,7 @@ answers given w r bytes before after is front = record {
 
 -- ---- what is carried
 lets_stay : (c : Op) → is_filed c ≡ true → lets_go c ≡ false → lets_nothing_go c ≡ true
-lets_stay (op.CreateAt path) filed stays = refl
-lets_stay (op.OpenAt path mode) filed stays = refl
-lets_stay (op.ReadFd fd count) filed stays = refl
-lets_stay (op.WriteFd fd bytes) filed stays = refl
-lets_stay (op.CutFd fd len) filed stays = refl
-lets_stay (op.SeekFd fd offset) filed stays = refl
-lets_stay (op.DupFd fd) filed stays = refl
-lets_stay op.MakePipe filed stays = refl
-lets_stay (op.MakeDir path) filed stays = refl
-lets_stay (op.LinkAt target path) filed stays = refl
-lets_stay (op.ChangeDir path) filed stays = refl
-lets_stay (op.StatAt path) filed stays = refl
-lets_stay (op.ListAt path index) filed stays = refl
 lets_stay (op.CloseFd fd) filed stays = cc
-lets_stay (op.UnlinkAt path) filed stays = cc
-lets_stay (op.RemoveDir path) filed stays = cc
 lets_stay _ filed stays = cc
 
 -- a decision, as it stands in the parts
@@ -61,6 +46,12 @@ module _ (a : Around) (t u : Parts) (ps qs : List (Option Process)) (c : Op) (m 
       → Answers (step (world_of a t ps) a.place a.pid c) (world_of a u qs) r buf buf
   answers_said r buf said is = answers_plainly r _ (is ∙ ap (λ s. plainly (world_of a t ps) (record { reply = s; frame = (verdict m a.place a.pid c (frame_of a t ps)).frame })) (sym said))
 
+  -- where nothing was told
+  pub answers_untold : (r : Reply) (buf : List ℕ) → r ≡ (verdict m a.place a.pid c (frame_of a t ps)).reply → m ≡ nothing_told
+      → step (world_of a t ps) a.place a.pid c ≡ plainly (world_of a t ps) (verdict nothing_told a.place a.pid c (frame_of a t ps)) → Answers (step (world_of a t ps) a.place a.pid c)
+      (world_of a u qs) r buf buf
+  answers_untold r buf said untold is = answers_said r buf said (is ∙ ap (λ n. plainly (world_of a t ps) (verdict n a.place a.pid c (frame_of a t ps))) (sym untold))
+
   -- where it edits it, in the parts that stand then
   pub answers_edited : (v : Parts) (r : Reply) (bytes before after : List ℕ) (edit : Content → Content)
       → step (world_of a t ps) a.place a.pid c ≡ edited (world_of a t ps) (verdict m a.place a.pid c (frame_of a t ps)).frame r bytes edit
@@ -81,17 +72,7 @@ plain_filed _ plain = plain
 
 plain_step : (w : World) (place pid : ℕ) (c : Op) → is_plain c ≡ true → step w place pid c ≡ plainly w (verdict nothing_told place pid c w.frame)
 unfolding step answer told
-plain_step w place pid (op.CreateAt path) plain = refl
-plain_step w place pid (op.OpenAt path mode) plain = refl
-plain_step w place pid (op.DupFd fd) plain = refl
-plain_step w place pid (op.CloseFd fd) plain = refl
 plain_step w place pid op.MakePipe plain = refl
-plain_step w place pid (op.MakeDir path) plain = refl
-plain_step w place pid (op.LinkAt target path) plain = refl
-plain_step w place pid (op.UnlinkAt path) plain = refl
-plain_step w place pid (op.RemoveDir path) plain = refl
-plain_step w place pid (op.ChangeDir path) plain = refl
-plain_step w place pid (op.ListAt path index) plain = refl
 plain_step w place pid _ plain = cc
 
 pub answers_plain : (a : Around) (t u : Parts) (ps qs : List (Option Process)) (c : Op) (r : Reply) (buf : List ℕ) → is_plain c ≡ true → Sound (world_of a t ps) → Leaves (lets_go c) a t u ps qs

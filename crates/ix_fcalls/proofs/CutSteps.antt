@@ -4,11 +4,11 @@ use Rattle.std.{specs.Option.option_map_or, proofs.lemmas.Bool.{not-true, or_cas
 use Rattle.ix_model.specs.{world.{World.{World, Frame, Object, Process, at, is_pipe, lives}, Contents.{after_cut, on_pipe}}, laws.Sound.Sound}
 use Rattle.ix_model.specs.{declared.{call.Mode.Mode, reply.Reply.Reply}, rows.Rows.{◌>>=◌, ◌>>◌, on_pass, pass, need, some, refuse, frame, object}}
 use Rattle.ix_model.specs.rows.{OnDescriptors.{LengthChecks, cut_fd}, Table.{verdict, row, settled}, Telling.{told, nothing_told, told_of_cut}}
-use Rattle.ix_model.specs.{rows.Walks.{OpenFile, behind, opened}, history.Step.{step, answer, plainly, edited, cut_answer}}
+use Rattle.ix_model.specs.{rows.Walks.{OpenFile, behind, opened}, history.Step.{step, answer, plainly, cut_answer}}
 use Rattle.ix_model.proofs.{frames.Floats.Floats, words.Standing.{behind_is, stands as stands_on}, clean.Cleaning.was_cut}
 use Rattle.ix_tables.specs.Parts.{Parts}
 use Rattle.ix_fcalls.specs.{Around.{Around, frame_of, world_of}, Counted.Keeps, Filed.Answers}
-use Rattle.ix_fcalls.proofs.{Answering.{answers_said, answers_edited}, Unmoved.{floats_cut, told_cut_same, content_same}}
+use Rattle.ix_fcalls.proofs.{Answering.{answers_said, answers_untold, answers_edited}, Unmoved.{floats_cut, told_cut_same, content_same}}
 use Rattle.ix_model.specs.declared.call.Mode.TheVariants as mode
 use Rattle.ix_model.specs.declared.refusal.Refusal.TheVariants as refusal
 use Rattle.ix_model.specs.history.Events as op
@@ -27,10 +27,6 @@ uncut : (w : World) (len : ℕ) (e : OpenFile) (r : Reply) (g : Frame) → (r �
 unfolding cut_answer
 uncut w len e reply.Done g not = absurd (not refl)
 uncut w len e _ g not = refl
-
-did_cut : (w : World) (len : ℕ) (e : OpenFile) (r : Reply) (g : Frame) → r ≡ reply.Done → cut_answer w len (Some e) r g ≡ edited w g reply.Done [] (after_cut e len)
-unfolding cut_answer
-did_cut w len e r g is = rw is refl
 
 -- ---- what is refused before lengths count
 -- a cut to more than there may be
@@ -72,8 +68,7 @@ module _ (a : Around) (t u : Parts) (ps qs : List (Option Process)) (fd len : �
   cut_floats = subst (λ g. Floats (frame_of a t ps) g) (sym stands) (floats_cut m _ _ fd _ _)
 
   pub answers_cut_none : (buf : List ℕ) → behind (frame_of a t ps) a.pid fd ≡ None → m ≡ nothing_told → Answers (step (world_of a t ps) a.place a.pid (op.CutFd fd len)) (world_of a u qs) r buf buf
-  answers_cut_none buf none is = answers_said a t u ps qs _ m refl sound kept stands r _ said
-      (cut_none _ _ _ fd _ none ∙ ap (λ n. plainly (world_of a t ps) (verdict n a.place a.pid (op.CutFd fd len) (frame_of a t ps))) (sym is))
+  answers_cut_none buf none is = answers_untold a t u ps qs _ m refl sound kept stands r _ said is (cut_none _ _ _ fd _ none)
 
   module _ (e : OpenFile) (some : behind (frame_of a t ps) a.pid fd ≡ Some e) where
     -- the row is that of what the length tells, and it refuses
@@ -111,6 +106,7 @@ module _ (a : Around) (t u : Parts) (ps qs : List (Option Process)) (fd len : �
 
       pub answers_cut : (v : Parts) (buf : List ℕ) → r ≡ reply.Done → frame_of a v qs ≡ frame_of a u qs → (world_of a v qs).content ≡ after_cut e len (world_of a u qs).content
           → Answers (step (world_of a t ps) a.place a.pid (op.CutFd fd len)) (world_of a v qs) reply.Done buf buf
+      unfolding cut_answer
       answers_cut v buf done same moved = answers_edited a t u ps qs _ m refl sound kept stands v _ [] _ _ (after_cut e len)
-          (cut_some _ _ _ fd _ e m some is ∙ did_cut _ _ e _ _ (sym said ∙ done))
+          (cut_some _ _ _ fd _ e m some is ∙ ap (λ x. cut_answer (world_of a t ps) len (Some e) x (verdict m a.place a.pid (op.CutFd fd len) (frame_of a t ps)).frame) (sym said ∙ done))
           same moved refl

@@ -1,5 +1,6 @@
 -- The rows of a read and a write that have nothing to look at.
-use Rattle.std.proofs.Common.{◌≡◌, ◌&&◌, ◌-◌, ℕ, true, false, Some, subst}
+use Rattle.std.proofs.Common.{◌≡◌, ◌&&◌, ◌-◌, ℕ, true, false, Some, refl, subst}
+use Rattle.ix_label.specs.Category.{join}
 use Rattle.ix_model.{specs.{world.World.{Frame, Object, at, held, is_pipe}, history.Freshness.{Way, Reading, Writing}}, proofs.words.Transfers.one_there}
 use Rattle.ix_model.specs.rows.{Outcomes.{Refuse, Pass}, OnDescriptors.{LengthChecks, read_fd, write_fd}, Walks.{OpenFile, behind}}
 use Rattle.ix_fresh.{specs.Known.{Known, ChangeNothing}, proofs.Nothing.known_changes_nothing}
@@ -17,12 +18,12 @@ changes_nothing way f pid fd k e x is there =
 
 module _ (t : LengthChecks) (pid fd count : ℕ) (f : Frame) (e : OpenFile) (x : Object) (k : Known Reading f pid fd) (tested : ToRead f pid fd count e x) where
   pub known_read_waits : (is_pipe x && t.empty && held f.opens e.entry.object (1 - e.entry.end)) ≡ true → read_fd t pid fd count f ≡ Refuse refusal.Again f
-  known_read_waits = read_waits t _ fd _ f e x tested f (changes_nothing _ f _ fd k e x tested.is_behind tested.is_object).look
+  known_read_waits = read_waits t _ fd _ f e x tested (join x.label e.entry.label) f refl (changes_nothing _ f _ fd k e x tested.is_behind tested.is_object).look
 
   pub known_read_passes : (is_pipe x && t.empty && held f.opens e.entry.object (1 - e.entry.end)) ≡ false → read_fd t pid fd count f ≡ Pass (reply.Bytes 0) f
   known_read_passes wait =
       let nothing = changes_nothing _ f _ fd k e x tested.is_behind tested.is_object in
-      read_passes t _ fd _ f e x tested f nothing.look _ f wait k.lives nothing.float_entry
+      read_passes t _ fd _ f e x tested (join x.label e.entry.label) f refl nothing.look _ f wait k.lives nothing.float_entry
 
 pub known_write_passes : (t : LengthChecks) (pid fd : ℕ) (f : Frame) (e : OpenFile) (x : Object) → Known Writing f pid fd → ToWrite t f pid fd e x → write_fd t pid fd f ≡ Pass (reply.Number 0) f
 known_write_passes t pid fd f e x k tested =

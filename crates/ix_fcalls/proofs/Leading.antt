@@ -163,6 +163,16 @@ module _ (a : Around) (t u : Parts) (ps : List (Option Process)) (o : ℕ) (l : 
       ∙ ap (take _) (drop-map is_none first t.objects) ∙ take-map is_none few _ in
       ap (λ fss. vacant_inode fss u.objects k) floated.fss ∙ ap (option_map (λ n. first + n)) (free_by _ _ same)
 
+-- the directory of a name that a walk found still has it
+pub spot_still : (a : Around) (t u : Parts) (ps qs rs : List (Option Process)) (path : PathOf) (name : List ℕ) → Sound (world_of a t ps) → name ≡ last_name path.names → (x : Spot) (d o : ℕ)
+    (l : Categories)
+    → spot_at a.pid path (frame_of a t ps) ≡ Pass x (frame_of a t qs) → x.dir ≡ Some d → affect a.pid o l (frame_of a t rs) ≡ Pass tt (frame_of a u rs)
+    → (is_dir (node u.objects d) ≡ true) × (child (node u.objects d) name ≡ Some x.object)
+spot_still a t u ps qs rs path name s last x d o l led dir row = (
+  dir_still a t u rs o l row d (dir_spot a t ps qs path s x d led dir),
+  ap (child (node u.objects d)) last ∙ child_still a t u rs o l row d _ _ (child_spot a t ps qs path s x d led dir),
+)
+
 -- the file system of a directory is one of those there are
 pub fs_of_dir : (a : Around) (t : Parts) (ps : List (Option Process)) → Sound (world_of a t ps) → (n : ℕ) (x : Object) → at t.objects n ≡ Some x → is_dir x ≡ true → fs_number x < length t.fss
 fs_of_dir a t ps s n x is dir = fs_low a t ps ps (record { absolute = false; names = [] }) s n x is (no_pipe _ dir)

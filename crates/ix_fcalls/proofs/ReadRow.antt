@@ -25,7 +25,10 @@ module _ (t : LengthChecks) (pid fd count : ℕ) (f : Frame) (e : OpenFile) (x :
       let refused = ap (λ l. observe pid l f) (sym is) ∙ stops in
       rw (tested.is_behind, tested.reads, tested.is_object, tested.free, tested.few, refused) refl
 
-  module _ (g : Frame) (seen : observe pid (join x.label e.entry.label) f ≡ Pass tt g) where
+  module _ (s : Categories) (g : Frame) (is : s ≡ join x.label e.entry.label) (looks : observe pid s f ≡ Pass tt g) where
+    seen : observe pid (join x.label e.entry.label) f ≡ Pass tt g
+    seen = ap (λ l. observe pid l f) (sym is) ∙ looks
+
     pub read_waits : (is_pipe x && t.empty && held g.opens e.entry.object (1 - e.entry.end)) ≡ true → read_fd t pid fd count f ≡ Refuse refusal.Again g
     unfolding read_fd opened frame object some ◌>>=◌ ◌>>◌ on_pass pass need refuse
     read_waits wait = rw (tested.is_behind, tested.reads, tested.is_object, tested.free, tested.few, seen, wait) refl

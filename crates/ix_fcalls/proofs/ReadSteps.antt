@@ -7,7 +7,7 @@ use Rattle.ix_model.proofs.{frames.Floats.Floats, words.{Ends.{Ends, Anything, e
 use Rattle.ix_label.specs.Category.{Categories}
 use Rattle.ix_tables.specs.Parts.{Parts}
 use Rattle.ix_fcalls.specs.{Around.{Around, frame_of, world_of}, Counted.Keeps, Filed.Answers}
-use Rattle.ix_fcalls.proofs.{Answering.{answers_said, answers_edited}, Unmoved.{floats_read, readable_same, after_read_same, content_same}}
+use Rattle.ix_fcalls.proofs.{Answering.{answers_said, answers_untold, answers_edited}, Unmoved.{floats_read, readable_same, after_read_same, content_same}}
 use Rattle.ix_model.specs.history.Events as op
 use Rattle.ix_model.specs.declared.reply.Reply.TheVariants as reply
 
@@ -52,8 +52,7 @@ module _ (a : Around) (t u : Parts) (ps qs : List (Option Process)) (fd count : 
   read_few k bytes = few_decided m _ _ fd _ _ k (sym said ∙ bytes)
 
   pub answers_read_none : (buf : List ℕ) → behind (frame_of a t ps) a.pid fd ≡ None → m ≡ nothing_told → Answers (step (world_of a t ps) a.place a.pid (op.ReadFd fd count)) (world_of a u qs) r buf buf
-  answers_read_none buf none is = answers_said a t u ps qs _ m refl sound kept stands r _ said
-      (read_none _ _ _ fd _ none ∙ ap (λ n. plainly (world_of a t ps) (verdict n a.place a.pid (op.ReadFd fd count) (frame_of a t ps))) (sym is))
+  answers_read_none buf none is = answers_untold a t u ps qs _ m refl sound kept stands r _ said is (read_none _ _ _ fd _ none)
 
   module _ (e : OpenFile) (some : behind (frame_of a t ps) a.pid fd ≡ Some e) (is : m ≡ told_of_read (frame_of a t ps) (world_of a t ps).content (Some e)) where
     pub answers_unread : (buf : List ℕ) → ((k : ℕ) → r ≡ reply.Bytes k → ⊥) → Answers (step (world_of a t ps) a.place a.pid (op.ReadFd fd count)) (world_of a u qs) r buf buf

@@ -3,7 +3,7 @@ use Rattle.std.proofs.Common.{◌≡◌, ℕ, true, false, nat_le, List, [], Opt
 use Rattle.ix_label.specs.Category.{join}
 use Rattle.ix_model.{specs.{world.{World.{World, Frame, Object, Process, at, change, living, is_pipe}, Contents.after_seek}, laws.Sound.Sound}, proofs.frames.Floats.Floats}
 use Rattle.ix_model.specs.rows.{Outcomes.{Refuse, Pass}, OnDescriptors.{seek_fd, float_entry}, Table.verdict, Telling.{told, nothing_told}}
-use Rattle.ix_model.specs.{rows.Walks.{OpenFile, behind, opened}, history.Step.{step, answer, plainly, edited, seek_answer}, declared.reply.Reply.Reply}
+use Rattle.ix_model.specs.{rows.Walks.{OpenFile, behind, opened}, history.Step.{step, answer, plainly, seek_answer}, declared.reply.Reply.Reply}
 use Rattle.ix_model.specs.rows.Rows.{◌>>=◌, ◌>>◌, on_pass, pass, need, some, only_if, refuse, frame, object, process, change_open}
 use Rattle.ix_tables.specs.Parts.{Parts}
 use Rattle.ix_fcalls.{specs.{Around.{Around, frame_of, world_of}, Counted.Keeps, Filed.Answers}, proofs.{Answering.{answers_said, answers_edited}, Unmoved.floats_seek}}
@@ -42,10 +42,6 @@ unfolding seek_answer
 unsought w offset e reply.Done g not = absurd (not refl)
 unsought w offset e _ g not = refl
 
-did_seek : (w : World) (offset : ℕ) (e : OpenFile) (r : Reply) (g : Frame) → r ≡ reply.Done → seek_answer w offset (Some e) r g ≡ edited w g reply.Done [] (after_seek e offset)
-unfolding seek_answer
-did_seek w offset e r g is = rw is refl
-
 -- a seek, as it is decided
 module _ (a : Around) (t u : Parts) (ps qs : List (Option Process)) (fd offset : ℕ) (r : Reply) (sound : Sound (world_of a t ps)) (kept : Keeps t u)
     (said : r ≡ (verdict nothing_told a.place a.pid (op.SeekFd fd offset) (frame_of a t ps)).reply) (stands : frame_of a u qs
@@ -63,6 +59,7 @@ module _ (a : Around) (t u : Parts) (ps qs : List (Option Process)) (fd offset :
 
     pub answers_seek : (v : Parts) (buf : List ℕ) → r ≡ reply.Done → v ≡ record u { offsets = slice_set u.offsets e.id offset }
         → Answers (step (world_of a t ps) a.place a.pid (op.SeekFd fd offset)) (world_of a v qs) reply.Done buf buf
-    unfolding after_seek
+    unfolding after_seek seek_answer
     answers_seek v buf done moved = answers_edited a t u ps qs _ _ refl sound kept stands v _ [] _ _ (after_seek e offset)
-        (seek_some _ _ _ fd _ e some ∙ did_seek _ _ e _ _ (sym said ∙ done)) (ap (λ x. frame_of a x qs) moved) (ap (λ x. (world_of a x qs).content) moved) refl
+        (seek_some _ _ _ fd _ e some ∙ ap (λ x. seek_answer (world_of a t ps) offset (Some e) x (verdict nothing_told a.place a.pid (op.SeekFd fd offset) (frame_of a t ps)).frame)
+        (sym said ∙ done)) (ap (λ x. frame_of a x qs) moved) (ap (λ x. (world_of a x qs).content) moved) refl

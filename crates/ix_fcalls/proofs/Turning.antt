@@ -1,5 +1,5 @@
 -- Which call a step is, and how it stands in the whole world.
-use Rattle.std.proofs.Common.{◌≡◌, ℕ, true, List, Option, refl, ap, subst, ◌∙◌}
+use Rattle.std.proofs.Common.{◌≡◌, ℕ, true, List, Option, refl, sym, ap, subst, ◌∙◌}
 use Rattle.ix_model.specs.{world.World.{World, Process}, history.{Calls.op_of, Events.Op, Step.step}, declared.{call.Call.Call, reply.Reply.Reply}}
 use Rattle.ix_model.specs.declared.call.Call.TheVariants as call
 use Rattle.ix_tables.specs.Parts.{Parts, parts_of}
@@ -24,6 +24,11 @@ world_there place pid w t ps parts same = λ i. world_of (around place pid w) (p
 pub answers_there : (place pid : ℕ) (w : World) (c : Op) (t : Parts) (ps : List (Option Process)) (v : World) (r : Reply) (before after : List ℕ) → t ≡ parts_of w → ps ≡ w.frame.processes
     → Answers (step (world_of (around place pid w) t ps) place pid c) v r before after → Answers (step w place pid c) v r before after
 answers_there place pid w c t ps v r before after parts same = subst (λ x. Answers (step x place pid c) v r before after) (world_there place pid w t ps parts same)
+
+-- what a call is answered is what it is answered by its kind
+pub answers_as : (w v : World) (place pid : ℕ) (c d : Call) (r : Reply) (before after : List ℕ) → c ≡ d → Answers (step w place pid (op_of d)) v r before after
+    → Answers (step w place pid (op_of c)) v r before after
+answers_as w v place pid c d r before after is = subst (λ x. Answers (step w place pid (op_of x)) v r before after) (sym is)
 
 -- parts that are counted are those of their world
 pub parts_after : (a : Around) (t : Parts) (ps : List (Option Process)) (w : World) → world_of a t ps ≡ w → IsCounted t ps → t ≡ parts_of w

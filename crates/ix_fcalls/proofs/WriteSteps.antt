@@ -5,7 +5,7 @@ use Rattle.ix_model.specs.{rows.{OnDescriptors.LengthChecks, Table.verdict, Walk
 use Rattle.ix_model.specs.rows.Telling.{told, nothing_told, told_of_write, told_of_pipe_write, told_of_file_write}
 use Rattle.ix_tables.specs.Parts.{Parts}
 use Rattle.ix_fcalls.specs.{Around.{Around, frame_of, world_of}, Counted.Keeps, Filed.Answers}
-use Rattle.ix_fcalls.proofs.{Answering.{answers_said, answers_edited}, Unmoved.{floats_write, told_write_same, after_write_same, content_same}}
+use Rattle.ix_fcalls.proofs.{Answering.{answers_said, answers_untold, answers_edited}, Unmoved.{floats_write, told_write_same, after_write_same, content_same}}
 use Rattle.ix_model.specs.history.Events as op
 use Rattle.ix_model.specs.declared.reply.Reply.TheVariants as reply
 
@@ -45,8 +45,7 @@ module _ (a : Around) (t u : Parts) (ps qs : List (Option Process)) (fd : ℕ) (
   write_floats = subst (λ g. Floats (frame_of a t ps) g) (sym stands) (floats_write m _ _ fd _ _)
 
   pub answers_write_none : (buf : List ℕ) → behind (frame_of a t ps) a.pid fd ≡ None → m ≡ nothing_told → Answers (step (world_of a t ps) a.place a.pid (op.WriteFd fd new)) (world_of a u qs) r buf buf
-  answers_write_none buf none is = answers_said a t u ps qs _ m refl sound kept stands r _ said
-      (write_none _ _ _ fd _ none ∙ ap (λ n. plainly (world_of a t ps) (verdict n a.place a.pid (op.WriteFd fd new) (frame_of a t ps))) (sym is))
+  answers_write_none buf none is = answers_untold a t u ps qs _ m refl sound kept stands r _ said is (write_none _ _ _ fd _ none)
 
   module _ (e : OpenFile) (some : behind (frame_of a t ps) a.pid fd ≡ Some e) (is : m ≡ told_of_write (frame_of a t ps) (world_of a t ps).content (length new) (Some e)) where
     pub answers_unwritten : (buf : List ℕ) → ((k : ℕ) → r ≡ reply.Number k → ⊥) → Answers (step (world_of a t ps) a.place a.pid (op.WriteFd fd new)) (world_of a u qs) r buf buf

@@ -12,6 +12,5 @@ returns-clause-bytes c =
     let count : c.read.result ≡ min c.args.count (length bs) =
     c.read.ensures.count ∙ ap (λ (v : Parts). min (length (take c.args.count c.args.buf.now))
     (length (drop c.args.offset (slice_index_or v.holdings c.args.object holds_nothing).first))) c.self.view_is ∙ ap (λ n. min n (length bs)) fills in
-    read_front bs c.args.buf.now c.read.new.out c.args.count c.read.result low count
-    (c.read.ensures.out ∙ ap (λ (v : Parts). take c.read.result (drop c.args.offset (slice_index_or v.holdings c.args.object holds_nothing).first)
+    read_front bs _ _ _ _ low count (c.read.ensures.out ∙ ap (λ (v : Parts). take c.read.result (drop c.args.offset (slice_index_or v.holdings c.args.object holds_nothing).first)
     ++ drop c.read.result (take c.args.count c.args.buf.now)) c.self.view_is)

@@ -11,19 +11,17 @@ with_cut o len v =
 
 pub cut-requires-clause-file : goal.cut-requires-clause-file
 cut-requires-clause-file g c = subst (λ (v : Parts). option_map_or is_file (at v.objects c.args.e.now.object) false ≡ true) (sym c.self.view_is)
-    (serves_file c.args.self.now c.args.e.now c.requires.serves c.requires.file)
+    (serves_file _ _ c.requires.serves c.requires.file)
 
 pub cut-requires-clause-room : goal.cut-requires-clause-room
 cut-requires-clause-room g c = subst (λ (v : Parts). has_room c.args.e.now.object c.args.len v ≡ true) (sym c.self.view_is)
-    (cut_has_room g.R.Others.rest c.args.self.now c.args.who.now c.args.e.now c.args.len c.requires.room)
+    (cut_has_room g.R.Others.rest c.args.self.now _ c.args.e.now _ c.requires.room)
 
 pub returns-clause-frame : goal.returns-clause-frame
-returns-clause-frame g c = edited_frame c.args.self.now c.cut.new.self _ _ (c.cut.ensures ∙ ap (with_cut c.args.e.now.object c.args.len) c.self.view_is)
-    g.R.Others.rest c.args.who.now
+returns-clause-frame g c = edited_frame c.args.self.now _ _ _ (c.cut.ensures ∙ ap (with_cut c.args.e.now.object c.args.len) c.self.view_is) g.R.Others.rest _
 
 pub returns-clause-content : goal.returns-clause-content
-returns-clause-content g c = cut_short g.R.Others.rest c.args.self.now c.args.who.now c.args.e.now c.cut.new.self c.args.len c.requires.serves c.requires.file
-    (c.cut.ensures ∙ ap (with_cut c.args.e.now.object c.args.len) c.self.view_is)
+returns-clause-content g c = cut_short g.R.Others.rest _ c.args.who.now _ _ _ c.requires.serves c.requires.file (c.cut.ensures ∙ ap (with_cut c.args.e.now.object c.args.len) c.self.view_is)
 
 pub returns-clause-counted : goal.returns-clause-counted
 returns-clause-counted g c = edited_counted _ _ _ _ (c.cut.ensures ∙ ap (with_cut c.args.e.now.object c.args.len) c.self.view_is) _ c.requires.counted

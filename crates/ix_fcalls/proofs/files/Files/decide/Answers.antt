@@ -9,19 +9,15 @@ returns-then-keeps_label-clause-content g c = leaves_raised _ _ _ _ _ c.requires
 pub returns-else-keeps_label-clause-frame : goal.returns-else-keeps_label-clause-frame
 unfolding verdict
 returns-else-keeps_label-clause-frame g c =
-    let same = set_back g.R.Others.rest c.caller.result.now c.args.self.now c.row.new.self c.args.who.now c.row.new.who _ _ _ _
-    c.caller.ensures.living c.in-Err.ensures.row c.set_label.ensures in
-    rw (c.caller.ensures.lives, c.in-Err.ensures.row, sym c.keeps_label.ensures ∙ c.if-keeps_label.false)
-    (λ i. frame_of g.R.Others.rest (c.in-Err.ensures.back i) (same i))
+    let same = set_back g.R.Others.rest c.caller.result.now c.args.self.now c.row.new.self _ _ _ _ _ _ c.caller.ensures.living c.in-Err.ensures.row c.set_label.ensures in
+    rw (c.caller.ensures.lives, c.in-Err.ensures.row, sym c.keeps_label.ensures ∙ c.if-keeps_label.false) (λ i. frame_of g.R.Others.rest (c.in-Err.ensures.back i) (same i))
 
 pub returns-else-keeps_label-clause-counted : goal.returns-else-keeps_label-clause-counted
 returns-else-keeps_label-clause-counted g c =
-    let same = set_back g.R.Others.rest c.caller.result.now c.args.self.now c.row.new.self c.args.who.now c.row.new.who _ _ _ _
-    c.caller.ensures.living c.in-Err.ensures.row c.set_label.ensures in
+    let same = set_back g.R.Others.rest c.caller.result.now c.args.self.now c.row.new.self _ _ _ _ _ _ c.caller.ensures.living c.in-Err.ensures.row c.set_label.ensures in
     counted_all _ _ _ _ c.in-Err.ensures.back same c.requires.counted
 
 pub returns-else-keeps_label-clause-content : goal.returns-else-keeps_label-clause-content
 returns-else-keeps_label-clause-content g c =
-    let same = set_back g.R.Others.rest c.caller.result.now c.args.self.now c.row.new.self c.args.who.now c.row.new.who _ _ _ _
-    c.caller.ensures.living c.in-Err.ensures.row c.set_label.ensures in
+    let same = set_back g.R.Others.rest c.caller.result.now c.args.self.now c.row.new.self _ _ _ _ _ _ c.caller.ensures.living c.in-Err.ensures.row c.set_label.ensures in
     leaves_all _ _ _ _ _ c.requires.sound c.in-Err.ensures.back _ same

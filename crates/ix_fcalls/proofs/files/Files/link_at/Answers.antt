@@ -12,32 +12,28 @@ last_name-requires g c = c.in_ok-dir.ensures.named _ c.in_ok-last.ensures.named
 
 pub add_name-requires-clause-dir : goal.add_name-requires-clause-dir
 add_name-requires-clause-dir g c =
-    dir_still g.R.Others.rest c.args.self.now c.affect.new.self c.walked_to-2.new.who c.in_ok-dir.dir _ c.in_ok-affect.ensures.row c.in_ok-dir.dir
-    (dir_then g.R.Others.rest c.args.self.now c.args.who.now c.walked_to.new.who c.walked_to-2.new.who (path_of c.args.target.now) (path_of c.args.path.now)
-    c.requires.sound (sought_of c.in_ok-led.led) (sought_of c.in_ok-last.last) c.in_ok-led.ensures.row c.in_ok-last.ensures.row c.in_ok-dir.dir
-    c.in_ok-dir.ensures.row)
+    dir_still g.R.Others.rest c.args.self.now c.affect.new.self _ _ _ c.in_ok-affect.ensures.row _ (dir_then g.R.Others.rest c.args.self.now _ _ _ _ _
+    c.requires.sound (sought_of c.in_ok-led.led) (sought_of c.in_ok-last.last) c.in_ok-led.ensures.row c.in_ok-last.ensures.row _ c.in_ok-dir.ensures.row)
 
 pub add_name-requires-clause-absent : goal.add_name-requires-clause-absent
 add_name-requires-clause-absent g c = ap (child (node c.affect.new.self.objects c.in_ok-dir.dir)) c.last_name.ensures
-    ∙ child_still g.R.Others.rest c.args.self.now c.affect.new.self c.walked_to-2.new.who c.in_ok-dir.dir _ c.in_ok-affect.ensures.row c.in_ok-dir.dir (last_name (path_of c.args.path.now).names) None
-    (absent_then g.R.Others.rest c.args.self.now c.args.who.now c.walked_to.new.who c.walked_to-2.new.who (path_of c.args.target.now) (path_of c.args.path.now)
-    c.requires.sound (sought_of c.in_ok-led.led) (sought_of c.in_ok-last.last) c.in_ok-led.ensures.row c.in_ok-last.ensures.row c.in_ok-dir.dir
-    c.in_ok-dir.ensures.row)
+    ∙ child_still g.R.Others.rest c.args.self.now c.affect.new.self _ _ _ c.in_ok-affect.ensures.row _ (last_name (path_of c.args.path.now).names) None
+    (absent_then g.R.Others.rest c.args.self.now _ _ _ _ _
+    c.requires.sound (sought_of c.in_ok-led.led) (sought_of c.in_ok-last.last) c.in_ok-led.ensures.row c.in_ok-last.ensures.row _ c.in_ok-dir.ensures.row)
 
 pub add_name-requires-clause-room : goal.add_name-requires-clause-room
 add_name-requires-clause-room g c =
-    room_still g.R.Others.rest c.args.self.now c.affect.new.self c.walked_to-2.new.who c.in_ok-dir.dir _ c.in_ok-affect.ensures.row
+    room_still g.R.Others.rest c.args.self.now c.affect.new.self _ _ _ c.in_ok-affect.ensures.row
     (ap (λ (v : Parts). nat_lt (names_in_all v.objects) v.limits.names) (sym c.self.view_is) ∙ sym c.has_room_for_a_name.ensures ∙ c.if-not-has_room_for_a_name.false)
 
 pub add_name-requires-clause-file : goal.add_name-requires-clause-file
 add_name-requires-clause-file g c =
     let x : Object = object_by (node c.self.inside.tables.objects c.in_ok-object.object) c.in-Some.x in
     let there : at c.args.self.now.objects c.in_ok-object.object ≡ Some x = ap (λ (v : Parts). at v.objects c.in_ok-object.object) (sym c.self.view_is) ∙ c.in-Some.ensures.object in
-    let file : is_file x ≡ true = file_then g.R.Others.rest c.args.self.now c.args.who.now c.walked_to.new.who c.walked_to-2.new.who (path_of c.args.target.now)
-    (path_of c.args.path.now) c.requires.sound (sought_of c.in_ok-led.led) (sought_of c.in_ok-last.last) c.in_ok-led.ensures.row c.in_ok-last.ensures.row
-    c.in_ok-object.object x c.in_ok-object.ensures.row there (no_dir c.in-Some.x.kind c.in_default-kind.not-Dir) in
-    link_still g.R.Others.rest c.args.self.now c.affect.new.self c.walked_to-2.new.who c.in_ok-dir.dir _ c.in_ok-affect.ensures.row c.in_ok-object.object
-    (ap (λ o. option_map_or is_file o false) there ∙ file)
+    let file : is_file x ≡ true = file_then g.R.Others.rest c.args.self.now _ _ _ _ _ c.requires.sound (sought_of c.in_ok-led.led) (sought_of c.in_ok-last.last) c.in_ok-led.ensures.row
+    c.in_ok-last.ensures.row
+    _ x c.in_ok-object.ensures.row there (no_dir c.in-Some.x.kind c.in_default-kind.not-Dir) in
+    link_still g.R.Others.rest c.args.self.now c.affect.new.self _ _ _ c.in_ok-affect.ensures.row _ (ap (λ o. option_map_or is_file o false) there ∙ file)
 
 pub returns-clause-row : goal.returns-clause-row
 returns-clause-row g c =
@@ -45,10 +41,7 @@ returns-clause-row g c =
     let h : Frame = frame_of g.R.Others.rest c.affect.new.self c.walked_to-2.new.who in
     let x : Object = object_by (node c.self.inside.tables.objects c.in_ok-object.object) c.in-Some.x in
     let y : Object = object_by (node c.self.inside.tables.objects c.in_ok-dir.dir) c.in-Some-object.y in
-    link_is g.R.Others.rest.pid (path_of c.args.target.now) (path_of c.args.path.now) (frame_of g.R.Others.rest c.args.self.now c.args.who.now)
-    (frame_of g.R.Others.rest c.args.self.now c.walked_to.new.who) m h (frame_of g.R.Others.rest c.add_name.new.self c.walked_to-2.new.who)
-    (sought_of c.in_ok-led.led) (sought_of c.in_ok-last.last) c.in_ok-dir.dir c.in_ok-object.object x y
-    c.in_ok-led.ensures.row c.in_ok-last.ensures.row c.in_ok-object.ensures.row
+    link_is _ _ _ _ _ m h _ (sought_of c.in_ok-led.led) (sought_of c.in_ok-last.last) _ _ x y c.in_ok-led.ensures.row c.in_ok-last.ensures.row c.in_ok-object.ensures.row
     (ap (λ (v : Parts). at v.objects c.in_ok-object.object) (sym c.self.view_is) ∙ c.in-Some.ensures.object) (no_dir c.in-Some.x.kind c.in_default-kind.not-Dir)
     c.in_ok-dir.ensures.row (ap (λ (v : Parts). at v.objects c.in_ok-dir.dir) (sym c.self.view_is) ∙ c.in-Some-object.ensures.object)
     (eq-eqb (fs_number x) (fs_number y) (sym c.fs_number.ensures ∙ c.if-fs_number.false ∙ c.fs_number-2.ensures))
@@ -69,12 +62,9 @@ returns-then-not-has_room_for_a_name g c =
     let x : Object = object_by (node c.self.inside.tables.objects c.in_ok-object.object) c.in-Some.x in
     let y : Object = object_by (node c.self.inside.tables.objects c.in_ok-dir.dir) c.in-Some-object.y in
     record {
-      row = link_full g.R.Others.rest.pid (path_of c.args.target.now) (path_of c.args.path.now) (frame_of g.R.Others.rest c.args.self.now c.args.who.now)
-          (frame_of g.R.Others.rest c.args.self.now c.walked_to.new.who) m (sought_of c.in_ok-led.led) (sought_of c.in_ok-last.last) c.in_ok-dir.dir
-          c.in_ok-object.object x y
-          c.in_ok-led.ensures.row c.in_ok-last.ensures.row c.in_ok-object.ensures.row
-          (ap (λ (v : Parts). at v.objects c.in_ok-object.object) (sym c.self.view_is) ∙ c.in-Some.ensures.object)
-          (no_dir c.in-Some.x.kind c.in_default-kind.not-Dir)
+      row = link_full _ _ _ _
+          _ m (sought_of c.in_ok-led.led) (sought_of c.in_ok-last.last) _ _ x y c.in_ok-led.ensures.row c.in_ok-last.ensures.row c.in_ok-object.ensures.row
+          (ap (λ (v : Parts). at v.objects c.in_ok-object.object) (sym c.self.view_is) ∙ c.in-Some.ensures.object) (no_dir c.in-Some.x.kind c.in_default-kind.not-Dir)
           c.in_ok-dir.ensures.row (ap (λ (v : Parts). at v.objects c.in_ok-dir.dir) (sym c.self.view_is) ∙ c.in-Some-object.ensures.object)
           (eq-eqb (fs_number x) (fs_number y) (sym c.fs_number.ensures ∙ c.if-fs_number.false ∙ c.fs_number-2.ensures))
           (room_is m ∙ ap (λ (v : Parts). nat_lt (names_in_all v.objects) v.limits.names) (sym c.self.view_is) ∙ sym c.has_room_for_a_name.ensures ∙ c.if-not-has_room_for_a_name.true);

@@ -31,11 +31,10 @@ returns-then-free_opens-lt2-clause-row g c =
     ∙ c.in_ok-a.ensures.ok_part) (sym c.second_fd.ensures.second ∙ c.in_ok-b.ensures.ok_part) few
 
 pub open_both-requires-clause-first : goal.open_both-requires-clause-first
-open_both-requires-clause-first g c = free_there g.R.Others.rest c.caller.result.now c.args.who.now c.in_ok-a.a c.caller.ensures.living (sym c.in_ok-a.ensures.ok_part ∙ c.free_fd.ensures.free)
+open_both-requires-clause-first g c = free_there g.R.Others.rest c.caller.result.now c.args.who.now _ c.caller.ensures.living (sym c.in_ok-a.ensures.ok_part ∙ c.free_fd.ensures.free)
 
 pub returns-clause-kept : goal.returns-clause-kept
 returns-clause-kept g c =
     let vacant : Some c.in_ok-n.n ≡ vacant_pipe c.self.inside.tables.fss c.self.inside.tables.objects = sym c.in_ok-n.ensures.ok_part ∙ c.vacant_pipe.ensures.vacant in
-    subst (λ (v : Parts). Keeps v c.open_both.new.self) c.self.view_is
-    (kept_made g.R.Others.rest c.self.inside.tables c.make_pipe.new.self c.open_both.new.self c.args.who.now c.in_ok-n.n _ _ _
+    subst (λ (v : Parts). Keeps v c.open_both.new.self) c.self.view_is (kept_made g.R.Others.rest _ _ _ _ _ _ _ _
     (subst (λ (v : Parts). Sound (world_of g.R.Others.rest v c.args.who.now)) (sym c.self.view_is) c.requires.sound) vacant c.make_pipe.ensures c.open_both.ensures.new)

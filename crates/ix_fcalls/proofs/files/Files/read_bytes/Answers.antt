@@ -11,21 +11,19 @@ pub take_bytes-requires-clause-end : goal.take_bytes-requires-clause-end
 take_bytes-requires-clause-end g c = c.requires.serves.end
 
 pub returns-then-is_on_pipe-clause-count : goal.returns-then-is_on_pipe-clause-count
-returns-then-is_on_pipe-clause-count g c = c.take_bytes.ensures.count
-    ∙ sym (ap (λ (xs : List ℕ). length (take c.args.count xs)) (readable_pipe g.R.Others.rest c.args.self.now c.args.who.now c.args.e.now
+returns-then-is_on_pipe-clause-count g c = c.take_bytes.ensures.count ∙ sym (ap (λ (xs : List ℕ). length (take c.args.count xs)) (readable_pipe g.R.Others.rest c.args.self.now _ c.args.e.now
     (sym c.is_on_pipe.ensures ∙ c.if-is_on_pipe.true)))
 
 pub returns-then-is_on_pipe-clause-bytes : goal.returns-then-is_on_pipe-clause-bytes
-returns-then-is_on_pipe-clause-bytes g c = c.take_bytes.ensures.bytes
-    ∙ sym (ap (λ (xs : List ℕ). put_front (take c.args.count xs) c.args.buf.now) (readable_pipe g.R.Others.rest c.args.self.now c.args.who.now c.args.e.now
+returns-then-is_on_pipe-clause-bytes g c = c.take_bytes.ensures.bytes ∙ sym
+    (ap (λ (xs : List ℕ). put_front (take c.args.count xs) c.args.buf.now) (readable_pipe g.R.Others.rest c.args.self.now _ c.args.e.now
     (sym c.is_on_pipe.ensures ∙ c.if-is_on_pipe.true)))
 
 pub returns-then-is_on_pipe-clause-frame : goal.returns-then-is_on_pipe-clause-frame
-returns-then-is_on_pipe-clause-frame g c = edited_frame c.args.self.now c.take_bytes.new.self _ _ c.take_bytes.ensures.rest g.R.Others.rest c.args.who.now
+returns-then-is_on_pipe-clause-frame g c = edited_frame c.args.self.now _ _ _ c.take_bytes.ensures.rest g.R.Others.rest _
 
 pub returns-then-is_on_pipe-clause-content : goal.returns-then-is_on_pipe-clause-content
-returns-then-is_on_pipe-clause-content g c = took g.R.Others.rest c.args.self.now c.args.who.now c.args.e.now c.take_bytes.new.self c.take_bytes.result
-    (sym c.is_on_pipe.ensures ∙ c.if-is_on_pipe.true) c.take_bytes.ensures.rest
+returns-then-is_on_pipe-clause-content g c = took g.R.Others.rest _ _ c.args.e.now _ _ (sym c.is_on_pipe.ensures ∙ c.if-is_on_pipe.true) c.take_bytes.ensures.rest
 
 pub returns-then-is_on_pipe-clause-counted : goal.returns-then-is_on_pipe-clause-counted
 returns-then-is_on_pipe-clause-counted g c = edited_counted _ _ _ _ c.take_bytes.ensures.rest _ c.requires.counted
@@ -40,26 +38,24 @@ pub seek-requires : goal.seek-requires
 seek-requires g c = subst (λ (v : Parts). is_some (at v.opens c.args.e.now.id) ≡ true) (sym c.self.view_is) c.requires.serves.entry
 
 pub returns-clause-count : goal.returns-clause-count
-returns-clause-count g c = c.copy_bytes-k.ensures.count
-    ∙ sym (ap (λ (xs : List ℕ). length (take c.args.count xs)) (readable_file g.R.Others.rest c.args.self.now c.args.who.now c.args.e.now c.requires.serves
+returns-clause-count g c = c.copy_bytes-k.ensures.count ∙ sym (ap (λ (xs : List ℕ). length (take c.args.count xs)) (readable_file g.R.Others.rest _ _ _ c.requires.serves
     (sym c.is_on_pipe.ensures ∙ c.if-is_on_pipe.false)))
 
 pub returns-clause-bytes : goal.returns-clause-bytes
-returns-clause-bytes g c = c.copy_bytes-k.ensures.bytes
-    ∙ sym (ap (λ (xs : List ℕ). put_front (take c.args.count xs) c.args.buf.now) (readable_file g.R.Others.rest c.args.self.now c.args.who.now c.args.e.now
+returns-clause-bytes g c = c.copy_bytes-k.ensures.bytes ∙ sym (ap (λ (xs : List ℕ). put_front (take c.args.count xs) c.args.buf.now) (readable_file g.R.Others.rest _ _ _
     c.requires.serves (sym c.is_on_pipe.ensures ∙ c.if-is_on_pipe.false)))
 
 pub returns-clause-frame : goal.returns-clause-frame
-returns-clause-frame g c = edited_frame c.args.self.now c.seek.new.self _ _
+returns-clause-frame g c = edited_frame c.args.self.now _ _ _
     (c.seek.ensures ∙ ap (λ (v : Parts). let w : Parts = record v { offsets = slice_set v.offsets c.args.e.now.id (c.args.e.now.offset + c.copy_bytes-k.result) } in w) c.self.view_is)
-    g.R.Others.rest c.args.who.now
+    g.R.Others.rest _
 
 pub returns-clause-content : goal.returns-clause-content
 returns-clause-content g c =
-    moved_past g.R.Others.rest c.args.self.now c.args.who.now c.args.e.now c.seek.new.self c.copy_bytes-k.result c.requires.serves (sym c.is_on_pipe.ensures ∙ c.if-is_on_pipe.false)
+    moved_past g.R.Others.rest _ _ _ _ _ c.requires.serves (sym c.is_on_pipe.ensures ∙ c.if-is_on_pipe.false)
     (c.seek.ensures ∙ ap (λ (v : Parts). let w : Parts = record v { offsets = slice_set v.offsets c.args.e.now.id (c.args.e.now.offset + c.copy_bytes-k.result) } in w) c.self.view_is)
 
 pub returns-clause-counted : goal.returns-clause-counted
-returns-clause-counted g c = edited_counted c.args.self.now c.seek.new.self _ _
+returns-clause-counted g c = edited_counted _ _ _ _
     (c.seek.ensures ∙ ap (λ (v : Parts). let w : Parts = record v { offsets = slice_set v.offsets c.args.e.now.id (c.args.e.now.offset + c.copy_bytes-k.result) } in w) c.self.view_is)
-    c.args.who.now c.requires.counted
+    _ c.requires.counted

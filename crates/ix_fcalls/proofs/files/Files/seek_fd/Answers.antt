@@ -6,20 +6,17 @@ use Rattle.ix_model.specs.declared.reply.Reply.TheVariants as reply
 use Rattle.ix_fcalls.proofs.files.Files.seek_fd.Goals as goal
 
 pub returns-then-is_pipe-clause-row : goal.returns-then-is_pipe-clause-row
-returns-then-is_pipe-clause-row g c = seek_pipe g.R.Others.rest.pid c.args.fd.0 c.args.offset (frame_of g.R.Others.rest c.args.self.now c.args.who.now) (behind_of c.in_ok-e.e) _
-    (sym c.behind.ensures.behind ∙ ap (option_map behind_of) c.in_ok-e.ensures.ok_part)
+returns-then-is_pipe-clause-row g c = seek_pipe _ _ _ _ _ _ (sym c.behind.ensures.behind ∙ ap (option_map behind_of) c.in_ok-e.ensures.ok_part)
     (ap (λ (v : Parts). at v.objects c.in_ok-e.e.object) (sym c.self.view_is) ∙ c.in-Some.ensures.object) (sym c.is_pipe.ensures ∙ c.if-is_pipe.true)
 
 pub returns-then-offset-gt1048576-clause-row : goal.returns-then-offset-gt1048576-clause-row
-returns-then-offset-gt1048576-clause-row g c = seek_past g.R.Others.rest.pid c.args.fd.0 c.args.offset (frame_of g.R.Others.rest c.args.self.now c.args.who.now) (behind_of c.in_ok-e.e) _
-    (sym c.behind.ensures.behind ∙ ap (option_map behind_of) c.in_ok-e.ensures.ok_part)
+returns-then-offset-gt1048576-clause-row g c = seek_past _ _ _ _ _ _ (sym c.behind.ensures.behind ∙ ap (option_map behind_of) c.in_ok-e.ensures.ok_part)
     (ap (λ (v : Parts). at v.objects c.in_ok-e.e.object) (sym c.self.view_is) ∙ c.in-Some.ensures.object)
     (sym c.is_pipe.ensures ∙ c.if-is_pipe.false) (lt-leb c.args.offset 1048576 c.if-offset-gt1048576.true)
 
 pub returns-clause-row : goal.returns-clause-row
 returns-clause-row g c =
-    seek_passed g.R.Others.rest.pid c.args.fd.0 c.args.offset (frame_of g.R.Others.rest c.args.self.now c.args.who.now) (behind_of c.in_ok-e.e) _
-    (sym c.behind.ensures.behind ∙ ap (option_map behind_of) c.in_ok-e.ensures.ok_part)
+    seek_passed _ _ _ _ _ _ (sym c.behind.ensures.behind ∙ ap (option_map behind_of) c.in_ok-e.ensures.ok_part)
     (ap (λ (v : Parts). at v.objects c.in_ok-e.e.object) (sym c.self.view_is) ∙ c.in-Some.ensures.object)
     (process_of g.R.Others.rest c.caller.result.now) (sym c.is_pipe.ensures ∙ c.if-is_pipe.false) (le-leb c.args.offset 1048576 c.if-offset-gt1048576.false) c.caller.ensures.living
     ∙ ap (λ (v : Parts). Pass reply.Done (frame_of g.R.Others.rest v c.args.who.now)) (sym c.float_entry.ensures)

@@ -13,4 +13,4 @@ returns-in-File c = c.size.ensures ∙ ap (λ (v : Parts). length (slice_index_o
     ∙ ap (λ (k : Kind). size_told c.args.self.now.holdings c.args.obj.0 k c.args.size) (sym c.in-File.is)
 
 pub returns-in_default : goal.returns-in_default
-returns-in_default c = unsized_kind c.args.self.now.holdings c.args.obj.0 c.args.size c.args.kind c.in_default.not-File
+returns-in_default c = unsized_kind c.args.self.now.holdings c.args.obj.0 _ _ c.in_default.not-File

@@ -12,6 +12,5 @@ returns-clause-bytes c =
     let count : c.take.result ≡ min c.args.count (length bs) =
     c.take.ensures.count ∙ ap (λ (v : Parts). min (length (take c.args.count c.args.buf.now))
     (length (side c.args.end (slice_index_or v.holdings c.args.object holds_nothing)))) c.self.view_is ∙ ap (λ n. min n (length bs)) fills in
-    read_front bs c.args.buf.now c.take.new.out c.args.count c.take.result low count
-    (c.take.ensures.out ∙ ap (λ (v : Parts). take c.take.result (side c.args.end (slice_index_or v.holdings c.args.object holds_nothing))
+    read_front bs _ _ _ _ low count (c.take.ensures.out ∙ ap (λ (v : Parts). take c.take.result (side c.args.end (slice_index_or v.holdings c.args.object holds_nothing))
     ++ drop c.take.result (take c.args.count c.args.buf.now)) c.self.view_is)

@@ -17,7 +17,7 @@ settle-requires-clause-within g c =
 
 pub settle-requires-clause-few : goal.settle-requires-clause-few
 settle-requires-clause-few g c = rw (ap (λ (v : Parts). v.homes) c.share_all.ensures.rest ∙ ap (λ (v : Parts). v.homes) c.self.view_is)
-    (homes_bounded c.args.self.now g.processes c.requires.0 c.requires.1.0 c.args.child.now.cwd.0 c.requires.1.1.1.1)
+    (homes_bounded _ g.processes c.requires.0 c.requires.1.0 _ c.requires.1.1.1.1)
 
 pub returns-clause-counted : goal.returns-clause-counted
 returns-clause-counted g c = counted_taken _ _ _ _ _ _

@@ -6,8 +6,7 @@ use Rattle.ix_fcalls.proofs.files.Files.told_of_cut.Goals as goal
 
 pub has_room-room-requires-clause-file : goal.has_room-room-requires-clause-file
 has_room-room-requires-clause-file g c = subst (λ (v : Parts). option_map_or is_file (at v.objects c.args.e.now.object) false ≡ true) (sym c.self.view_is)
-    (serves_file c.args.self.now c.args.e.now c.requires.serves c.requires.file)
+    (serves_file _ _ c.requires.serves c.requires.file)
 
 pub returns : goal.returns
-returns g c = told_cut g.R.Others.rest c.args.self.now c.args.who.now c.args.e.now c.args.len c.has_room-room.result (c.has_room-room.ensures
-    ∙ ap (λ (v : Parts). has_room c.args.e.now.object c.args.len v) c.self.view_is)
+returns g c = told_cut g.R.Others.rest c.args.self.now _ c.args.e.now _ _ (c.has_room-room.ensures ∙ ap (λ (v : Parts). has_room c.args.e.now.object c.args.len v) c.self.view_is)
