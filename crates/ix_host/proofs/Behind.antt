@@ -7,7 +7,7 @@ use Rattle.ix_model.specs.{history.{Events.Event, Step.run}, opening.Opening.ope
 use Rattle.ix_model.specs.world.Texts as texts
 use Rattle.ix_text.specs.Bytes.{is_empty}
 use Rattle.ix_script.specs.{declared.line.Line.Line, lines.{Before.{form_told, lanes_of}, Said.{line_of, version_of}}, scripts.Scripts.{config_of, script_of}}
-use Rattle.ix_script.specs.texts.{Cutting.{is_closed, is_policy_line, pieces, word_at, words_of}, Lines.{cut, lines_of}}
+use Rattle.ix_script.specs.texts.{Cutting.{is_closed, is_policy_line, is_skipped, pieces, word_at, words_of}, Lines.{cut, lines_of}}
 use Rattle.ix_script.specs.declared.line.Line.TheVariants as line
 use Rattle.ix_script.specs.lines.Faults.{body_fault, command_fault, fault_from, fault_of, first_line_fault, form_fault, line_fault, or_next, text_fault}
 use Rattle.ix_script.specs.lines.Faults.{words_fault}
@@ -182,30 +182,23 @@ form_two : form_of (word_at (words_of (codes "ix 2 report")) 0) ≡ None
 unfolding words_of pieces is_closed form_of frame_form group_form plain_of on_path_of on_fd_of counted_of file_form process_form
 form_two = refl
 
-first_fault : (before : List Line) (text : List ℕ) → is_empty before ≡ false → text ≡ codes "ix 1 report" → line_fault before text ≡ None → ⊥
-unfolding line_fault body_fault is_policy_line
-first_fault before text some is h =
-    let t = codes "ix 1 report" in
+heading_fault : (before : List Line) (text t : List ℕ) → is_empty before ≡ false → text ≡ t → is_skipped t ≡ false → is_policy_line t ≡ false
+    → form_of (word_at (words_of t) 0) ≡ None → line_fault before text ≡ None → ⊥
+unfolding line_fault body_fault
+heading_fault before text t some is told plain none h =
     let body : body_fault before t ≡ None = or_none (text_fault t) (body_fault before t) (rw is at h) in
-    let command : command_fault before (words_of t) ≡ None = rw some at body in
-    no_form before (words_of t) form_one command
-
-second_fault : (before : List Line) (text : List ℕ) → is_empty before ≡ false → text ≡ codes "ix 2 report" → line_fault before text ≡ None → ⊥
-unfolding line_fault body_fault is_policy_line
-second_fault before text some is h =
-    let t = codes "ix 2 report" in
-    let body : body_fault before t ≡ None = or_none (text_fault t) (body_fault before t) (rw is at h) in
-    let command : command_fault before (words_of t) ≡ None = rw some at body in
-    no_form before (words_of t) form_two command
+    let command : command_fault before (words_of t) ≡ None = rw (some, told, plain) at body in
+    no_form before (words_of t) none command
 
 no_heading : (before : List Line) (text : List ℕ) → is_empty before ≡ false → line_fault before text ≡ None → is_heading (feed text) ≡ false
+unfolding is_policy_line
 no_heading before text some h = go (is_heading (feed text)) refl
   where
     go : (x : Bool) → is_heading (feed text) ≡ x → x ≡ false
     go false is = refl
     go true is = elim (heading text is) [
-      | inl one ↦ absurd (first_fault before text some one h)
-      | inr two ↦ absurd (second_fault before text some two h)
+      | inl one ↦ absurd (heading_fault before text _ some one refl refl form_one h)
+      | inr two ↦ absurd (heading_fault before text _ some two refl refl form_two h)
     ]
 
 -- the first of lines without faults has none, and neither has one of the others
