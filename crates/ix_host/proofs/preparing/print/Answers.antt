@@ -27,7 +27,8 @@ returns-then-is_some g c =
     let before = g.K.Sink.faults c.args.sink.now in
     let text = canonical c.args.script.now in
     let rest = canonical_from c.args.script.now c.in-Ok-write_part.next in
-    let stands = subst (λ (w : List ℕ). StandsAt None first (g.K.Sink.taken c.parts.sink) w text before (g.K.Sink.faults c.parts.sink)) (sym c.in-Ok-write_part.ensures.text) c.parts.invariant.stands in
+    let stands = subst (λ (w : List ℕ). StandsAt None first (g.K.Sink.taken c.parts.sink) w text before (g.K.Sink.faults c.parts.sink))
+    (sym c.in-Ok-write_part.ensures.text) c.parts.invariant.stands in
     let after = c.write_full-failure.new.sink in
     let waiting = c.write_full-failure.new.waiting.items in
     c.finish.ensures first text before
@@ -45,7 +46,8 @@ parts-preserved g c =
     let before = g.K.Sink.faults c.args.sink.now in
     let text = canonical c.args.script.now in
     let none : c.write_full-failure.result ≡ None = none_is c.write_full-failure.result (sym c.is_some.ensures ∙ c.if-is_some.false) in
-    let stands = subst (λ (w : List ℕ). StandsAt None first (g.K.Sink.taken c.parts.sink) w text before (g.K.Sink.faults c.parts.sink)) (sym c.in-Ok-write_part.ensures.text) c.parts.invariant.stands in
+    let stands = subst (λ (w : List ℕ). StandsAt None first (g.K.Sink.taken c.parts.sink) w text before (g.K.Sink.faults c.parts.sink))
+    (sym c.in-Ok-write_part.ensures.text) c.parts.invariant.stands in
     record {
       within = c.in-Ok-write_part.ensures.within;
       stands = rw none at (c.write_full-failure.ensures first (canonical_from c.args.script.now c.in-Ok-write_part.next) text before stands);

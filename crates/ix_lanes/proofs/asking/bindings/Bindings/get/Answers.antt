@@ -7,7 +7,8 @@ returns-in-Some g c =
     let i = c.self.inside in
     let name = c.args.name.now in
     let d = c.index.result.now in
-    let found : position (is_of name) i.near.items ≡ Some c.in-Some.place = sym (c.place_of.ensures ∙ (λ j. position (is_of (c.as_bytes.ensures.bytes j)) (c.as_slice.ensures.value j))) ∙ c.in-Some.is in
+    let found : position (is_of name) i.near.items ≡ Some c.in-Some.place =
+    sym (c.place_of.ensures ∙ (λ j. position (is_of (c.as_bytes.ensures.bytes j)) (c.as_slice.ensures.value j))) ∙ c.in-Some.is in
     let at = position-Some (is_of name) i.near.items c.in-Some.place d found in
     rw (← c.self.view_is) (ap (λ e. Some e.1) c.index.ensures ∙ sym (near_value name i.near.items i.numbers.entries c.in-Some.place d at.0 at.1 at.2)
     ∙ sym (get-pairs name (i.near.items ++ i.numbers.entries)))

@@ -9,7 +9,8 @@ returns-in-Some g c =
     let name = c.args.name.now in
     let d = c.index_mut.result.now in
     let there = subst (λ m. contains_key m name ≡ true) (sym c.self.view_is) c.requires in
-    let found : position (is_of name) i.near.items ≡ Some c.in-Some.place = sym (c.place_of.ensures ∙ (λ j. position (is_of (c.as_bytes.ensures.bytes j)) (c.as_slice.ensures.value j))) ∙ c.in-Some.is in
+    let found : position (is_of name) i.near.items ≡ Some c.in-Some.place =
+    sym (c.place_of.ensures ∙ (λ j. position (is_of (c.as_bytes.ensures.bytes j)) (c.as_slice.ensures.value j))) ∙ c.in-Some.is in
     let at = position-Some (is_of name) i.near.items c.in-Some.place d found in
     rw (← c.self.view_is) (map-put name c.args.number (i.near.items ++ i.numbers.entries) _ there
     (ap (λ e. set i.near.items c.in-Some.place (e.0, c.args.number) ++ i.numbers.entries) c.index_mut.ensures.value

@@ -56,7 +56,12 @@ returns-in-Err-clause-cut g c =
     let one = c.in-Err.ensures in
     let due = stops_due (asks_left c.run.new.asks) c.in-Err.stop (subst (λ (q : Asking Names). StopsAt (came_as (λ n. tt) (first q)) c.in-Err.stop) (sym one.2) one.5.0) in
     let stopped = subst (λ (n : Next Names). StopsAt n c.in-Err.stop) (ap first one.2 ∙ ap (λ p. next p (answers_of one.0)) here.asked) due.0 in
-    subst (λ (p : Ran × List Made × Answer). CutOff p.0 p.1 p.2) (λ x. (((λ y. ran i.script.now i.calls.seat i.done (sym here.is y) (names_done (asks_left i.calls))) ∙ c.self.view_is) x, sym one.1.made x, sym c.answer.ensures x))
+    subst (λ (p : Ran × List Made × Answer). CutOff p.0 p.1 p.2)
+    (λ x. (
+      ((λ y. ran i.script.now i.calls.seat i.done (sym here.is y) (names_done (asks_left i.calls))) ∙ c.self.view_is) x,
+      sym one.1.made x,
+      sym c.answer.ensures x,
+    ))
     (cut_next _ _ _ _ _ _ here.stands (here.made _ one.1.asked) c.in-Err.stop stopped)
 
 pub returns-then-is_none-clause-done : goal.returns-then-is_none-clause-done

@@ -36,7 +36,8 @@ returns-then-not-matches-clause-within c =
     let seat = asking_seat _ _ _ c.in-Some.seat c.seat_asking.ensures c.in-Some.is in
     let there = lane_there c.args.script.now c.lines.places c.lines.self.at _ c.lines.invariant.placed (sym c.lines.invariant.seat ∙ seat) c.index-places-seat.result in
     let same : c.in-Some-line.line ≡ line_in c.args.script.now c.lines.self.at = let e = sym c.in-Some-line.is ∙ c.line_kept-self.ensures in cc in
-    let apart : role_begins (role_of (line_in c.args.script.now c.lines.self.at)) ≡ false = ap role_begins (sym c.role_at-role.ensures) ∙ asking_apart _ _ _ c.in-Some.seat c.seat_asking.ensures c.in-Some.is in
+    let apart : role_begins (role_of (line_in c.args.script.now c.lines.self.at)) ≡ false = ap role_begins (sym c.role_at-role.ensures)
+    ∙ asking_apart _ _ _ c.in-Some.seat c.seat_asking.ensures c.in-Some.is in
     begun_within c.args.script.now c.lines.self.at (omega (arith, c.lines-test.true, c.len.ensures.len)) _ _ _ there _ seat _ _ c.requires.policy c.requires.header c.in-Some-line.line same
     c.begin.new.copying c.begin.new.begun c.begin.ensures.asks (begun (goal.at.returns-then-not-matches-clause-within c).Then-not-matches) c.begin.new.written
     c.lines.invariant.seat c.line_kept-self.result c.line_kept-self.ensures apart c.begin.ensures.pending c.begin.ensures.holds
