@@ -7,6 +7,7 @@ use Rattle.ix_model.specs.{history.{Events.Event, History.{History, world_of, wi
 use Rattle.ix_script.specs.{lines.Before.{form_told, lanes_of}, scripts.Scripts.config_of, declared.line.Line.Line}
 use Rattle.ix_report.specs.LineText.{head_line}
 use Rattle.ix_replay.{specs.report.Report.{closing_text, entries_text, entry_text, report_of}, proofs.piecewise.Shown.history_entries}
+use Rattle.ix_host.specs.declared.status.Status.{Status}
 use Rattle.ix_host.specs.declared.status.Status.TheVariants as status
 use Rattle.ix_host.specs.declared.streams.outlet.Failure.{Failure}
 use Rattle.ix_host.specs.run.{Run.Ends, Outlet.{FrontIsOut, StandsAt, failed_as}, Teller.told_of, Whole.{Sent, Writes}}
@@ -98,10 +99,21 @@ told_next s begun h k e is =
     ∙ ap (λ t. begun ++ t) (sym (history_entries (form_told s) (lanes_of s) h e)) ∙ ap (told_of s begun) (sym is)
 
 -- all of a report
-pub report_told : (s : List Line) (begun : List ℕ) (h : History) → h.config ≡ config_of s → begun ≡ head_line (form_told s)
+report_told : (s : List Line) (begun : List ℕ) (h : History) → h.config ≡ config_of s → begun ≡ head_line (form_told s)
     → told_of s begun h ++ closing_text (form_told s) (world_of h) (length h.events) ≡ report_of s h.events
 unfolding report_of world_of
 report_told s begun h config at = rw (at, config) refl
+
+-- a report is told that was begun
+pub stands_begun : (why : Option Failure) (o : Option (List ℕ)) (s : List Line) (begun : List ℕ) (n : ℕ) → why ≡ None → StandsAt why o o begun (told_of s begun (record { config = config_of s; events = [] })) n n
+stands_begun why o s begun n none = subst (λ (w : Option Failure). StandsAt w o o begun (told_of s begun (record { config = config_of s; events = [] })) n n) (sym none) (stands_first o begun n)
+
+pub ends_report : (s ls : List Line) (begun : List ℕ) (h : History) (events : List Event) {end : Status} {o after : Option (List ℕ)} {done : Bool} {before now : ℕ}
+    → ls ≡ s → h.config ≡ config_of s → begun ≡ head_line (form_told s) → h.events ≡ events
+    → Ends (outcome.Whole (told_of s begun h ++ closing_text (form_told ls) (world_of h) (length h.events))) end o after done before now → Ends (outcome.Whole (report_of s events)) end o after done before now
+ends_report s ls begun h events {end = end} {o = o} {after = after} {done = done} {before = before} {now = now} same config at is =
+    subst (λ (t : List ℕ). Ends (outcome.Whole t) end o after done before now)
+    (ap (λ x. told_of s begun h ++ closing_text (form_told x) (world_of h) (length h.events)) same ∙ report_told s begun h config at ∙ ap (report_of s) is)
 
 -- ---- a line more
 module _ (o after : Option (List ℕ)) (before now : ℕ) (text line then : List ℕ) (is : text ++ line ≡ then) where

@@ -1,54 +1,26 @@
-use Rattle.std.proofs.Common.{◌≡◌, ◌++◌, List, ℕ, None, true, is_ok, not, refl, sym, ap, ◌∙◌, subst}
+use Rattle.std.proofs.Common.{◌++◌, None, not, refl, sym, ap, ◌∙◌}
 use Rattle.ix_lanes.proofs.found.Oks.{from_ok}
 use Rattle.ix_image.specs.{Lines.list_of, Telling.left_of}
-use Rattle.ix_host.{specs.run.Outlet.StandsAt, proofs.piecewise.{Outlets.sent_none, Stands.{ends_out, none_is, stands_end, stands_front, stands_silent}}}
+use Rattle.ix_host.proofs.piecewise.{Outlets.sent_none, Stands.{ends_out, none_is, stands_end, stands_front, stands_silent}}
 use Rattle.ix_host.proofs.listing.tell_list.Goals as goal
 
 pub lines-init : goal.lines-init
-lines-init g c =
-    let first = g.K.Sink.taken c.args.sink.now in
-    let n = g.K.Sink.faults c.args.sink.now in
-    let text = list_of c.args.tree.now in
-    let left : c.in-Ok.waiting.items ++ left_of c.new-listing.result ≡ text = rw c.in-Ok.ensures c.new-listing.ensures in
-    record {
-      stands = subst (λ (w : List ℕ). StandsAt None first first w text n n) (sym left) (sent_none first text, refl);
-    }
+lines-init g c = record { stands = rw (c.in-Ok.ensures, c.new-listing.ensures) (sent_none _ _, refl) }
 
 pub lines-preserved : goal.lines-preserved
 lines-preserved g c =
-    let first = g.K.Sink.taken c.args.sink.now in
-    let before = g.K.Sink.faults c.args.sink.now in
-    let text = list_of c.args.tree.now in
-    let went : is_ok c.tell.result ≡ true = c.is_err.ensures.negation ∙ ap not c.if-is_err.false in
-    let told = from_ok c.tell.result went c.tell.ensures.ok in
-    let none : c.write_full-failure.result ≡ None = none_is c.write_full-failure.result (sym c.is_some.ensures ∙ c.if-is_some.false) in
-    let stands = subst (λ (w : List ℕ). StandsAt None first (g.K.Sink.taken c.lines.sink) w text before (g.K.Sink.faults c.lines.sink)) (sym told.text) c.lines.invariant.stands in
-    record {
-      stands = rw none at (c.write_full-failure.ensures first (left_of c.tell.new.self) text before stands);
-    }
+    let told = from_ok c.tell.result (c.is_err.ensures.negation ∙ ap not c.if-is_err.false) c.tell.ensures.ok in
+    record { stands = rw (none_is c.write_full-failure.result (sym c.is_some.ensures ∙ c.if-is_some.false)) at (c.write_full-failure.ensures _ (left_of c.tell.new.self) _ _ (rw (sym told.text) at c.lines.invariant.stands)) }
 
 pub returns-then-is_err : goal.returns-then-is_err
-returns-then-is_err g c =
-    let text = list_of c.args.tree.now in
-    let first = g.K.Sink.taken c.args.sink.now in
-    let before = g.K.Sink.faults c.args.sink.now in
-    let now = c.lines.sink in
-    ends_out first (g.K.Sink.taken now) text (g.K.Sink.finished now) before (g.K.Sink.faults now)
-    (stands_front first (g.K.Sink.taken now) before (g.K.Sink.faults now) (c.lines.waiting.items ++ left_of c.lines.listing) text c.lines.invariant.stands)
+returns-then-is_err g c = ends_out _ _ _ _ _ _ (stands_front _ _ _ _ (c.lines.waiting.items ++ left_of c.lines.listing) _ c.lines.invariant.stands)
 
 pub returns-then-is_some : goal.returns-then-is_some
 returns-then-is_some g c =
-    let first = g.K.Sink.taken c.args.sink.now in
-    let before = g.K.Sink.faults c.args.sink.now in
-    let text = list_of c.args.tree.now in
-    let went : is_ok c.tell.result ≡ true = c.is_err.ensures.negation ∙ ap not c.if-is_err.false in
-    let told = from_ok c.tell.result went c.tell.ensures.ok in
-    let stands = subst (λ (w : List ℕ). StandsAt None first (g.K.Sink.taken c.lines.sink) w text before (g.K.Sink.faults c.lines.sink)) (sym told.text) c.lines.invariant.stands in
-    let after = c.write_full-failure.new.sink in
-    let waiting = c.write_full-failure.new.waiting.items in
-    c.finish.ensures first text before
-    (rw c.as_slice.ensures.value (stands_silent first (g.K.Sink.taken after) before (g.K.Sink.faults after) c.write_full-failure.result (waiting ++ left_of c.tell.new.self) waiting text
-    (sym c.is_some.ensures ∙ c.if-is_some.true) (c.write_full-failure.ensures first (left_of c.tell.new.self) text before stands)))
+    let told = from_ok c.tell.result (c.is_err.ensures.negation ∙ ap not c.if-is_err.false) c.tell.ensures.ok in
+    c.finish.ensures (g.K.Sink.taken c.args.sink.now) (list_of c.args.tree.now) (g.K.Sink.faults c.args.sink.now)
+    (rw c.as_slice.ensures.value (stands_silent _ _ _ _ c.write_full-failure.result (c.write_full-failure.new.waiting.items ++ left_of c.tell.new.self) _ _
+    (sym c.is_some.ensures ∙ c.if-is_some.true) (c.write_full-failure.ensures _ (left_of c.tell.new.self) _ _ (rw (sym told.text) at c.lines.invariant.stands))))
 
 pub returns : goal.returns
 returns g c =
