@@ -6,21 +6,15 @@ use Rattle.ix_check.proofs.judge.Judge.look_at_entry.Goals as goal
 
 pub print_call-requires-clause-seat : goal.print_call-requires-clause-seat
 print_call-requires-clause-seat g c =
-    let state = c.requires.came.0 in
     let among = c.requires.came.1 in
-    let self = c.args.self.now in
-    let s = self.printer.script.now in
-    let called = called_in _ s _ _ _ _ _ state c.as_slice-lanes.ensures.value (c.in-Some.ensures state) among in
-    its_seat _ s _ _ state among _ _ called _ (lane_at g.L.LaneSteps.at _ _ _ _ called c.index_mut-lane.ensures.value)
+    let called = called_in _ c.args.self.now.printer.script.now _ _ _ _ _ _ c.as_slice-lanes.ensures.value (c.in-Some.ensures c.requires.came.0) among in
+    its_seat _ _ _ _ _ among _ _ called _ (lane_at g.L.LaneSteps.at _ _ _ _ called c.index_mut-lane.ensures.value)
 
 pub print_call-requires-clause-room : goal.print_call-requires-clause-room
 print_call-requires-clause-room g c =
-    let state = c.requires.came.0 in
     let among = c.requires.came.1 in
-    let self = c.args.self.now in
-    let s = self.printer.script.now in
-    let called = called_in _ s _ _ _ _ _ state c.as_slice-lanes.ensures.value (c.in-Some.ensures state) among in
-    its_room _ s _ _ state among _ _ called _ (lane_at g.L.LaneSteps.at _ _ _ _ called c.index_mut-lane.ensures.value)
+    let called = called_in _ c.args.self.now.printer.script.now _ _ _ _ _ _ c.as_slice-lanes.ensures.value (c.in-Some.ensures c.requires.came.0) among in
+    its_room _ _ _ _ _ among _ _ called _ (lane_at g.L.LaneSteps.at _ _ _ _ called c.index_mut-lane.ensures.value)
 
 pub returns-then-ne-clause-walks : goal.returns-then-ne-clause-walks
 returns-then-ne-clause-walks g c state among =
