@@ -105,12 +105,14 @@ unfolding report_of world_of
 report_told s begun h config at = rw (at, config) refl
 
 -- a report is told that was begun
-pub stands_begun : (why : Option Failure) (o : Option (List ℕ)) (s : List Line) (begun : List ℕ) (n : ℕ) → why ≡ None → StandsAt why o o begun (told_of s begun (record { config = config_of s; events = [] })) n n
+pub stands_begun : (why : Option Failure) (o : Option (List ℕ)) (s : List Line) (begun : List ℕ) (n : ℕ)
+    → why ≡ None → StandsAt why o o begun (told_of s begun (record { config = config_of s; events = [] })) n n
 stands_begun why o s begun n none = subst (λ (w : Option Failure). StandsAt w o o begun (told_of s begun (record { config = config_of s; events = [] })) n n) (sym none) (stands_first o begun n)
 
 pub ends_report : (s ls : List Line) (begun : List ℕ) (h : History) (events : List Event) {end : Status} {o after : Option (List ℕ)} {done : Bool} {before now : ℕ}
     → ls ≡ s → h.config ≡ config_of s → begun ≡ head_line (form_told s) → h.events ≡ events
-    → Ends (outcome.Whole (told_of s begun h ++ closing_text (form_told ls) (world_of h) (length h.events))) end o after done before now → Ends (outcome.Whole (report_of s events)) end o after done before now
+    → Ends (outcome.Whole (told_of s begun h ++ closing_text (form_told ls) (world_of h) (length h.events))) end o after done before now
+    → Ends (outcome.Whole (report_of s events)) end o after done before now
 ends_report s ls begun h events {end = end} {o = o} {after = after} {done = done} {before = before} {now = now} same config at is =
     subst (λ (t : List ℕ). Ends (outcome.Whole t) end o after done before now)
     (ap (λ x. told_of s begun h ++ closing_text (form_told x) (world_of h) (length h.events)) same ∙ report_told s begun h config at ∙ ap (report_of s) is)

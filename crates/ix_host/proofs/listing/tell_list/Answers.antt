@@ -10,7 +10,10 @@ lines-init g c = record { stands = rw (c.in-Ok.ensures, c.new-listing.ensures) (
 pub lines-preserved : goal.lines-preserved
 lines-preserved g c =
     let told = from_ok c.tell.result (c.is_err.ensures.negation ∙ ap not c.if-is_err.false) c.tell.ensures.ok in
-    record { stands = rw (none_is c.write_full-failure.result (sym c.is_some.ensures ∙ c.if-is_some.false)) at (c.write_full-failure.ensures _ (left_of c.tell.new.self) _ _ (rw (sym told.text) at c.lines.invariant.stands)) }
+    record {
+      stands = rw (none_is c.write_full-failure.result (sym c.is_some.ensures ∙ c.if-is_some.false)) at
+          (c.write_full-failure.ensures _ (left_of c.tell.new.self) _ _ (rw (sym told.text) at c.lines.invariant.stands));
+    }
 
 pub returns-then-is_err : goal.returns-then-is_err
 returns-then-is_err g c = ends_out _ _ _ _ _ _ (stands_front _ _ _ _ (c.lines.waiting.items ++ left_of c.lines.listing) _ c.lines.invariant.stands)

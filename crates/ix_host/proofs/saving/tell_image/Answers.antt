@@ -11,7 +11,11 @@ pieces-init g c = record { stands = rw (c.in-Ok.ensures, c.in-Ok-new.ensures.all
 pub pieces-preserved : goal.pieces-preserved
 pieces-preserved g c =
     let told = from_ok c.write.result (c.is_err.ensures.negation ∙ ap not c.if-is_err.false) c.write.ensures.ok in
-    record { stands = rw (none_is c.write_full-failure.result (sym c.is_some.ensures ∙ c.if-is_some.false)) at (c.write_full-failure.ensures _ (left_of c.write.new.self) _ _ (rw (sym told.text) at c.pieces.invariant.stands)); begun = told.begun }
+    record {
+      stands = rw (none_is c.write_full-failure.result (sym c.is_some.ensures ∙ c.if-is_some.false)) at
+          (c.write_full-failure.ensures _ (left_of c.write.new.self) _ _ (rw (sym told.text) at c.pieces.invariant.stands));
+      begun = told.begun;
+    }
 
 pub returns-then-is_err : goal.returns-then-is_err
 returns-then-is_err g c = ends_out _ _ _ _ _ _ (stands_front _ _ _ _ (c.pieces.waiting.items ++ left_of c.pieces.saving) _ c.pieces.invariant.stands)
