@@ -10,6 +10,7 @@ mod lanes;
 mod policies;
 mod served;
 mod statuses;
+mod threads;
 mod twins;
 mod two_lanes;
 mod words;
