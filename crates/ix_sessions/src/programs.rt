@@ -5,6 +5,7 @@ mod failing;
 mod floats;
 mod flows;
 mod forms;
+mod hostile;
 mod images;
 mod lanes;
 mod policies;

@@ -222,7 +222,7 @@ fn calls_told<R: Threads + Wait + Sync>(rt: &R, alloc: Global, script: &[u8]) ->
 #[test]
 fn a_watch_is_told_of_each_call(rt: HostRuntime) {
     let one =
-        b"ix 1\nproc a - * - -\nfile /x - free - - xy\nphase\nlane l\nopen a /x rw as f\ncopy a f f 1\n".as_slice();
+        b"ix 1\nproc a - * - -\nfile /x - free - - \"xy\"\nphase\nlane l\nopen a /x rw as f\ncopy a f f 1\n".as_slice();
     let two = b"ix 1\nproc a - * - -\nphase\nlane k\nself a\nself a\nlane l\nself a\n".as_slice();
     assert!(rt; calls_told(&rt, rt.alloc(), one) == Some(3));
     assert!(rt; calls_told(&rt, rt.alloc(), two) == Some(3));
