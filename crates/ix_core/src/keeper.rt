@@ -202,7 +202,8 @@ impl Core {
     /// The name behind one that a directory has, in order of making; `None` behind the last, and where no such directory
     /// lives. It costs the same wherever the name stands.
     pub fn named_after(&self, dir: Obj, name: &NameRef<'_>) -> Option<(Name, Obj)>
-        ensures { (names : _) → names_there (world_of self.now).frame.objects dir.0 ≡ Some names → IsBehind names (name_of name.now) (option_map (λ e. (e.0, e.1.0)) result) }
+        ensures next { (names : _) → names_there (world_of self.now).frame.objects dir.0 ≡ Some names → IsBehind names (name_of name.now) (option_map (λ e. (e.0, e.1.0)) result) }
+        ensures nowhere { names_there (world_of self.now).frame.objects dir.0 ≡ None → result ≡ None }
     {
         self.machine.named_after(dir, name)
     }

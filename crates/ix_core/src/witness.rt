@@ -12,6 +12,10 @@ pub trait Witness {
     /// What a witness knows of a history whose entries it has seen since it was the first.
     ghost knows: { Self → History → Self → Type 0 };
 
+    /// Is about to see the next entry: the seat that makes the call, and the line of the script from which it comes. The call isn't
+    /// made yet. Contracts learn nothing of it.
+    fn before(&self, _seat: u32, _line: u32) {}
+
     /// Sees an entry that was just made: the core after it, the line of the script that it comes from, the calling process, the
     /// seat, the call, the reply, and the bytes that were read. Of a history of which it knew before, it knows with that entry.
     fn see(

@@ -14,6 +14,7 @@ use crate::task::Telling;
 use ix_core::Core;
 use ix_io::Sink;
 use ix_model::NoMemory;
+use ix_parallel::Watch;
 use ix_policy::Policy;
 use ix_replay::{Tally, replay, summary};
 use ix_script::Script;
@@ -71,20 +72,22 @@ fn sum_up_again<K: Sink>(
     }
 }
 
-/// Runs the lanes of a script one after the other, and tells what is to be told of the serial history to which they come.
-pub fn tell_serial<K: Sink>(
+/// Runs the lanes of a script one after the other, and tells what is to be told of the serial history to which they come. Where that is a
+/// report, the watch is told of each call before it is made.
+pub fn tell_serial<K: Sink, W: Watch>(
     alloc: Global,
     sink: &mut K,
     telling: Telling,
     script: &Script<'_>,
     policy: Option<&Policy>,
+    watch: &W,
 ) -> Status
     requires policy { option_map (λ p. p.now) policy ≡ rules_told script.now }
     ensures { Ends (outcome.Whole (text_told telling script.now (serial script.now))) result (K.taken sink.old) (K.taken sink.new)
         (K.finished sink.new) (K.faults sink.old) (K.faults sink.new) }
 {
     match telling {
-        Telling::Report => report_serial(alloc, sink, script, policy),
+        Telling::Report => report_serial(alloc, sink, script, policy, watch),
         Telling::Summary(count) => sum_up_serial(alloc, sink, count, script, policy),
     }
 }

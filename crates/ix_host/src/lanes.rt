@@ -40,8 +40,8 @@ fn lanes_command(alloc: Global, words: &Words) -> Result<Option<Command>, NoMemo
     Ok(only_run(words.command(alloc)?))
 }
 
-/// Runs the lanes of a script, and tells what is to be told of the history to which they come. One lane alone has nothing to run beside:
-/// its history is the serial one, which is told while it is made.
+/// Runs the lanes of a script, and reports the history that they make. One lane alone has nothing to run beside: its history is the serial
+/// one, which is reported while it is made. The watch is told of each call either way.
 fn tell_lanes<K: Sink, W: Watch, R: Threads + Wait + Sync>(
     rt: &R,
     alloc: Global,
@@ -56,7 +56,7 @@ fn tell_lanes<K: Sink, W: Watch, R: Threads + Wait + Sync>(
         (K.taken sink.old) (K.taken sink.new) (K.finished sink.new) (K.faults sink.old) (K.faults sink.new)) }
 {
     if script.lanes() <= 1 {
-        return tell_serial(alloc, sink, telling, script, policy);
+        return tell_serial(alloc, sink, telling, script, policy, watch);
     }
     match run_history(rt, alloc, script, policy, watch) {
         Ok(history) => conclude(alloc, sink, telling, script, &history),
@@ -65,8 +65,9 @@ fn tell_lanes<K: Sink, W: Watch, R: Threads + Wait + Sync>(
 }
 
 /// Does what the words ask: `run` reads a script from the source, runs it, and writes the report of the history that came about to
-/// the sink. The lanes of a phase run side by side, where threads can be started, and the next phase begins when all of them have
-/// ended. All else is answered by the usage line. It waits for the lanes, and may so never return.
+/// the sink. Each lane that has a line in a phase runs on a thread of its own, where threads can be started, and the next phase begins when
+/// all of them have ended. The watch is told of each call of each lane before it is made. All else is answered by the usage line. It waits
+/// for the lanes, and may so never return.
 pub fn run_lanes<S: Source, K: Sink, W: Watch, R: Threads + Wait + Sync>(
     rt: &R,
     alloc: Global,

@@ -21,6 +21,7 @@ use ix_check::laws::texts_are_judged;
 use ix_flow::laws::lines_are_accounted_for;
 use ix_image::laws::written_is_read;
 use ix_io::{Sink, Source};
+use ix_parallel::NoWatch;
 use ix_twin::laws::{twin_lines, twins_are_compared};
 use std::alloc::Global;
 
@@ -94,7 +95,7 @@ pub fn run_serial<S: Source, K: Sink>(
     match prepare(alloc, usage, asked, source, sink, &mut input) {
         Task::Ended(status) => status,
         Task::Run(telling, script, policy) => {
-            tell_serial(alloc, sink, telling, &script, policy.as_ref())
+            tell_serial(alloc, sink, telling, &script, policy.as_ref(), &NoWatch)
         }
     }
 }

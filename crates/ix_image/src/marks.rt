@@ -3,8 +3,8 @@ ghost use Rattle.ix_image.specs.{Meant.{Gives}, Reading.{flag_at, set_at, marks_
 
 use crate::fault::Fault;
 use crate::fields::small_at;
-use bitflags::Flags;
 use ix_model::PrivSet;
+use ix_text::set_of_bits;
 
 /// All five privileges.
 const ALL_FIVE: u8 = 31;
@@ -34,7 +34,7 @@ fn set_at(bytes: &[u8]) -> Result<(PrivSet, &[u8]), Fault>
     ensures { Gives (λ x. (x.0, x.1.now)) result (set_at bytes.now) }
 {
     let (number, rest) = small_at(ALL_FIVE, bytes)?;
-    Ok((PrivSet::from_bits_retain(number), rest))
+    Ok((set_of_bits(number), rest))
 }
 
 /// The marks of an object.

@@ -13,6 +13,7 @@ use bitflags::Flags;
 use ix_core::Core;
 use ix_model::{FsSpec, Kind, Name, NoMemory, Obj, ObjView, PrivSet};
 use ix_report::Line;
+use ix_text::set_of_bits;
 use std::alloc::Global;
 
 /// How many bytes of a file are written at once.
@@ -136,7 +137,7 @@ pub fn write_name(
 fn the_five(set: PrivSet) -> PrivSet
     ensures { result ≡ the_five set }
 {
-    PrivSet::from_bits_retain(set.bits() & 31)
+    set_of_bits(set.bits())
 }
 
 /// Whether it is that of a directory.
@@ -174,7 +175,7 @@ fn push_head(line: &mut Line, core: &Core, n: u32, view: &ObjView) -> Result<(),
 fn sets(core: &Core, n: u32) -> (PrivSet, PrivSet)
     ensures { (x : Object) → at (world_of core.now).frame.objects n ≡ Some x → result ≡ (x.cap, x.lic) }
 {
-    let none = PrivSet::from_bits_retain(0);
+    let none = PrivSet::empty();
     core.privs(Obj(n)).unwrap_or((none, none))
 }
 

@@ -370,3 +370,32 @@ fn a_full_journal_is_told(rt: HostRuntime) {
         None => panic!(rt; "no memory"),
     }
 }
+
+/// What the one seat of a kernel is told of two calls, without waiting, and how many were made.
+fn alone(alloc: Global, journal: u64) -> Option<(Answer, Answer, u32)> {
+    let core = boot(alloc, journal)?;
+    let Ok((kernel, mut seats)) = Kernel::new(alloc, core, 1) else {
+        return None;
+    };
+    let mut seat = seats.pop()?;
+    let mut buf = [0; 4096];
+    let first = seat
+        .try_call(&kernel, 1, Pid(1), &create(1), &mut buf)
+        .ok()?;
+    let second = seat
+        .try_call(&kernel, 2, Pid(1), &create(2), &mut buf)
+        .ok()?;
+    Some((first, second, kernel.close(seat).len()))
+}
+
+#[test]
+fn one_seat_is_never_busy(rt: HostRuntime) {
+    let Some((first, second, made_in_all)) = alone(rt.alloc(), 200) else {
+        panic!(rt; "no memory, or a busy kernel");
+    };
+    assert!(rt; made(&first) == Some(1));
+    assert!(rt;
+        matches!(second, Answer::JournalFull { used, need, cap } if (used, need, cap) == (130, 130, 200))
+    );
+    assert!(rt; made_in_all == 1);
+}

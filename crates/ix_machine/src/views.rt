@@ -1,4 +1,4 @@
-ghost use Rattle.std.specs.{Prelude.{◌≡◌, ◌++◌, length, take, drop, min, Some, slice_get}, Option.{option_and_then, option_map}};
+ghost use Rattle.std.specs.{Prelude.{◌≡◌, ◌++◌, length, take, drop, min, None, Some, slice_get}, Option.{option_and_then, option_map}};
 ghost use Rattle.ix_model.specs.{history.Views.{bytes_inside, names_there}, world.{Directories.{IsBehind}, NameRefs.{name_of}, World.{at}}};
 
 use crate::machine::Machine;
@@ -26,7 +26,8 @@ impl Machine {
     /// The name behind one that a directory has, in its order of making; `None` behind the last, and where no directory is
     /// there. It costs no walk.
     pub fn named_after(&self, dir: Obj, name: &NameRef<'_>) -> Option<(Name, Obj)>
-        ensures { (names : _) → names_there self.now.frame.objects dir.0 ≡ Some names → IsBehind names (name_of name.now) (option_map (λ e. (e.0, e.1.0)) result) }
+        ensures next { (names : _) → names_there self.now.frame.objects dir.0 ≡ Some names → IsBehind names (name_of name.now) (option_map (λ e. (e.0, e.1.0)) result) }
+        ensures nowhere { names_there self.now.frame.objects dir.0 ≡ None → result ≡ None }
     {
         self.files.named_after(dir, name)
     }

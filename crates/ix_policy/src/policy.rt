@@ -97,7 +97,16 @@ impl Policy {
         Some(rule.privs)
     }
 
-    fn numbered(&self, rule: u32) -> Option<&Rule>
+    /// The rules, in order: number 1 is at 0. There are at most 256.
+    pub fn rules(&self) -> &[Rule]
+        ensures rules { result.now ≡ self.now }
+        ensures few { length self.now ≤ 256 }
+    {
+        self.rules.as_slice()
+    }
+
+    /// The rule of a number, from 1; `None` exactly where there is no such rule.
+    pub fn numbered(&self, rule: u32) -> Option<&Rule>
         ensures { option_copied result ≡ numbered self.now rule }
     {
         if rule == 0 {

@@ -65,8 +65,8 @@ fn add_object(alloc: Global, objects: &mut List<ObjSpec>, line: &Line<'_>) -> Re
             dir: true,
             label: label.label(),
             frozen: *frozen,
-            cap: PrivSet::from_bits_retain(0),
-            lic: PrivSet::from_bits_retain(0),
+            cap: PrivSet::empty(),
+            lic: PrivSet::empty(),
             bytes: Contents::new(alloc),
         }),
         Line::File {

@@ -31,6 +31,7 @@ fn step<W: Witness>(
         return false;
     };
     let (seat, line, pid) = (caller.seat, caller.line, caller.pid);
+    witness.before(seat, line);
     let Answer::Given(reply) = &core.call(seat, line, pid, &call, buf) else {
         unreachable!()
     };

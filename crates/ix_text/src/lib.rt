@@ -10,5 +10,5 @@ mod spelling;
 pub use bytes::{begins, is, is_digit};
 pub use labels::{label_in, push_label};
 pub use names::{is_reserved, is_script_name, name_of};
-pub use privs::privs_of;
+pub use privs::{privs_of, set_of_bits};
 pub use spelling::{hex_pair, mode_word, privs_text, state_word};

@@ -14,6 +14,7 @@ use ix_core::{Core, Witness};
 use ix_io::Sink;
 use ix_label::Form;
 use ix_model::{Call, NoMemory, Pid, Reply};
+use ix_parallel::{NoWatch, Watch};
 use ix_policy::Policy;
 use ix_replay::{Closing, push_entry, replay};
 use ix_report::head;
@@ -23,9 +24,11 @@ use std::alloc::Global;
 
 /// What tells the report of a script while its entries are made.
 #[derive(Drop)]
-struct Teller<'a, K: Sink> {
+struct Teller<'a, K: Sink, W> {
     script: &'a Script<'a>,
     sink: &'a mut K,
+    /// What is told of each call before it is made.
+    watch: &'a W,
     /// What was told and isn't written yet.
     waiting: &'a mut Vec<u8>,
     failure: Option<Failure>,
@@ -40,9 +43,14 @@ fn begun(alloc: Global, form: Form) -> Result<Vec<u8>, NoMemory>
     Ok(waiting)
 }
 
-impl<'a, K: Sink> Teller<'a, K> {
+impl<'a, K: Sink, W> Teller<'a, K, W> {
     /// One to which nothing has happened yet, of what waits to be written.
-    fn new(script: &'a Script<'a>, sink: &'a mut K, waiting: &'a mut Vec<u8>) -> Teller<'a, K>
+    fn new(
+        script: &'a Script<'a>,
+        sink: &'a mut K,
+        watch: &'a W,
+        waiting: &'a mut Vec<u8>,
+    ) -> Teller<'a, K, W>
         ensures script { result.script.now ≡ script.now }
         ensures sink { (result.sink.ghost_name ≡ sink.entry.ghost_name) × (result.sink.now ≡ sink.old) }
         ensures waiting { (result.waiting.ghost_name ≡ waiting.entry.ghost_name) × (result.waiting.now.items ≡ waiting.old.items) }
@@ -51,13 +59,14 @@ impl<'a, K: Sink> Teller<'a, K> {
         Teller {
             script,
             sink,
+            watch,
             waiting,
             failure: None,
         }
     }
 }
 
-impl<K: Sink> Teller<'_, K> {
+impl<K: Sink, W: Watch> Teller<'_, K, W> {
     /// Tells what closes the report of a history, and finishes.
     fn close(&mut self, history: &Core) -> Status
         ensures same { self.new.sink.ghost_name ≡ self.old.sink.ghost_name }
@@ -111,11 +120,15 @@ impl<K: Sink> Teller<'_, K> {
     }
 }
 
-impl<K: Sink> Witness for Teller<'_, K> {
+impl<K: Sink, W: Watch> Witness for Teller<'_, K, W> {
     ghost use Rattle.ix_host.specs.run.Teller.{HasTold};
 
     ghost knows = { λ first h t. (t.sink.ghost_name ≡ first.sink.ghost_name) × (t.script.now ≡ first.script.now)
         × HasTold first.script.now first.waiting.now.items h t.failure (K.taken first.sink.now) (K.taken t.sink.now) t.waiting.now.items (K.faults first.sink.now) (K.faults t.sink.now) };
+
+    fn before(&self, seat: u32, line: u32) {
+        self.watch.before(seat, line);
+    }
 
     fn see(
         &mut self,
@@ -136,12 +149,14 @@ impl<K: Sink> Witness for Teller<'_, K> {
     }
 }
 
-/// Runs the lanes of a script one after the other, and writes the report of that while it is made.
-pub fn report_serial<K: Sink>(
+/// Runs the lanes of a script one after the other, and writes the report of that while it is made. The watch is told of each call before it
+/// is made.
+pub fn report_serial<K: Sink, W: Watch>(
     alloc: Global,
     sink: &mut K,
     script: &Script<'_>,
     policy: Option<&Policy>,
+    watch: &W,
 ) -> Status
     requires policy { option_map (λ p. p.now) policy ≡ rules_told script.now }
     ensures { Ends (outcome.Whole (report_of script.now (serial script.now))) result (K.taken sink.old) (K.taken sink.new)
@@ -150,7 +165,7 @@ pub fn report_serial<K: Sink>(
     let Ok(mut waiting) = begun(alloc, script.form()) else {
         return Status::NoMemory;
     };
-    Teller::new(script, sink, &mut waiting).tell_serial(alloc, policy)
+    Teller::new(script, sink, watch, &mut waiting).tell_serial(alloc, policy)
 }
 
 /// Writes the report of a history of a script, which is made once more for that.
@@ -163,5 +178,5 @@ pub fn report<K: Sink>(alloc: Global, sink: &mut K, script: &Script<'_>, history
     let Ok(mut waiting) = begun(alloc, script.form()) else {
         return Status::NoMemory;
     };
-    Teller::new(script, sink, &mut waiting).tell_again(alloc, history)
+    Teller::new(script, sink, &NoWatch, &mut waiting).tell_again(alloc, history)
 }

@@ -201,14 +201,6 @@ impl<'a> LaneCalls<'a> {
         has_part(self.script, self.lane, self.here.come, phase)
     }
 
-    /// How many lines its next stretch has, where that begins in a phase or before it.
-    pub(crate) fn lines_ahead(&self, phase: u32) -> u32 {
-        match self.script.stretch(self.lane, self.here.come) {
-            Some(stretch) if stretch.phase <= phase => stretch.end.saturating_sub(stretch.first),
-            _ => 0,
-        }
-    }
-
     /// The index of the first line that it doesn't ask for.
     pub fn end(&self) -> u32
         ensures { result ≡ self.now.end }

@@ -73,11 +73,6 @@ impl<'a> LaneRun<'a> {
         self.calls.has_lines_in(phase)
     }
 
-    /// How many lines the lane has in its next phase, which is that of a number, as far as its next stretch tells.
-    pub(crate) fn lines_ahead(&self, phase: u32) -> u32 {
-        self.calls.lines_ahead(phase)
-    }
-
     /// Runs the lines of the lane in its next phase. `None`: they are all done. `Some` is the stop of one of their calls: of the
     /// lines' calls those before it were made, and no more are. After it the run isn't gone on with. It takes no memory.
     ///

@@ -39,7 +39,7 @@ fn has_file(script: &Script<'_>) -> bool {
         Some(Line::File { bytes, cap, .. }) if bytes.len() == 3 => {
             let mut buf = [0; 3];
             bytes.decode(&mut buf);
-            buf == *b"aA\n" && cap == PrivSet::from_bits_retain(1)
+            buf == *b"aA\n" && cap == PrivSet::DOWN
         }
         _ => false,
     }
