@@ -27,10 +27,12 @@ class Table:
 
 
 def cells_of(line):
+    """The cells of a line of a table."""
     return [it.strip() for it in line.strip().strip("|").split("|")]
 
 
 def row_of(cells):
+    """The line of these cells."""
     return "| " + " | ".join(str(cell) for cell in cells) + " |"
 
 

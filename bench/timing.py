@@ -22,6 +22,7 @@ def timed(program, words, text=b""):
 
 
 def processor(program, words, text=b""):
+    """Milliseconds of the processor alone."""
     return timed(program, words, text)[0]
 
 
@@ -31,4 +32,5 @@ def least(program, words, text=b"", runs=5):
 
 
 def text_of(lines):
+    """The bytes of a script of these lines."""
     return ("\n".join(lines) + "\n").encode()
