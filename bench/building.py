@@ -8,13 +8,14 @@ TOP = os.path.join(os.path.dirname(os.path.abspath(__file__)), "..")
 
 
 def write(path, text):
+    """Writes a text into a file, and makes the folders on its path."""
     os.makedirs(os.path.dirname(path), exist_ok=True)
     with open(path, "w", encoding="utf-8") as it:
         it.write(text)
 
 
-def build(folder, name, libraries, main, proofs):
-    """Writes the program of that name into a copy of the repository, and builds it there. `proofs` are texts by paths."""
+def build(folder, name, libraries, sources, proofs):
+    """Writes the program of that name into a copy of the repository, and builds it there. `sources` and `proofs` are texts by paths."""
     unneeded = shutil.ignore_patterns("out", "must-fail")
     shutil.copytree(os.path.join(TOP, "crates"), os.path.join(folder, "crates"), ignore=unneeded)
     shutil.copy(os.path.join(TOP, "HANDLES"), folder)
@@ -22,7 +23,8 @@ def build(folder, name, libraries, main, proofs):
         listed = it.read()
     write(os.path.join(folder, "crates.txt"), listed + "%s: %s\n" % (name, libraries))
     program = os.path.join(folder, "crates", name)
-    write(os.path.join(program, "src/main.rt"), main)
+    for path, text in sources.items():
+        write(os.path.join(program, "src", path), text)
     for path, text in proofs.items():
         write(os.path.join(program, "proofs", path), text)
     built = subprocess.run(["rt", "run"], cwd=program, stdout=subprocess.PIPE, stderr=subprocess.STDOUT, text=True)

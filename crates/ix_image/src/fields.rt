@@ -68,7 +68,8 @@ pub fn number_at(least: u32, most: u32, bytes: &[u8]) -> Result<(u32, &[u8]), Fa
 /// A number of one byte.
 #[tactic(auto, unfolding(crate::specs::Reading::small_at))]
 pub fn small_at(most: u8, bytes: &[u8]) -> Result<(u8, &[u8]), Fault>
-    ensures { Gives (λ x. (x.0, x.1.now)) result (small_at most bytes.now) }
+    ensures number { Gives (λ x. (x.0, x.1.now)) result (small_at most bytes.now) }
+    ensures within { IfOk result (λ x. x.0 ≤ most) }
 {
     match bytes {
         [] => Err(Fault::at_end(MISSING)),

@@ -10,6 +10,6 @@ loop-preserved c =
     record {
       long = c.mark.auto.named ∙ c.loop.invariant.long;
       next = next_there w _ _ _ _ _ (names_are w _ _ (sym c.in-Some.ensures)).0
-          (subst (λ name. slice_get (names_at w c.args.dir.0) c.loop.counter ≡ Some (name, c.in-Some-next.entry.1.0)) (sym c.as_ref.ensures) here) c.named_after-next.ensures;
+          (subst (λ name. slice_get (names_at w c.args.dir.0) c.loop.counter ≡ Some (name, c.in-Some-next.entry.1.0)) (sym c.as_ref.ensures) here) c.named_after-next.ensures.next;
       marks = one_marked (names_at w c.args.dir.0) c.loop.counter _ _ _ _ here c.loop.invariant.long c.mark.ensures c.loop.invariant.marks;
     }
