@@ -53,3 +53,9 @@ class Program:
 def ended(text):
     """A text whose last line ends in a line feed."""
     return text if text.endswith("\n") else text + "\n"
+
+
+def halves(text):
+    """The two scripts of a pair, which a line `twin` keeps apart; without one the second has no line."""
+    first, _, second = text.partition("\ntwin\n")
+    return first + "\n", second
