@@ -40,10 +40,9 @@ def ordered(program, script, text, partial=False):
     """The report and the flow of the order in which a report's entries stand."""
     body = Body(script)
     entries = entries_of(script, text)
-    last = entries[-1].line if entries else 0
-    several = partial and not reaches_the_end(text) and bool(last)
+    unfinished = {entry.line for entry in entries[-1:]} if partial and not reaches_the_end(text) else ()
     try:
-        writer = pinned.pin(body, entries, several)
+        writer = pinned.pin(body, entries, unfinished)
     except pinned.Unpinned as fault:
         raise Wrong(f"the order of the report can't be written as a script: {fault}") from fault
     report = pinned.renumbered(program.answer("run", writer.text()), writer.origins)

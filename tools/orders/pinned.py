@@ -19,8 +19,8 @@ class Writer:
         self.origins = [None] * len(self.lines)
         self.lane = None
         self.names = {}  # by lane: what process each name stands for
-        self.fresh = 0
         self.processes = {}
+        self.divided = False  # whether some line's calls are written one by one
         for line in body.header:
             if line.startswith("proc "):
                 self.processes[line.split(" ")[1]] = len(self.processes) + 1
@@ -47,22 +47,31 @@ class Writer:
 
     def call(self, lane, number, text):
         """One call of a line of the script."""
+        self.divided = True
         self.begin(lane)
         self.add(text, number)
 
+    def known(self, lane):
+        """The process that each name stands for in a lane."""
+        return {**self.processes, **self.names.get(lane, {})}
+
     def name_of(self, lane, process):
         """A name that stands for a process in a lane; `process` is a word of a report."""
-        pid = int(process[1:])
-        for name, known in {**self.processes, **self.names.get(lane, {})}.items():
-            if known == pid:
+        for name, pid in self.known(lane).items():
+            if pid == int(process[1:]):
                 return name
         raise Unpinned(f"no name stands for {process} in the lane {lane}")
 
+    def bind(self, lane, name, entries):
+        """Keeps which process a name stands for, by the `fork` among the entries that named it; one that has to exit is none."""
+        made = [entry for entry in entries if entry.verb == "fork" and entry.reply and entry.reply[0] == "number"]
+        lives = made and not any(entry.verb == "exit" for entry in entries)
+        self.names.setdefault(lane, {})[name] = int(made[0].reply[1]) if lives else 0
+
     def learn(self, lane, number, entries):
-        """Keeps which process the name of a `fork` or `login` stands for."""
-        made = [entry for entry in entries if entry.verb == "fork" and entry.reply[0] == "number"]
+        """Keeps what the name of a `fork` or `login` stands for."""
         for name in self.body.names(number) if self.body.verb(number) in ("fork", "login") else []:
-            self.names.setdefault(lane, {})[name] = int(made[0].reply[1]) if made else 0
+            self.bind(lane, name, entries)
 
     def text(self):
         return "".join(line + "\n" for line in self.lines)
@@ -73,9 +82,9 @@ def call_of(writer, lane, number, entry):
     words = writer.body.words(number)
     if entry.verb == "fork":
         name = (writer.body.names(number) or [f"forked_{number}"])[0]
-        writer.names.setdefault(lane, {})[name] = int(entry.reply[1]) if entry.reply[0] == "number" else 0
+        writer.bind(lane, name, [entry])
         return f"fork {words[1]} {entry.words[0]} as {name}"
-    known = {**writer.processes, **writer.names.get(lane, {})}
+    known = writer.known(lane)
     caller = words[1] if known.get(words[1]) == entry.caller else writer.name_of(lane, f"p{entry.caller}")
     said = [writer.name_of(lane, word) if entry.verb in ("grant", "ceiling") and at == 0 else word for at, word in enumerate(entry.words)]
     return " ".join([entry.verb, caller] + said)
@@ -92,10 +101,10 @@ def groups(entries):
     return found
 
 
-def pin(body, entries, partial=False):
+def pin(body, entries, unfinished=()):
     """A writer that holds the calls of the entries in their order, and nothing after them.
 
-    Where the entries are `partial`, the line of the last one may have more calls, which are left out.
+    The lines that are `unfinished` may have more calls, which are left out.
     """
     writer = Writer(body)
     runs = groups(entries)
@@ -104,21 +113,20 @@ def pin(body, entries, partial=False):
         count[run[0].line] = count.get(run[0].line, 0) + 1
     for run in runs:
         lane, number = run[0].lane, run[0].line
-        divided = count[number] > 1 or partial and run is runs[-1]
-        if divided and body.verb(number) in SEVERAL:
+        if (count[number] > 1 or number in unfinished) and body.verb(number) in SEVERAL:
             for entry in run:
                 writer.call(lane, number, call_of(writer, lane, number, entry))
         else:
             writer.whole(lane, number)
             writer.learn(lane, number, run)
-    check_names(body, entries, count)
+    check_names(body, entries, {number for number in count if count[number] > 1 and number not in unfinished})
     return writer
 
 
-def check_names(body, entries, count):
+def check_names(body, entries, divided):
     """A divided `login` that was not granted leaves its name for no process, which no other line can do."""
-    for number in count:
-        if count[number] > 1 and body.verb(number) == "login" and body.names(number):
+    for number in divided:
+        if body.verb(number) == "login" and body.names(number):
             made = [entry for entry in entries if entry.line == number]
             forked = any(entry.verb == "fork" and entry.reply[0] == "number" for entry in made)
             if not forked or any(entry.verb == "exit" for entry in made):
