@@ -51,10 +51,11 @@ class Object(Column):
 
 
 class Opened:
-    """An open entry."""
+    """An open entry. Its end, mode and offset are kept by whoever follows contents too."""
 
     def __init__(self, thing):
         self.thing, self.label, self.holders = thing, frozenset(), 0
+        self.end, self.mode, self.offset = 0, "rw", 0
 
 
 class Task(Column):
