@@ -4,6 +4,7 @@ It tries one order of each class in which orders differ by exchanges of calls th
 and sleep sets. Each order is tried as a pinned script. Nothing is proved of the search: what it finds has to be judged by `check`.
 """
 import math
+import random
 import re
 from collections import namedtuple
 
@@ -14,6 +15,7 @@ from .body import Body
 from .program import Wrong
 
 MOST = {"copy": 2, "priv": 5, "login": 9}  # how many calls a line makes at most
+PROBES = 64  # how many orders that lie far apart are tried first
 HEADINGS = ("objects", "processes", "log")
 
 # `place` counts from 0; `touch` is what the call looks at and what it changes.
@@ -52,6 +54,16 @@ def placeless(report):
         part = line if line in HEADINGS else part
         placed = part == "entries" or part == "log" and line != "log" and not line.startswith("end ")
         yield (line.split(" ", 1)[1] if placed else line), line
+
+
+def mixed(phase, at):
+    """A phase's lines in some order: the lanes backwards, by turns, or as a sequence of numbers tells that is always the same."""
+    left = {lane: list(numbers) for lane, numbers in reversed(phase.items())}
+    numbers = random.Random(at)
+    while any(left.values()):
+        lanes = [lane for lane in left if left[lane]]
+        lane = lanes[0] if at == 0 else max(lanes, key=lambda each: len(left[each])) if at == 1 else numbers.choice(lanes)
+        yield lane, left[lane].pop(0)
 
 
 class Node:
@@ -174,7 +186,7 @@ class Search:
         """The report of an order that answers the question, or None. What was tried is counted."""
         nodes, steps = [], []
         try:
-            found = self.try_order(nodes, steps, [], None)
+            found = self.try_order(nodes, steps, [], None) or self.probe()
             while found is None:
                 at = next((at for at in reversed(range(len(nodes))) if nodes[at].wanted - set(nodes[at].sleep)), None)
                 self.stopped = at is not None and len(self.tried) >= self.budget
@@ -185,6 +197,22 @@ class Search:
             return found
         except (history.Strange, pinned.Unpinned) as fault:
             raise Wrong(f"an order can't be followed: {fault}") from fault
+
+    def probe(self):
+        """Tries some orders that lie far apart, where there are more than the budget, since the search begins at an order's end."""
+        if self.most() <= self.budget:
+            return None
+        for at in range(min(PROBES, self.budget // 4)):
+            writer = pinned.Writer(self.body)
+            for phase in self.body.phases:
+                for lane, number in mixed(phase, at):
+                    writer.whole(lane, number)
+            report = self.run(writer)
+            self.tried.append(report)
+            if self.question.answer(report):
+                self.order = writer
+                return report
+        return None
 
     def branch(self, nodes, steps, at, lane):
         """Tries an order that leaves the last one at a step, with another lane."""
