@@ -101,7 +101,7 @@ class Panel {
       return row;
     });
     this.log.append(...this.logLines);
-    if (!this.logLines.length) this.log.append(made("li", "empty", "No line: nothing was let down, granted or thawed."));
+    if (!this.logLines.length) this.log.append(made("li", "empty", "The log has no line."));
   }
 
   show(at) {
