@@ -13,6 +13,9 @@ from . import forms, header, policies, words
 # The column from 0, how many characters are marked there, and notes for people. Without a column nothing is marked.
 Found = namedtuple("Found", "at length notes")
 
+# No payload is counted further.
+MANY = 10**9
+
 
 class Line:
     """A line with a fault, and what the lines before it say."""
@@ -50,7 +53,7 @@ def near(word, known):
 def described(kind):
     """What a word of a kind is, in words."""
     text = forms.kinds().get(kind)
-    return f"{kind} is {text}" if text else f"{kind} is one of {', '.join(kind.split('|'))}"
+    return f"{kind}: {text}" if text else f"one of {', '.join(kind.split('|'))}"
 
 
 # ---- rules on bytes, and on how a line is cut
@@ -148,7 +151,7 @@ def most_bytes(line):
 def label_notes(line, word):
     """What may be wrong with a label's text."""
     greatest = line.before.greatest
-    notes = [f"LABEL is {forms.kinds()['LABEL']}, whose categories go to {greatest}"]
+    notes = [f"{described('LABEL')}, whose categories go to {greatest}"]
     try:
         label = labels.parse(word, 10**6) if len(word) < 4000 and "-" not in (word[:1], word[-1:]) else None
     except (ValueError, MemoryError):
@@ -163,16 +166,16 @@ def word_notes(rule, line, at, kind):
     word = line.texts[at]
     if rule == 13:
         low, high = (0, 255) if "FD" in kind else forms.bounds(line.words, at)
-        return [f"expected a number from {low:,} to {high:,}"]
+        return [f"the number goes from {low:,} to {high:,}"]
     if rule == 14:
         return label_notes(line, word)
     if rule == 17:
         choices = tuple(forms.LIMITS) if kind == "WHAT" else ("free", "frozen") if kind == "STATE" else ("r", "w", "rw")
-        return ["expected one of " + ", ".join(choices)] + near(word, choices)
+        return ["one of " + ", ".join(choices)] + near(word, choices)
     if rule == 19:
-        return [f"at most {most_bytes(line):,} bytes may stand here, and these are {words.payload(word):,}"]
+        return [f"at most {most_bytes(line):,} bytes may stand here, and these are {min(words.payload(word), MANY):,}" + " or more" * (words.payload(word) >= MANY)]
     if rule == 16 and line.texts[0] in ("dir", "file") and words.is_path(word):
-        return ["expected an absolute path with a name"]
+        return ["the path is absolute, and has a name"]
     return [described("FD" if "FD" in kind else kind)]
 
 
@@ -254,7 +257,7 @@ def no_room(line):
 
 def out_of_order(line):
     expected = "`ix`, `limit` lines, `fs` lines, and then the others"
-    return line.word(0, f"expected in this order: {expected}; line {line.before.later} is of a later group")
+    return line.word(0, f"expected in this order: {expected}; line {line.before.later[line.texts[0]]} is of a later group")
 
 
 def too_many(line):
@@ -294,3 +297,8 @@ def explain(lines, number, text):
         return EXPLAINED[rule](line) if rule in EXPLAINED else wrong_word(rule, line)
     except (LookupError, ValueError, StopIteration, AttributeError, TypeError):
         return None
+
+
+def rule_of(text):
+    """The number of a rule by its text, or None."""
+    return forms.rules().get(text)

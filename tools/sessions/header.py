@@ -16,7 +16,8 @@ class Before:
         self.greatest = 255
         self.systems, self.limits, self.limited = [], {}, {}
         self.processes, self.objects = {}, {}
-        self.policy = self.phase = self.lane = self.later = None
+        self.policy = self.phase = self.lane = None
+        self.later = {}   # the first line of a later group than that of `limit` or `fs` lines
         self.phase_lanes, self.lanes, self.system_lines = {}, {}, {}
         self.descriptors, self.children = {}, {}
         self.commands = 0
@@ -60,22 +61,27 @@ class Before:
     def on_fs(self, number, said):
         self.systems.append(System(said[1], self.label(said[2]), int(said[3]), int(said[4])))
         self.system_lines[said[1]] = number
-        self.later = self.later or number
+        self.later.setdefault("limit", number)
+
+    def goes_on(self, number):
+        """A line of the last group."""
+        self.later.setdefault("limit", number)
+        self.later.setdefault("fs", number)
 
     def on_proc(self, number, said):
         self.processes[said[1]] = number
-        self.later = self.later or number
+        self.goes_on(number)
 
     def on_dir(self, number, said):
         size = words.payload(said[6]) if said[0] == "file" else 0
         self.objects[said[1]] = Object(number, said[0], size)
-        self.later = self.later or number
+        self.goes_on(number)
 
     on_file = on_dir
 
     def on_policy(self, number, said):
         self.policy = number
-        self.later = self.later or number
+        self.goes_on(number)
 
     def on_phase(self, number, said):
         self.phase = self.phase or number

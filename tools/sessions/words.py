@@ -76,10 +76,10 @@ def is_path(word):
 
 
 def payload(word):
-    """How many bytes a payload has, or None where the word isn't one. A count may be too great to be made."""
+    """How many bytes a payload has, or None where the word isn't one. Of a count of more than 20 digits these alone are taken."""
     found = re.fullmatch(r"(0|[1-9][0-9]*)\*[0-9a-fA-F]{2}", word)
     if found:
-        return int(found[1]) if len(found[1]) < 20 else 10**20
+        return int(found[1][:20])
     if re.fullmatch("x(?:[0-9a-fA-F]{2})*", word):
         return len(word) // 2
     if not re.fullmatch(r'"(?:[^"\\]|\\[\\"n]|\\x[0-9a-fA-F]{2})*"', word):
