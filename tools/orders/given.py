@@ -2,6 +2,7 @@
 from collections import namedtuple
 
 from drawing import session
+from sessions import pinning
 
 from . import pinned
 from .body import Body
@@ -27,26 +28,23 @@ def of_report(program, script, report):
     lines = report.split("\n")
     claimed = lines[line - 1] if line <= len(lines) else ""
     begun = "\n".join(lines[:line - 1])
-    whole, flow = ordered(program, script, begun, True)
+    whole, flow = ordered(program, script, begun)
     right = stands_there(program, script, begun, claimed, whole, line)
-    return Given(whole, flow, line, claimed, right, max(0, report.count("\n") - line))
+    return Given(whole, flow, line, claimed, right or None, max(0, report.count("\n") - line))
 
 
 def entries_of(script, text):
     return session.Report(text, 511 if script.startswith("ix 2") else 255).entries
 
 
-def ordered(program, script, text, partial=False):
+def ordered(program, script, text):
     """The report and the flow of the order in which a report's entries stand."""
-    body = Body(script)
-    entries = entries_of(script, text)
-    unfinished = {entry.line for entry in entries[-1:]} if partial and not reaches_the_end(text) else ()
     try:
-        writer = pinned.pin(body, entries, unfinished)
-    except pinned.Unpinned as fault:
+        pin = pinning.pinned(script, pinning.entry_lines(text))
+    except pinning.CannotPin as fault:
         raise Wrong(f"the order of the report can't be written as a script: {fault}") from fault
-    report = pinned.renumbered(program.answer("run", writer.text()), writer.origins)
-    return report, program.answer("flow", writer.text())
+    numbers = [entry.line for entry in entries_of(script, text)]
+    return pinned.renumbered(program.answer("run", pin), numbers), program.answer("flow", pin)
 
 
 def reaches_the_end(text):
@@ -56,21 +54,28 @@ def reaches_the_end(text):
 def stands_there(program, script, begun, claimed, whole, line):
     """The line that the program prints where the refused one stands, or None where nothing can stand there."""
     body, entries = Body(script), entries_of(script, begun)
-    made = {entry.line for entry in entries}
-    if line == 1 or reaches_the_end(begun) or made == set(body.phase_of):
-        right = (whole.split("\n") + [""] * line)[line - 1]
-        return right if right != claimed and right else None
-    words = claimed.split(" ")
-    if len(words) < 3 or not words[2].isdecimal() or not may_come(body, entries, words[1], int(words[2])):
+    all_made = {entry.line for entry in entries} == set(body.phase_of)
+    found, words = None, claimed.split(" ")
+    if all_made and entries:
+        found = entry_there(program, body, entries, entries[-1].lane, entries[-1].line)
+    elif len(words) > 2 and words[2].isdecimal():
+        found = entry_there(program, body, entries, words[1], int(words[2]))
+    if found is None and (line == 1 or reaches_the_end(begun) or all_made):
+        found = (whole.split("\n") + [""] * line)[line - 1]
+    return found if found != claimed else None
+
+
+def entry_there(program, body, entries, lane, number):
+    """The entry that a line of a lane has after the entries, or None where it can have none."""
+    if not may_come(body, entries, lane, number):
         return None
-    number = int(words[2])
     try:
         writer = pinned.pin(body, [entry for entry in entries if entry.line != number])
     except pinned.Unpinned:
         return None
-    writer.whole(words[1], number)
-    lines = pinned.renumbered(program.answer("run", writer.text()), writer.origins).split("\n")
-    return lines[line - 1] if line < len(lines) and " @ " in lines[line - 1] else None
+    writer.whole(lane, number)
+    following = writer.report(program).split("\n")[len(entries) + 1]
+    return following if " @ " in following else None
 
 
 def may_come(body, entries, lane, number):

@@ -1,7 +1,8 @@
-"""Pinned scripts: of a script and the order in which its calls came, a script of which that order is the only one.
+"""Scripts in which some calls have come in a fixed order, and after which lanes may go on by the lines of the script that are left.
 
 Each stretch of one lane becomes a phase with that lane alone. A line whose calls came without another lane's between them stays as
-it is. The calls of a `copy`, `priv` or `login` that others came between are written one by one, as the entries say them.
+it is, so that its names serve the lines after it. The calls of a `copy`, `priv` or `login` that others came between are written one
+by one, as the entries say them. Where nothing is to follow `sessions.pinning` makes the script of a whole report.
 """
 from .body import SEVERAL
 
@@ -76,6 +77,12 @@ class Writer:
     def text(self):
         return "".join(line + "\n" for line in self.lines)
 
+    def report(self, program):
+        """What the program prints of it, with the numbers of the lines that it is made of."""
+        report = program.answer("run", self.text())
+        own = [int(line.split(" ", 3)[2]) for line in report.partition("\nobjects\n")[0].split("\n")[1:]]
+        return renumbered(report, [self.origins[number - 1] for number in own])
+
 
 def call_of(writer, lane, number, entry):
     """The command of one entry of a `copy`, `priv` or `login`."""
@@ -133,12 +140,10 @@ def check_names(body, entries, divided):
                 raise Unpinned(f"the login of line {number} was not granted, and another lane's calls came between its own")
 
 
-def renumbered(report, origins):
-    """A report of a pinned script with the numbers of the script's lines that it was made of."""
+def renumbered(report, numbers):
+    """A report of a pinned script in which its entries have, one after the other, these numbers of lines."""
     lines = report.split("\n")
-    for at, line in enumerate(lines[1:], 1):
-        if line == "objects":
-            break
-        words = line.split(" ", 3)
-        lines[at] = " ".join([words[0], words[1], str(origins[int(words[2]) - 1]), words[3]])
+    for at, number in enumerate(numbers, 1):
+        place, lane, _, rest = lines[at].split(" ", 3)
+        lines[at] = f"{place} {lane} {number} {rest}"
     return "\n".join(lines)

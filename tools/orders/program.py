@@ -1,10 +1,5 @@
-"""Runs `ixone`: the program that is named, the proved one where it is built, or else the one that `rt try` compiles."""
-import os
-import subprocess
-
-TOP = os.path.realpath(os.path.join(os.path.dirname(os.path.abspath(__file__)), "..", ".."))
-HOME = os.path.join(TOP, "crates", "ixone")
-BUILT = os.path.join(HOME, "out", "ixone")
+"""What `ixone` answers to texts, for tools that can't go on where it refuses its input."""
+from sessions import programs
 
 
 class Wrong(Exception):
@@ -23,26 +18,24 @@ def read(path):
 
 
 class Program:
-    """`ixone`; `path` is the one to run, or None for the environment's IXONE, or the one that is built."""
+    """`ixone`; `path` is the one to run, or None for the environment's IXONE, or the one that is built, or else what `rt try` compiles."""
 
     def __init__(self, path=None):
-        path = path or os.environ.get("IXONE")
-        if path is not None or os.path.exists(BUILT):
-            self.words, self.home = [path or BUILT], None
-        else:
-            self.words, self.home = ["rt", "try", "--"], HOME
+        self.found = programs.find("ixone", path)
+
+    def is_compiled(self):
+        return programs.is_compiled(self.found)
 
     def answer(self, command, text):
         """What the program prints of an input; a refusal is raised with the program's own words."""
-        words = self.words + command.split(" ")
         try:
-            done = subprocess.run(words, input=text.encode("ascii"), capture_output=True, cwd=self.home, check=False)
-        except OSError as fault:
-            raise Wrong(f"{' '.join(words)}: {fault.strerror}") from fault
-        if done.returncode != 0:
-            told = done.stdout.decode("utf-8", "replace").strip()
-            raise Wrong(told or f"{' '.join(words)} ended with status {done.returncode}")
-        return done.stdout.decode("ascii")
+            done = programs.run(self.found, command.split(" "), text.encode("ascii"))
+        except programs.NotThere as fault:
+            raise Wrong(str(fault)) from fault
+        if done.status != 0:
+            told = done.out.decode("utf-8", "replace").strip()
+            raise Wrong(told or f"{' '.join(self.found.words)} {command} ended with status {done.status}")
+        return done.out.decode("ascii")
 
     def refused_line(self, script, report):
         """The first line at which a text stops being a report of a script, or None where it is one."""

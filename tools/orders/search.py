@@ -120,10 +120,6 @@ class Search:
                 return left
         return {}
 
-    def run(self, writer):
-        """The report of a pinned script, with the script's own numbers of lines."""
-        return pinned.renumbered(self.program.answer("run", writer.text()), writer.origins)
-
     def entries_of(self, report):
         return session.Report(report, self.script.greatest).entries
 
@@ -141,7 +137,7 @@ class Search:
             call = servers.next_call(self.body, self.policy, halfway)
             writer = pinned.pin(self.body, entries, self.unfinished(entries))
             writer.call(lane, call.line, pinned.call_of(writer, lane, call.line, call))
-            entries = self.entries_of(self.run(writer))
+            entries = self.entries_of(writer.report(self.program))
             halfway = halfway + entries[-1:]
             halfway = halfway if servers.next_call(self.body, self.policy, halfway) else None
         if not numbers:
@@ -149,7 +145,7 @@ class Search:
         writer = pinned.pin(self.body, entries, self.unfinished(entries))
         for number in numbers:
             writer.whole(lane, number)
-        return self.entries_of(self.run(writer))
+        return self.entries_of(writer.report(self.program))
 
     def complete(self, entries, lane):
         """The report of an order that begins with some entries and goes on with a lane."""
@@ -165,7 +161,7 @@ class Search:
                 for number in phase[name]:
                     if number not in made:
                         writer.whole(name, number)
-        return self.run(writer), writer
+        return writer.report(self.program), writer
 
     # The search.
 
@@ -207,7 +203,7 @@ class Search:
             for phase in self.body.phases:
                 for lane, number in mixed(phase, at):
                     writer.whole(lane, number)
-            report = self.run(writer)
+            report = writer.report(self.program)
             self.tried.append(report)
             if self.question.answer(report):
                 self.order = writer

@@ -6,8 +6,9 @@ import json
 import re
 
 from drawing import labels, session
+from sessions import words
+from sessions.words import LETTERS
 
-LETTERS = "DPCTL"
 WANT, LOGIN = "want ", "login "
 
 
@@ -33,12 +34,12 @@ class Policy:
 
 def next_call(body, policy, entries):
     """The next call of a line that has made these entries, as an entry without a reply, or None where it has made all."""
-    words = body.words(entries[0].line)
-    if words[0] == "copy":
+    said = body.words(entries[0].line)
+    if said[0] == "copy":
         read = entries[0].reply
         found = ("write", entries[0].caller, [descriptor(body, entries), read[2]]) if len(entries) == 1 and read[0] == "bytes" and read[1] != "0" else None
-    elif words[0] in ("priv", "login"):
-        found = serve(policy, words, entries)
+    elif said[0] in ("priv", "login"):
+        found = serve(policy, said, entries)
     else:
         found = None
     if found is None:
@@ -51,7 +52,7 @@ def descriptor(body, entries):
     return body.words(entries[0].line)[3]
 
 
-def serve(policy, words, entries):
+def serve(policy, said, entries):
     """The next call of a server: its verb, its caller and its words."""
     server, fd, last = entries[0].caller, entries[0].words[0], entries[-1]
     verbs = [entry.verb for entry in entries]
@@ -61,13 +62,13 @@ def serve(policy, words, entries):
         return "read", server, [fd, "64"]
     if last.verb == "write":
         return "unpex", server, [fd]
-    asked = asks(policy, words[0], entries[0], entries[1])
+    asked = asks(policy, said[0], entries[0], entries[1])
     if isinstance(asked, str):
         return tell(server, fd, asked)
     number, rule, who, want = asked
-    if words[0] == "priv":
+    if said[0] == "priv":
         return grant(server, fd, number, who, want, entries[2:])
-    return open_session(server, fd, words[3], number, rule, entries[2:])
+    return open_session(server, fd, said[3], number, rule, entries[2:])
 
 
 def tell(server, fd, text):
@@ -106,10 +107,10 @@ def prefix_of_login(message):
     """The same of a message that asks for a session."""
     if not message.startswith(LOGIN):
         return common(message, LOGIN)
-    name = re.match(r"[a-z][a-z0-9_]{0,15}", message[len(LOGIN):])
-    at = len(LOGIN) + (len(name[0]) if name else 0)
-    right = at == len(message) and name and name[0] not in ("all", "none", "as")
-    return None if right else at
+    if words.is_name(message[len(LOGIN):]):
+        return None
+    begun = re.match(r"([a-z][a-z0-9_]{0,15})?", message[len(LOGIN):])[0]
+    return len(LOGIN) + len(begun)
 
 
 def grant(server, fd, number, who, want, made):

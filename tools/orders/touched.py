@@ -6,6 +6,7 @@ limit (pids, inodes, pipes, blocks, names, open entries, the log). The numbers o
 shared only where their limit may be reached.
 """
 from drawing import history
+from sessions import words
 
 CHANGED = {"setlabel", "freeze", "thaw", "setpriv", "unlink", "rmdir", "link"}  # calls that change the object of their path
 PLACED = {"create", "mkdir", "unlink", "rmdir", "link"}                        # calls that change the directory of their last path
@@ -33,26 +34,20 @@ class Limits:
         furthest, written, files = 0, 0, 0
         for line in body.header:
             if line.startswith("file "):
-                furthest, files = max(furthest, size(line.split(" ", 6)[6])), files + 1
+                furthest, files = max(furthest, words.payload(line.split(" ", 6)[6])), files + 1
         for number in body.phase_of:
-            words = body.words(number)
-            files += words[0] == "create"
-            if words[0] in ("cut", "seek"):
-                furthest = max(furthest, int(words[3]))
-            elif words[0] == "copy":
-                written += min(int(words[4]), 4096)
-            elif words[0] == "write":
-                written += size(body.lines[number - 1].split(" ", 3)[3])
-            elif words[0] in ("priv", "login"):
+            said = body.words(number)
+            files += said[0] == "create"
+            if said[0] in ("cut", "seek"):
+                furthest = max(furthest, int(said[3]))
+            elif said[0] == "copy":
+                written += min(int(said[4]), 4096)
+            elif said[0] == "write":
+                written += words.payload(body.lines[number - 1].split(" ", 3)[3])
+            elif said[0] in ("priv", "login"):
                 written += 64
         blocks = [int(line.split(" ")[3]) for line in body.header if line.startswith("fs ")] or [4096]
         return files * -(-(furthest + written) // BLOCK) > min(blocks)
-
-
-def size(payload):
-    """How many bytes a payload has, or more."""
-    count = payload.partition("*")[0]
-    return int(count) if count.isdecimal() else len(payload)
 
 
 class Tracker:
