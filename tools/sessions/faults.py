@@ -68,7 +68,8 @@ def long_line(line):
 
 def unprintable(line):
     at = next(at for at, sign in enumerate(line.text) if not " " <= sign <= "~")
-    return Found(at, 1, [f"byte {ord(line.text[at]):02x} is neither a space nor a visible character of ASCII"])
+    is_return = line.text[at:] == "\r"
+    return Found(at, 1, [f"byte {ord(line.text[at]):02x} is neither a space nor a visible character of ASCII"] + ["a line ends in a line feed alone"] * is_return)
 
 
 def empty_word(line):
