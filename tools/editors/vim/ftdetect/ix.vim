@@ -1,0 +1,2 @@
+" Session scripts of Rugcobi.
+autocmd BufRead,BufNewFile *.ix setfiletype ix
