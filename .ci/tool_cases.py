@@ -100,6 +100,7 @@ RULES = [
     (1, 1, "ix 1\n" + "\n" * 16777216, None, "at most 16,777,216 bytes"),
     (2, 2, "ix 1\n#" + "x" * 65540 + "\n", "x", "this one has 65,541"),
     (3, 6, HEAD + "open a /s\tr as f\n", "\\x09", "byte 09 is neither a space nor a visible character"),
+    (3, 6, HEAD + "self a\r\n", "\\x0d", "a line ends in a line feed alone"),
     (4, 6, HEAD + "open a  /s r\n", " ", "one space stands between two words"),
     (4, 6, HEAD + "open a /s r \n", " ", "one space stands between two words"),
     (4, 2, "ix 1\n phase\n", " ", "none before the first"),

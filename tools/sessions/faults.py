@@ -20,8 +20,8 @@ MANY = 10**9
 class Line:
     """A line with a fault, and what the lines before it say."""
 
-    def __init__(self, text, number, before):
-        self.text, self.number, self.before = text, number, before
+    def __init__(self, text, before):
+        self.text, self.before = text, before
         self.words = words.cut(text)
         self.texts = [word.text for word in self.words]
         self.form = forms.forms().get(self.texts[0]) if self.words else None
@@ -68,7 +68,8 @@ def long_line(line):
 
 def unprintable(line):
     at = next(at for at, sign in enumerate(line.text) if not " " <= sign <= "~")
-    return Found(at, 1, [f"byte {ord(line.text[at]):02x} is neither a space nor a visible character of ASCII"])
+    is_return = line.text[at:] == "\r"
+    return Found(at, 1, [f"byte {ord(line.text[at]):02x} is neither a space nor a visible character of ASCII"] + ["a line ends in a line feed alone"] * is_return)
 
 
 def empty_word(line):
@@ -173,7 +174,8 @@ def word_notes(rule, line, at, kind):
         choices = tuple(forms.LIMITS) if kind == "WHAT" else ("free", "frozen") if kind == "STATE" else ("r", "w", "rw")
         return ["one of " + ", ".join(choices)] + near(word, choices)
     if rule == 19:
-        return [f"at most {most_bytes(line):,} bytes may stand here, and these are {min(words.payload(word), MANY):,}" + " or more" * (words.payload(word) >= MANY)]
+        size = words.payload(word)
+        return [f"at most {most_bytes(line):,} bytes may stand here, and these are {min(size, MANY):,}" + (" or more" if size >= MANY else "")]
     if rule == 16 and line.texts[0] in ("dir", "file") and words.is_path(word):
         return ["the path is absolute, and has a name"]
     return [described("FD" if "FD" in kind else kind)]
@@ -293,9 +295,9 @@ def explain(lines, number, text):
     try:
         for at, line in enumerate(lines[:number - 1], 1):
             before.add(at, line)
-        line = Line(lines[number - 1], number, before)
+        line = Line(lines[number - 1], before)
         return EXPLAINED[rule](line) if rule in EXPLAINED else wrong_word(rule, line)
-    except (LookupError, ValueError, StopIteration, AttributeError, TypeError):
+    except (LookupError, ValueError, StopIteration):
         return None
 
 

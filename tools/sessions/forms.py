@@ -77,10 +77,3 @@ def bounds(words, at):
 def arity(form):
     """How many words a line of a form has without `as` and its names."""
     return 1 + len(form.own)
-
-
-def has_right_count(form, texts):
-    own = arity(form)
-    if len(texts) == own:
-        return True
-    return bool(form.named) and len(texts) == own + 1 + len(form.named) and texts[own] == "as"

@@ -8,7 +8,7 @@ import re
 
 from drawing import session
 
-from . import forms, words
+from . import words
 
 MOST_COMMANDS = 200000
 MOST_BYTES = 16777216

@@ -7,10 +7,6 @@ from drawing import labels
 # `at` is the column of the first character, from 0.
 Word = namedtuple("Word", "text at")
 
-LETTERS = "DPCTL"
-GREATEST_NUMBER = 4294967295
-ESCAPED = {"\\": b"\\", '"': b'"', "n": b"\n"}
-
 
 def cut(line):
     """The words of a line. A word that begins with a quote goes to the quote that closes it, spaces and all."""

@@ -168,6 +168,11 @@ pub fn report_serial<K: Sink, W: Watch>(
     Teller::new(script, sink, watch, &mut waiting).tell_serial(alloc, policy)
 }
 
+/// A watch of which nothing is made.
+fn nobody<'a>() -> &'a NoWatch {
+    &NoWatch
+}
+
 /// Writes the report of a history of a script, which is made once more for that.
 pub fn report<K: Sink>(alloc: Global, sink: &mut K, script: &Script<'_>, history: &Core) -> Status
     requires config { history.now.config ≡ config_of script.now }
@@ -178,5 +183,5 @@ pub fn report<K: Sink>(alloc: Global, sink: &mut K, script: &Script<'_>, history
     let Ok(mut waiting) = begun(alloc, script.form()) else {
         return Status::NoMemory;
     };
-    Teller::new(script, sink, &NoWatch, &mut waiting).tell_again(alloc, history)
+    Teller::new(script, sink, nobody(), &mut waiting).tell_again(alloc, history)
 }
