@@ -43,7 +43,7 @@ def line(x1, y1, x2, y2, class_):
 
 def way(stops, class_):
     """A broken line by way of some places."""
-    return tag("path", d="M" + "L".join(f"{number(x)} {number(y)}" for x, y in stops), class_=class_)
+    return tag("path", d="m" + "L".join(f"{number(x)} {number(y)}" for x, y in stops), class_=class_)
 
 
 def head_down(x, y):

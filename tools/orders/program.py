@@ -38,8 +38,12 @@ class Program:
         return done.out.decode("ascii")
 
     def refused_line(self, script, report):
-        """The first line at which a text stops being a report of a script, or None where it is one."""
-        word, number = self.answer("check", ended(script) + report).split()
+        """The first line at which a text stops being a report of a script, or None where it is one.
+
+        A text that doesn't begin as a report would be taken for more of the script, and is left out: `check` says no 1 then.
+        """
+        begins = report.split("\n")[0] in ("ix 1 report", "ix 2 report")
+        word, number = self.answer("check", ended(script) + (report if begins else "")).split()
         return None if word == "yes" else int(number)
 
 
