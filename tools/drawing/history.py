@@ -51,10 +51,11 @@ class Object(Column):
 
 
 class Opened:
-    """An open entry."""
+    """An open entry. Its end, mode and offset are kept by whoever follows contents too."""
 
     def __init__(self, thing):
         self.thing, self.label, self.holders = thing, frozenset(), 0
+        self.end, self.mode, self.offset = 0, "rw", 0
 
 
 class Task(Column):
@@ -325,6 +326,12 @@ def follow(script, report):
         if release is not None:
             event.release = release
         events.append(event)
+    compare(world, report)
+    return events, world.columns
+
+
+def compare(world, report):
+    """Looks whether what was followed is what the report tells of the end."""
     for number, label in report.objects.items():
         if number not in world.objects or world.objects[number].label != label:
             raise Strange(f"the label of object {number} was followed to another one than the report's")
@@ -333,4 +340,3 @@ def follow(script, report):
             raise Strange(f"the label of process {pid} was followed to another one than the report's")
     if set(world.objects) != set(report.objects):
         raise Strange("other objects were followed than stand in the report")
-    return events, world.columns

@@ -45,7 +45,7 @@ def letters(index):
 
 
 class Key:
-    """The labels of a session in the order in which they came, each with its look and a text of at most four signs."""
+    """The labels of a session in the order in which they came, each with its look and a text of at most four signs, or `bottom`."""
 
     def __init__(self, greatest):
         self.greatest = greatest
@@ -55,11 +55,12 @@ class Key:
     def add(self, label):
         if label not in self.order:
             self.order[label] = sum(1 for old in self.order if old) + 1 if label else 0
-            if len(self.text(label)) > 4:
+            if label and len(self.text(label)) > 4:
                 self.codes[label] = letters(len(self.codes))
 
     def text(self, label):
-        return spell(label, self.greatest)
+        """A label in words for people: its spelling, or `bottom`."""
+        return spell(label, self.greatest) if label else "bottom"
 
     def short(self, label):
         return self.codes.get(label) or self.text(label)

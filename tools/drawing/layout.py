@@ -4,20 +4,23 @@ import textwrap
 from . import svg
 
 MARGIN = 10
-NARROW, BROAD = 48, 84   # how wide a column may be
+NARROW, BROAD = 56, 84   # how wide a column may be
+TRACK = 18               # how wide the track of a lane is where lanes have numbers; else its name decides
+NAMED_LANES = 6          # up to so many lanes have their names above their tracks
 LEAST = 380              # the least width of a picture: a phone's
-NOTE = 22                # how many signs a note has at most
+NOTE = 32                # how many signs a note has at most
 NOTE_SIZE = 10.5
-PLAIN, TAGGED, BAND, HEADS = 20, 38, 18, 45
+PLAIN, TAGGED, BAND, HEADS = 20, 40, 18, 45
+LEAD = 6                 # the room above a row to which an arrow of flow comes down
 REPEAT = 900             # after so many units the names of the columns are told again
 
 
 class Row:
     """A row of an event (`event`), of a band of text (`band`), or of the names of columns (neither)."""
 
-    def __init__(self, top, height, event=None, band=None):
-        self.top, self.height, self.event, self.band = top, height, event, band
-        self.middle = top + 10
+    def __init__(self, top, height, event=None, band=None, lead=0):
+        self.top, self.height, self.event, self.band = top, height + lead, event, band
+        self.middle = top + lead + 10
 
 
 def shorten(text, most, tail=False):
@@ -38,33 +41,42 @@ def in_two(name, most):
     return [name[:cut], name[cut:]]
 
 
-class Layout:
-    """The places of columns, of which the last entry's number may need more than usual."""
+def wrap(text, width, size):
+    """A text in lines that are no wider."""
+    return textwrap.wrap(text, int(width / (size * svg.SIGN))) if text else []
 
-    def __init__(self, columns, last):
-        self.columns = columns
+
+class Layout:
+    """The places of lanes and columns. The last entry's number may need more than usual; `below` says of which ceilings are told."""
+
+    def __init__(self, columns, lanes, last, below):
+        self.columns, self.lanes = columns, lanes
         note = svg.wide("m" * NOTE, NOTE_SIZE) + 8
-        least = max(NARROW, svg.wide(str(last), 10) + 30)
+        self.named = len(lanes) <= NAMED_LANES
+        self.track = max([TRACK] + [min(56, svg.wide(name, 9.5) + 6) for name in lanes]) if self.named else TRACK
+        least = max(NARROW, svg.wide(str(last), 10) + 34)
         count = max(1, len(columns))
-        broad = (LEAST - 2 * MARGIN - note) / count
+        self.left = MARGIN + (len(lanes) * self.track + 8 if lanes else 0)
+        broad = (LEAST - self.left - MARGIN - note) / count
         self.step = max(least, min(BROAD, broad))
-        self.left = MARGIN
-        self.right = MARGIN + count * self.step
+        self.right = self.left + count * self.step
         self.width = max(LEAST, self.right + note + MARGIN)
-        self.note_at = self.right + 6
+        self.note_at = self.right + 8
         self.at = {column: self.left + (index + 0.5) * self.step for index, column in enumerate(columns)}
-        self.name_signs = int((self.step - 2) / (NOTE_SIZE * svg.SIGN))
+        self.lane_at = {name: MARGIN + (index + 0.5) * self.track for index, name in enumerate(lanes)}
+        self.name_signs = int((self.step - 10) / (NOTE_SIZE * svg.SIGN))
         self.heads = HEADS + 11 * any(len(column.name) > self.name_signs for column in columns)
+        self.heads += 22 * any(below(column) is not None for column in columns)
         self.rows = []
         self.row_of = {}
 
-    def wrap(self, text, size):
-        return textwrap.wrap(text, int((self.width - 2 * MARGIN) / (size * svg.SIGN))) if text else []
+    def gutter(self, index):
+        """The middle of the room before a column, by its index."""
+        return self.left + index * self.step
 
-    def place(self, top, events, lines_of, tagged, band_of):
+    def place(self, top, events, height_of, lead_of, band_of):
         """Gives each event its row, below `top`."""
-        self.top = top
-        y = top + self.heads + 20
+        y = top + self.heads + 22
         self.rows.append(Row(top, self.heads))
         told, last_band = top, None
         for event in events:
@@ -77,12 +89,10 @@ class Layout:
                 self.rows.append(Row(y, BAND, band=band))
                 y += BAND + 2
             last_band = band
-            lines = lines_of(event)
-            height = max(PLAIN + 13 * (len(lines) - 1), TAGGED if tagged(event) else PLAIN)
-            row = Row(y, height, event)
+            row = Row(y, height_of(event), event, lead=lead_of(event))
             self.rows.append(row)
             self.row_of[event.entry.place] = row
-            y += height
+            y += row.height
         self.bottom = y + 6
         self.plot_top = top + self.heads
 
@@ -92,3 +102,8 @@ class Layout:
             return self.row_of[place].middle
         first = next(iter(self.row_of), 0)
         return self.plot_top if place < first else self.bottom
+
+
+def height(lines, tagged):
+    """The height of a row with so many lines of notes."""
+    return max(PLAIN + 13 * (lines - 1), TAGGED if tagged else PLAIN)

@@ -1,25 +1,17 @@
-"""One SVG of a session."""
+"""One session drawn: its columns, entries and flows."""
 from . import layout as places
 from . import notes, svg
 from .labels import Key, parse
-from .layout import Layout, MARGIN, shorten
+from .layout import Layout, shorten
+from .routes import ABOVE, Gutters
 
 BYTES = 64  # so many bytes of a line stand in a title at most
 
 
-class Picture:
-    def __init__(self, name, script, events, columns, flows, readers, first, last):
-        self.name, self.script, self.all_columns = name, script, columns
-        self.events = [event for event in events if first <= event.entry.place <= last]
-        self.first, self.count, self.top = first, len(events), parse("*", script.greatest)
-        self.by_place = {event.entry.place: event for event in events}
-        self.key = self.key_of(events)
-        self.sort_flows(flows, readers)
-        self.columns = self.shown()
-        self.bands = len(script.lanes) > 1 or max(script.phases.values(), default=0) > 1
-
-    def key_of(self, events):
-        key = Key(self.script.greatest)
+def key_of(histories, greatest):
+    """The labels of one session or of several, each a list of events."""
+    key = Key(greatest)
+    for events in histories:
         for event in events:
             for column in event.columns():
                 key.add(column.label_before(event.entry.place))
@@ -27,7 +19,24 @@ class Picture:
                 key.add(label)
             for column in event.made:
                 key.add(column.labels[0][1])
-        return key
+    return key
+
+
+class Picture:
+    """What is drawn of one history: the entries from `first` to `last`, and the flows of the readers that are asked for."""
+
+    def __init__(self, script, history, flows, readers, bounds, key):
+        self.script, (events, self.all_columns), self.key = script, history, key
+        self.first, last = bounds
+        self.events = [event for event in events if self.first <= event.entry.place <= last]
+        self.count, self.top = len(events), parse("*", script.greatest)
+        self.by_place = {event.entry.place: event for event in events}
+        self.sort_flows(flows, readers)
+        self.columns = self.shown()
+        self.lanes = self.lanes_shown() if len(script.lanes) > 1 else []
+        self.banded = max(script.phases.values(), default=0) > 1
+        last_place = self.events[-1].entry.place if self.events else 0
+        self.layout = Layout(self.columns, self.lanes, last_place, self.ceiling)
 
     def sort_flows(self, flows, readers):
         """Each line about a read that is shown is drawn, where its reader was asked for, or else told in the title of the read."""
@@ -48,55 +57,45 @@ class Picture:
             columns.update(dict.fromkeys(event.columns()))
         return list(columns)
 
+    def lanes_shown(self):
+        """The lanes that make the entries, in the order of the script's lines."""
+        made = {event.entry.lane for event in self.events}
+        return [lane for lane in self.script.lanes if lane in made]
+
+    def ceiling(self, column):
+        """The ceiling that a column begins with, in words, or None where it is the top."""
+        begins = column.begins_below(self.top)
+        return None if begins is None else self.key.text(begins)
+
     # The whole.
 
-    def draw(self):
+    def height_of(self, event):
+        return places.height(len(notes.lines(event, self.key)), bool(event.changes or event.made))
+
+    def lead_of(self, event):
+        return places.LEAD if event.entry.place in self.drawn else 0
+
+    def plot(self, top, height_of=None, lead_of=None):
+        """Draws everything below `top`, and answers it."""
         self.out = []
-        last = self.events[-1].entry.place if self.events else 0
-        self.layout = Layout(self.columns, last)
-        self.layout.place(self.header(), self.events, lambda event: notes.lines(event, self.key), self.tagged, self.band)
+        self.layout.place(top, self.events, height_of or self.height_of, lead_of or self.lead_of, self.band)
         self.guides()
+        self.tracks()
         self.bars()
-        for alike in self.drawn.values():
-            for index, flow in enumerate(alike):
-                self.flow(flow, 4 * (index - (len(alike) - 1) / 2))
         for event in self.events:
             self.out.append(self.entry(event))
         self.heads()
-        return self.document()
-
-    def tagged(self, event):
-        return bool(event.changes or event.made)
+        self.flows()
+        return self.out
 
     def band(self, event):
-        if not self.bands:
-            return None
-        return f"phase {self.script.phases[event.entry.line]}, lane {event.entry.lane}"
-
-    def document(self):
-        width, height = self.layout.width, self.layout.bottom + MARGIN
-        scale = 1.2
-        opening = (f'<svg xmlns="http://www.w3.org/2000/svg" viewBox="0 0 {svg.number(width)} {svg.number(height)}" '
-                   f'width="{svg.number(width * scale)}" height="{svg.number(height * scale)}" role="img" '
-                   'style="max-width:100%;height:auto">')
-        parts = [opening, svg.title(f"{self.name}: {self.summary()}"), f"<style>{svg.STYLE}</style>", self.patterns(),
-                 svg.tag("rect", width=float(width), height=float(height), fill="#fff")]
-        return "\n".join(part for part in parts + self.out if part) + "\n</svg>\n"
-
-    def patterns(self):
-        made = []
-        for label in self.key.order:
-            colour, hatch = self.key.look(label)
-            if hatch:
-                inside = svg.tag("rect", width=8, height=8, fill=colour) + svg.tag("path", d=hatch, stroke="#000", stroke_width=1.6)
-                made.append(svg.tag("pattern", inside, id=f"l{self.key.order[label]}", width=8, height=8, patternUnits="userSpaceOnUse"))
-        return svg.tag("defs", "".join(made)) if made else ""
+        return f"phase {self.script.phases[event.entry.line]}" if self.banded else None
 
     def fill(self, label):
         colour, hatch = self.key.look(label)
         return f"url(#l{self.key.order[label]})" if hatch else colour
 
-    # Above the columns.
+    # What a legend says.
 
     def summary(self):
         reads = sum(1 for event in self.events if event.entry.verb == "read" and event.moved)
@@ -111,21 +110,6 @@ class Picture:
         return (f"{part}: {several(reads, 'read')} and {several(writes, 'write')} moved bytes, "
                 f"{several(floats, 'float')}, {refused} refused, {several(released, 'release')}")
 
-    def header(self):
-        """Writes what stands above the columns, and answers where that ends."""
-        y = 26
-        signs = int((self.layout.width - 2 * MARGIN) / (16 * svg.SIGN))
-        self.out.append(svg.words(MARGIN, y, shorten(self.name, signs), "head"))
-        for line in self.layout.wrap(self.script.comment(), 11)[:5]:
-            y += 15
-            self.out.append(svg.words(MARGIN, y, line, "say"))
-        y += 3
-        for line in self.layout.wrap(self.summary(), 10.5):
-            y += 14
-            self.out.append(svg.words(MARGIN, y, line, "note"))
-        y = self.items(y + 10, [self.label_item(label) for label in self.labels_shown()])
-        return self.items(y + 4, list(self.mark_items())) + 8
-
     def labels_shown(self):
         seen = set()
         for event in self.events:
@@ -136,82 +120,60 @@ class Picture:
                 seen.update(notes.crossed(self.key, old, new))
         return [label for label in sorted(self.key.order, key=self.key.order.get) if label in seen]
 
-    def items(self, y, items):
-        """Lays pairs of a drawing and its text out in lines, and answers where these end."""
-        x = MARGIN
-        for width, draw, text, whole in items:
-            whole_width = width + 5 + svg.wide(text, 10.5) + 14
-            if x > MARGIN and x + whole_width - 14 > self.layout.width - MARGIN:
-                x, y = MARGIN, y + 21
-            told = svg.title(whole) if whole else ""
-            self.out.append(svg.tag("g", told + draw(x, y + 8) + svg.words(x + width + 5, y + 12, text, "key")))
-            x += whole_width
-        return y + 21 if items else y
-
-    def label_item(self, label):
-        text, code = self.key.text(label), self.key.codes.get(label)
-        told = "bottom" if text == "-" else text
-        short = shorten((code + " is " if code else "") + ("- (bottom)" if text == "-" else text), 34)
-        swatch = lambda x, y: svg.tag("rect", x=x, y=y - 6.0, width=18, height=12, rx=2, class_="bar", fill=self.fill(label))
-        return 18, swatch, short, f"label {told}"
-
-    def mark_items(self):
-        """The marks that come in this picture, each with what it means."""
-        shapes = {notes.shape_of(event, old, new): self.key.short(new) for event in self.events for _, old, new in event.changes}
-        refused = any(event.refusal for event in self.events)
-        plain = any(not event.refusal for event in self.events)
-        if plain:
-            yield 18, lambda x, y: svg.badge(x + 9, y, "n", False)[0], "entry n, by its caller", None
-        if any(event.moved for event in self.events):
-            yield 26, lambda x, y: svg.arrow(x, x + 26, y, "moved"), "bytes moved", None
-        yield 26, lambda x, y: svg.line(x, y, x + 22, y, "looked") + self.dot(x + 23, y), "touched", None
-        if refused:
-            yield 36, lambda x, y: svg.badge(x + 9, y, "n", True)[0] + svg.cross(x + 28, y), "refused", None
-        for shape, text in (("up", "label floats"), ("asked", "label set higher"), ("down", "released: label let down")):
-            if shape in shapes:
-                half = svg.half_tag(shapes[shape])
-                yield 2 * half, lambda x, y, half=half, shape=shape: svg.label_tag(x + half, y - 8, shapes[shape], shape), text, None
-        if any(self.learners(event) for event in self.events):
-            yield 26, lambda x, y: svg.line(x, y, x + 26, y, "fall") + self.learns(x + 13, y), "may learn by a release", None
-        if any(self.is_licensed(event) for event in self.events):
-            yield 10, lambda x, y: self.logged(x + 1, y), "another line in the audit log", None
-        if self.drawn:
-            yield 26, lambda x, y: self.curve([(x, y - 3), (x + 26, y + 3)], "flow", flat=True), "whose bytes were learnt", None
-        if any(flow.via for alike in self.drawn.values() for flow in alike):
-            yield 26, lambda x, y: svg.line(x, y, x + 26, y, "flow let"), "the same, by a release", None
-
     # Columns.
 
     def guides(self):
         for row in self.layout.rows:
             if row.event is not None:
-                self.out.append(svg.line(self.layout.left, row.middle, self.layout.note_at - 3, row.middle, "guide"))
+                left = self.layout.lane_at.get(row.event.entry.lane, self.layout.left)
+                self.out.append(svg.line(left, row.middle, self.layout.note_at - 3, row.middle, "guide"))
+
+    def tracks(self):
+        """A line for each lane, and a mark on it at each entry that is one of its."""
+        for lane, x in self.layout.lane_at.items():
+            self.out.append(svg.line(x, self.layout.plot_top + 2, x, self.layout.bottom, "track"))
+        for row in self.layout.rows:
+            x = self.layout.lane_at.get(row.event.entry.lane) if row.event is not None else None
+            if x is not None:
+                self.out.append(svg.tag("rect", svg.title(f"lane {row.event.entry.lane}"), x=x - 4.0, y=row.middle - 5.0, width=8, height=10,
+                                        rx=2, class_="turn"))
 
     def heads(self):
         for row in self.layout.rows:
             if row.event is not None:
                 continue
             if row.band:
-                self.out.append(svg.line(self.layout.left, row.top + 9.5, self.layout.right, row.top + 9.5, "rule"))
+                self.out.append(svg.line(places.MARGIN, row.top + 9.5, self.layout.right, row.top + 9.5, "rule"))
                 told = svg.words(self.layout.note_at, row.top + 13, shorten(row.band, places.NOTE), "again")
                 self.out.append(svg.tag("g", svg.title(row.band) + told))
                 continue
             self.out.append(svg.tag("rect", x=0, y=float(row.top), width=float(self.layout.width), height=row.height - 2, fill="#fff"))
+            for index, lane in enumerate(self.lanes):
+                self.out.append(self.lane_head(index, lane, row.top))
             for column in self.columns:
                 self.out.append(self.head(column, row.top))
+
+    def lane_head(self, index, lane, top):
+        x, foot = self.layout.lane_at[lane], top + self.layout.heads - 6
+        signs = int(self.layout.track / (9.5 * svg.SIGN))
+        name = shorten(lane, signs) if self.layout.named else str(index + 1)
+        above = svg.words(x, foot - 11, "lane", "ident", "middle") if self.layout.track >= 4 * 9.5 * svg.SIGN + 2 else ""
+        return svg.tag("g", svg.title(f"lane {lane}") + above + svg.words(x, foot, name, "lane", "middle"))
 
     def head(self, column, top):
         x = self.layout.at[column]
         kind = {"dir": "directory"}.get(column.kind, column.kind)
         told = f"{kind} {column.name}, {column.ident()}" if column.kind != "pipe" else f"pipe {column.ident()}"
-        ceiling = column.begins_below(self.top)
-        below = "" if ceiling is None else " ≤" + self.key.text(ceiling)
-        told += f", with the ceiling {below[2:]}" if below else ""
+        ceiling = self.ceiling(column)
+        told += f", with the ceiling {ceiling}" if ceiling else ""
         parts = [svg.title(told), svg.icon(column.kind, x, top + 9)]
-        names = places.in_two(column.name, self.layout.name_signs)
-        for index, part in enumerate(names):
-            parts.append(svg.words(x, top + 29 + 11 * index, part, "name", "middle"))
-        parts.append(svg.words(x, top + 29 + 11 * len(names), shorten(column.ident() + below, self.layout.name_signs), "ident", "middle"))
+        y = top + 29
+        for part in places.in_two(column.name, self.layout.name_signs):
+            parts.append(svg.words(x, y, part, "name", "middle"))
+            y += 11
+        for part in [column.ident()] + (["ceiling", shorten(ceiling, self.layout.name_signs)] if ceiling else []):
+            parts.append(svg.words(x, y, part, "ident", "middle"))
+            y += 11
         return svg.tag("g", "".join(parts))
 
     def bars(self):
@@ -327,46 +289,39 @@ class Picture:
 
     # Flows.
 
-    def flow(self, flow, aside):
-        """An arrow, which ends so far aside of the middle of its reader's entry, or a little less."""
+    def flows(self):
+        """The arrows, upon all else: they go where nothing else stands."""
+        gutters = Gutters(self.layout)
+        for alike in self.drawn.values():
+            for index, flow in enumerate(alike):
+                aside = max(-6, min(6, 4 * (index - (len(alike) - 1) / 2)))
+                self.out.append(self.flow(flow, aside, gutters))
+
+    def flow(self, flow, aside, gutters):
         event = self.by_place[flow.place]
-        x, y = self.layout.at[event.actor], self.layout.y_of(flow.place) - 8
-        x += max(-7, min(7, aside))
-        stops = [self.source(flow, event)]
-        if flow.via is not None and flow.via in self.layout.row_of:
-            stops.append((self.layout.at[event.things[0]], self.layout.y_of(flow.via) + 8))
-        stops.append((x, y))
-        drawn = svg.title(flow.text) + self.curve(stops, "flow let" if flow.via is not None else "flow")
-        if flow.kind == "gap":
-            drawn += self.dot(*stops[0])
-        self.out.append(svg.tag("g", drawn, data_flow=flow.text))
-
-    def source(self, flow, event):
-        """Where a flow begins: at its writer's entry, at the top of the file that held it, or at the object that has the gap."""
+        reader = self.layout.at[event.actor], self.layout.y_of(flow.place)
         there = self.layout.at[event.things[0]]
-        if flow.kind == "write":
-            writer = self.by_place[flow.source]
-            if flow.source in self.layout.row_of:
-                return self.layout.at[writer.actor], self.layout.y_of(flow.source) + 8
-            return self.layout.at.get(writer.actor, there), self.layout.plot_top
-        if flow.kind == "file":
-            return there, self.layout.plot_top + 16
-        return there, self.layout.y_of(flow.place) - 14
+        passed = None
+        if flow.kind == "gap":
+            stops = [(there, reader[1] - ABOVE), (reader[0] + aside, reader[1] - ABOVE), (reader[0] + aside, reader[1] - 8)]
+        else:
+            through = (there, self.layout.y_of(flow.via)) if flow.via in self.layout.row_of else None
+            stops, passed = gutters.way(self.source(flow, there), reader, aside, through)
+        look = "flow let" if flow.via is not None else "flow"
+        drawn = svg.title(flow.text) + svg.way(stops, "flow-edge") + svg.way(stops, look) + svg.head_down(*stops[-1])
+        drawn += self.dot(*stops[0]) if flow.kind == "gap" else ""
+        drawn += svg.passed(*passed) if passed else ""
+        return svg.tag("g", drawn, data_flow=flow.text)
 
-    @staticmethod
-    def curve(stops, class_, flat=False):
-        x, y = stops[0]
-        way = svg.move(x, y)
-        for there, below in stops[1:]:
-            if flat:
-                way += svg.bend((x + there) / 2, y, (x + there) / 2, below, there, below)
-            else:
-                bow = 24 if abs(there - x) < 8 and below - y > 30 else 0
-                half = (below - y) / 2
-                way += svg.bend(x + bow, y + half, there + bow, below - max(half, 12), there, below)
-            x, y = there, below
-        head = [(x, y), (x - 7, y - 4), (x - 7, y + 4)] if flat else [(x, y + 1), (x - 4, y - 6), (x + 4, y - 6)]
-        return svg.tag("path", d=way, class_=class_) + svg.tag("polygon", points=svg.points(head), class_="flow-head")
+    def source(self, flow, there):
+        """Where a flow begins: under its writer's entry, or under the top of the file that held it."""
+        top = self.layout.plot_top + 16
+        if flow.kind == "file":
+            return there, top, top + 3
+        writer, row = self.by_place[flow.source], self.layout.row_of.get(flow.source)
+        if row is not None:
+            return self.layout.at[writer.actor], row.middle + 7.5, row.top + row.height
+        return self.layout.at.get(writer.actor, there), top, top + 3
 
 
 def shortened(text):

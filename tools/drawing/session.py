@@ -28,14 +28,14 @@ class Script:
         self.form = 2 if self.lines[0] == "ix 2" else 1
         self.greatest = 511 if self.form == 2 else 255
         self.systems, self.processes, self.objects = [], [], []
-        self.phases, self.lanes = {}, set()
+        self.phases, self.lanes = {}, []
         phase = 0
         for number, line in enumerate(self.lines, 1):
             words = line.split(" ")
             if words[0] == "phase":
                 phase += 1
             elif words[0] == "lane":
-                self.lanes.add(words[1])
+                self.lanes += [words[1]] if words[1] not in self.lanes else []
             self.phases[number] = phase
             if phase == 0:
                 self.header(words)

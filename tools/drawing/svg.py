@@ -1,7 +1,7 @@
 """The pieces of a picture as text. All text is of one width a sign, so that what fits is known without a browser."""
 from xml.sax.saxutils import escape
 
-INK, FAINT, GREY, ALARM, FLOW = "#1A1A1A", "#E4E4E4", "#666666", "#B3261E", "#0072B2"
+INK, FAINT, GREY, ALARM, FLOW = "#1A1A1A", "#E4E4E4", "#666666", "#B3261E", "#6A1B9A"
 SIGN = 0.62  # of the size of the letters: what one sign takes at most, in the fonts that are named
 
 
@@ -41,13 +41,19 @@ def line(x1, y1, x2, y2, class_):
     return tag("path", d=f"m{number(x1)} {number(y1)}L{number(x2)} {number(y2)}", class_=class_)
 
 
-def move(x, y):
-    return f"m{number(x)} {number(y)}"
+def way(stops, class_):
+    """A broken line by way of some places."""
+    return tag("path", d="m" + "L".join(f"{number(x)} {number(y)}" for x, y in stops), class_=class_)
 
 
-def bend(*numbers):
-    """A curve to a place by way of two others."""
-    return "C" + " ".join(number(value) for value in numbers)
+def head_down(x, y):
+    """The head of an arrow of flow, which ends at a place from above."""
+    return tag("polygon", points=points([(x, y + .5), (x - 4, y - 5), (x + 4, y - 5)]), class_="flow-head")
+
+
+def passed(x, y):
+    """The mark at which a flow goes through a release."""
+    return tag("polygon", points=points([(x, y - 5), (x + 5, y), (x, y + 5), (x - 5, y)]), class_="passed")
 
 
 def arrow(x1, x2, y, class_):
@@ -120,6 +126,8 @@ text{font-family:ui-monospace,Menlo,Consolas,"DejaVu Sans Mono","Liberation Mono
 .looked{stroke:#666;stroke-width:1.2;stroke-dasharray:2 3;fill:none}.dot{fill:#fff;stroke:#666;stroke-width:1.2}.end{stroke:#444;stroke-width:2.5}
 .cross{stroke:%(alarm)s;stroke-width:2.6;fill:none}.cross-edge{stroke:#fff;stroke-width:5.5;fill:none}
 .fall{stroke:%(alarm)s;stroke-width:1.4;stroke-dasharray:7 3;fill:none}.learns{fill:%(alarm)s;stroke:#fff;stroke-width:.8}.logged{fill:#fff;stroke:%(ink)s;stroke-width:1.2}
-.flow{stroke:%(flow)s;stroke-width:1.8;fill:none;stroke-opacity:.8}.flow-head{fill:%(flow)s}.let{stroke-dasharray:6 3}
+.flow{stroke:%(flow)s;stroke-width:1.8;fill:none;stroke-linejoin:round}.flow-edge{stroke:#fff;stroke-width:3.6;fill:none;stroke-linejoin:round}
+.flow-head{fill:%(flow)s}.let{stroke-dasharray:5 2.5}.passed{fill:#fff;stroke:%(flow)s;stroke-width:1.8}.lane{font-size:9.5px;font-weight:bold}.track{stroke:#bbb;stroke-width:1;fill:none}.turn{fill:#555;stroke:#fff;stroke-width:1}
+.wrong{fill:#FBE9E7;stroke:%(alarm)s;stroke-width:1.4}.same{font-size:11px;font-weight:bold}.other{font-size:13px;font-weight:bold;fill:%(alarm)s}
 .icon{fill:#fff;stroke:%(ink)s;stroke-width:1.2;stroke-linejoin:round}.icon-process{fill:%(ink)s}
 """ % {"ink": INK, "grey": GREY, "faint": FAINT, "alarm": ALARM, "flow": FLOW}
