@@ -371,31 +371,50 @@ fn a_full_journal_is_told(rt: HostRuntime) {
     }
 }
 
-/// What the one seat of a kernel is told of two calls, without waiting, and how many were made.
-fn alone(alloc: Global, journal: u64) -> Option<(Answer, Answer, u32)> {
+fn is_full_of_one(answer: &Answer) -> bool {
+    matches!(answer, Answer::JournalFull { used, need, cap } if (*used, *need, *cap) == (COST, COST, 200))
+}
+
+/// What the one seat of a kernel is told: of a call that waits for nobody, of another, and of one that may wait.
+fn make_alone<R: Wait>(rt: &R, kernel: &Kernel, seat: &mut KSeat) -> (Option<u64>, bool, Answer)
+    requires kernel { seat.old.gate ≡ kernel.now.id }
+    requires turns { seat.old.turns ≡ 0 }
+{
+    let mut buf = [0; 4096];
+    let number = match seat.try_call(kernel, 1, Pid(1), &create(1), &mut buf) {
+        Ok(answer) => made(&answer),
+        Err(_) => None,
+    };
+    let full = seat.turns() < 2
+        && match seat.try_call(kernel, 2, Pid(1), &create(2), &mut buf) {
+            Ok(answer) => is_full_of_one(&answer),
+            Err(_) => false,
+        };
+    (
+        number,
+        full,
+        seat.call(rt, kernel, 3, Pid(1), &create(3), &mut buf),
+    )
+}
+
+/// The same of a new kernel, whose core has this journal.
+fn one_seat<R: Wait>(rt: &R, alloc: Global, journal: u64) -> Option<(Option<u64>, bool, Answer)> {
     let core = boot(alloc, journal)?;
     let Ok((kernel, mut seats)) = Kernel::new(alloc, core, 1) else {
         return None;
     };
-    let mut seat = seats.pop()?;
-    let mut buf = [0; 4096];
-    let first = seat
-        .try_call(&kernel, 1, Pid(1), &create(1), &mut buf)
-        .ok()?;
-    let second = seat
-        .try_call(&kernel, 2, Pid(1), &create(2), &mut buf)
-        .ok()?;
-    Some((first, second, kernel.close(seat).len()))
+    match seats.pop() {
+        Some(mut seat) => Some(make_alone(rt, &kernel, &mut seat)),
+        None => None,
+    }
 }
 
 #[test]
 fn one_seat_is_never_busy(rt: HostRuntime) {
-    let Some((first, second, made_in_all)) = alone(rt.alloc(), 200) else {
-        panic!(rt; "no memory, or a busy kernel");
-    };
-    assert!(rt; made(&first) == Some(1));
-    assert!(rt;
-        matches!(second, Answer::JournalFull { used, need, cap } if (used, need, cap) == (130, 130, 200))
-    );
-    assert!(rt; made_in_all == 1);
+    match one_seat(&rt, rt.alloc(), 200) {
+        Some((first, second, third)) => {
+            assert!(rt; first == Some(1) && second && is_full_of_one(&third));
+        }
+        None => panic!(rt; "no memory"),
+    }
 }
