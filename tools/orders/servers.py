@@ -7,9 +7,11 @@ import re
 
 from drawing import labels, session
 from sessions import words
-from sessions.words import LETTERS
 
 WANT, LOGIN = "want ", "login "
+
+# The letters of the five privileges, in the order in which a set is printed.
+LETTERS = "DPCTL"
 
 
 class Policy:
