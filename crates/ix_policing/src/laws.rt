@@ -8,7 +8,6 @@ pub fn grants_are_listed()
 {}
 
 /// The rules of a policy that was read have labels with a text in its form, and users with names of scripts.
-#[tactic(auto, using(crate::proofs::Readings::read_spelled))]
 pub fn read_policies_are_spelled()
     ensures law { ReadIsSpelled }
 {}
