@@ -1,11 +1,11 @@
 -- What comes of requests, by the rules that decide them.
-use Rattle.std.proofs.Common.{◌≡◌, ℕ, ◌==◌, Bool, true, false, true≢false, not, ◌&&◌, List, Option, Some, None, refl, sym, ap, ◌∙◌}
+use Rattle.std.proofs.Common.{◌≡◌, ℕ, ◌==◌, true, true≢false, ◌&&◌, List, refl, sym, ap, ◌∙◌}
 use Rattle.std.proofs.lemmas.Bool.{and_from, and_parts, eqb-true, eq-eqb}
 use Rattle.ix_label.specs.{Category.{Categories, same}, Lattice.same-decides}
 use Rattle.ix_model.specs.declared.privs.PrivSet.{PrivSet}
 use Rattle.ix_policy.specs.Deciding.{decide, numbered}
 use Rattle.ix_policy.specs.declared.{request.Request.Request, rule.Rule.Rule}
-use Rattle.ix_policing.specs.Outcomes.{is_denied, outcome, outcome_of, same_outcome}
+use Rattle.ix_policing.specs.Outcomes.{outcome, outcome_of, same_outcome}
 use Rattle.ix_policing.specs.declared.outcome.Outcome.{Outcome}
 use Rattle.ix_policing.specs.declared.outcome.Outcome.TheVariants as outcomes
 use Rattle.ix_policing.proofs.Deciders.{Undecided}

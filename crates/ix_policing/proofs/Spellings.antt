@@ -1,8 +1,8 @@
 -- The requests that are found have a text where the rules have.
-use Rattle.std.proofs.Common.{◌≡◌, ℕ, zero, suc, true, List, Option, Some, None, length, get_or, refl, sym, ap, ◌∙◌, subst}
+use Rattle.std.proofs.Common.{◌≡◌, ℕ, zero, suc, true, List, Option, Some, None, refl, sym, ap, ◌∙◌, subst}
 use Rattle.std.proofs.lemmas.Option.{get_or_from_slice_get, slice_get_within}
-use Rattle.std.specs.{List.slice_get, Option.option_map_or}
-use Rattle.ix_label.specs.{Category.{Categories, all_below, leq, meet}, Forms.{narrow, Fits}, Lattice.{leq-meet_left, leq-trans}, declared.form.Form.Form}
+use Rattle.std.specs.{Option.option_map_or}
+use Rattle.ix_label.specs.{Category.{Categories, all_below, meet}, Forms.{narrow, Fits}, Lattice.{leq-meet_left, leq-trans}, declared.form.Form.Form}
 use Rattle.ix_label.specs.declared.form.Form.TheVariants.{One, Two}
 use Rattle.ix_model.specs.world.{Naming.{same_bytes}, Privs.{is_empty}}
 use Rattle.ix_text.specs.Names.{is_script_name}

@@ -1,10 +1,10 @@
 -- The greatest label at which a rule grants privileges.
-use Rattle.std.proofs.Common.{◌≡◌, inl, inr, ℕ, ◌<◌, ◌==◌, Bool, true, false, true≢false, ◌&&◌, cond, List, Option, Some, None, IfSome, IfNone, refl, sym, ap, ◌∙◌, arith}
+use Rattle.std.proofs.Common.{◌≡◌, ℕ, ◌==◌, Bool, true, false, ◌&&◌, cond, List, Option, Some, None, IfSome, IfNone, refl, sym, ap, ◌∙◌, arith}
 use Rattle.std.proofs.lemmas.Bool.{and_from, and_parts, eqb-true, eq-eqb}
 use Rattle.std.proofs.lemmas.Option.{cond_some}
 use Rattle.ix_label.specs.{Category.{Categories, leq}, Lattice.{leq-refl, leq-trans}}
 use Rattle.ix_model.specs.declared.privs.PrivSet.{PrivSet}
-use Rattle.ix_policy.specs.{Deciding.{decide, is_session, matches, numbered}, declared.rule.Rule.Rule}
+use Rattle.ix_policy.specs.{Deciding.{decide, is_session, numbered}, declared.rule.Rule.Rule}
 use Rattle.ix_policy.specs.declared.request.Request.TheVariants as request
 use Rattle.ix_policing.specs.{Granting.{widest_grant, widest_of, Grants, GrantsAreListed, GrantsNowhere, IsGranted, IsWidest}, Outcomes.{allowed_by, outcome, outcome_of}}
 use Rattle.ix_policing.specs.declared.outcome.Outcome.TheVariants as outcomes

@@ -1,5 +1,5 @@
 -- What a client can ask a policy, and what comes of it.
-use Rattle.std.specs.Prelude.{ℕ, ◌==◌, Bool, true, false, not, ◌&&◌, List, Option, None, Some, if◌then◌else◌}
+use Rattle.std.specs.Prelude.{◌==◌, Bool, true, false, not, ◌&&◌, List, Option, None, Some, if◌then◌else◌}
 use Rattle.ix_label.specs.Category.{same}
 use Rattle.ix_model.specs.world.Privs.{is_empty}
 use Rattle.ix_policy.specs.Deciding.{decide, is_session, numbered}

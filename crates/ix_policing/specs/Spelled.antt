@@ -1,5 +1,5 @@
 -- Which rules and requests have a text in a form.
-use Rattle.std.specs.Prelude.{◌≡◌, ℕ, Bool, true, All, List, Ok}
+use Rattle.std.specs.Prelude.{◌≡◌, ℕ, true, All, List, Ok}
 use Rattle.std.specs.Option.{option_map_or}
 use Rattle.ix_label.specs.declared.form.Form.{Form}
 use Rattle.ix_label.specs.Forms.{Fits}

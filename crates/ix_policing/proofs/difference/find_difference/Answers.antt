@@ -1,5 +1,5 @@
 use Rattle.std.proofs.Common.{◌≡◌, ℕ, ◌+◌, ◌<◌, length, None}
-use Rattle.ix_policing.specs.{Differing.{difference_at, AreAlike, Differ, IsFirst, IsFirstAt}, Spelled.{AreSpelled, IsSpelled}, Unnamed.{unnamed_user}}
+use Rattle.ix_policing.specs.{Differing.{difference_at, AreAlike, Differ, IsFirst, IsFirstAt}, Spelled.{IsSpelled}, Unnamed.{unnamed_user}}
 use Rattle.ix_policing.specs.declared.difference.Difference.{Difference}
 use Rattle.ix_policing.specs.declared.difference.Sought.TheVariants as sought
 use Rattle.ix_policing.proofs.{Found.{alike, differ_there, is_first, none_then, some_then}, Spellings.{spelled_first}}

@@ -1,4 +1,4 @@
-use Rattle.std.proofs.Common.{◌≡◌, ℕ, true, false, sym, ap, ◌∙◌, arith}
+use Rattle.std.proofs.Common.{◌≡◌, sym, ap, ◌∙◌, arith}
 use Rattle.ix_policing.specs.Unnamed.{is_free, spare}
 use Rattle.ix_policing.proofs.Spares.{free_at, free_last, free_past, unnamed_from}
 use Rattle.ix_policing.proofs.unnamed.free_user.Goals as goal
