@@ -16,13 +16,13 @@ use Rattle.ix_policy_texts.specs.Requests.{request_text, ruling_text}
 -- ---- which rules ever decide
 -- a request that the rule decides, the rule that shadows it, or that it grants nothing
 abbrev pub reach_text : Form → Reach → List ℕ
-reach_text form (reach.Decides q) = codes " live " ++ request_text form q
-reach_text form (reach.Shadowed by) = codes " shadowed by " ++ decimal by
-reach_text form reach.GrantsNothing = codes " grants nothing"
+reach_text form (reach.Decides q) = codes " live " ++ request_text form q ++ codes "\n"
+reach_text form (reach.Shadowed by) = codes " shadowed by " ++ decimal by ++ codes "\n"
+reach_text form reach.GrantsNothing = codes " grants nothing\n"
 
 -- the line of the rule of a number, where no rule names the other user
-abbrev pub reach_line : Form → List Rule → List ℕ → ℕ → List ℕ
-reach_line form rules other n = decimal n ++ reach_text form (reach_at rules other n) ++ codes "\n"
+unfoldable pub reach_line : Form → List Rule → List ℕ → ℕ → List ℕ
+reach_line form rules other n = decimal n ++ reach_text form (reach_at rules other n)
 
 -- a line for each rule, and the last line
 unfoldable pub policy_text : Form → List Rule → List ℕ
@@ -30,7 +30,7 @@ policy_text form rules = flat_map (reach_line form rules (unnamed_user rules rul
 
 -- ---- who is granted what
 -- the line of the rule of a number, if it grants these privileges: its greatest request for them
-abbrev pub can_line : Form → List Rule → PrivSet → ℕ → List ℕ
+unfoldable pub can_line : Form → List Rule → PrivSet → ℕ → List ℕ
 can_line form rules want n = option_map_or (λ label. decimal n ++ codes " allows " ++ request_text form (request.Grant label want) ++ codes "\n") (widest_grant rules n want) []
 
 -- the lines of all rules, and the last line

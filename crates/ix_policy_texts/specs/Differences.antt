@@ -16,8 +16,12 @@ difference_line form d =
     request_text form d.request ++ codes " first " ++ ruling_text form d.request d.first ++ codes " second " ++ ruling_text form d.request d.second ++ codes "\n"
 
 -- that of the rules of two numbers, if they differ; no rule names the other user
-abbrev pub pair_lines : Form → Sought → List Rule → List Rule → List ℕ → ℕ → ℕ → List ℕ
+unfoldable pub pair_lines : Form → Sought → List Rule → List Rule → List ℕ → ℕ → ℕ → List ℕ
 pair_lines form s a b other k l = option_map_or (difference_line form) (difference_at s a b other k l) []
+
+-- whether they differ
+unfoldable pub pair_differs : Sought → List Rule → List Rule → List ℕ → ℕ → ℕ → Bool
+pair_differs s a b other k l = is_some (difference_at s a b other k l)
 
 -- those of a rule of the first policy and each of the second; 0 stands for no rule
 unfoldable pub rule_lines : Form → Sought → List Rule → List Rule → List ℕ → ℕ → List ℕ
@@ -25,19 +29,15 @@ rule_lines form s a b other k = flat_map (pair_lines form s a b other k) (range_
 
 -- whether a rule of the first policy differs from any of the second
 unfoldable pub rule_differs : Sought → List Rule → List Rule → List ℕ → ℕ → Bool
-rule_differs s a b other k = list_any (λ l. is_some (difference_at s a b other k l)) (range_with_len 0 (length b + 1))
+rule_differs s a b other k = list_any (pair_differs s a b other k) (range_with_len 0 (length b + 1))
 
 -- those of all rules of the first policy
-unfoldable pub policy_lines : Form → Sought → List Rule → List Rule → List ℕ → List ℕ
-policy_lines form s a b other = flat_map (rule_lines form s a b other) (range_with_len 0 (length a + 1))
-
--- whether any of them differs from any
-unfoldable pub any_differs : Sought → List Rule → List Rule → List ℕ → Bool
-any_differs s a b other = list_any (rule_differs s a b other) (range_with_len 0 (length a + 1))
+unfoldable pub policy_lines : Form → Sought → List Rule → List Rule → List ℕ
+policy_lines form s a b = flat_map (rule_lines form s a b (unnamed_user a b)) (range_with_len 0 (length a + 1))
 
 -- whether any rules of two policies differ
 unfoldable pub policies_differ : Sought → List Rule → List Rule → Bool
-policies_differ s a b = any_differs s a b (unnamed_user a b)
+policies_differ s a b = list_any (rule_differs s a b (unnamed_user a b)) (range_with_len 0 (length a + 1))
 
 -- what is said where none do
 abbrev pub none_text : Sought → List ℕ
@@ -46,4 +46,4 @@ none_text sought.Allowed = codes "allows no more\n"
 
 -- a line for each two rules that differ; and where none do, that
 unfoldable pub difference_text : Form → Sought → List Rule → List Rule → List ℕ
-difference_text form s a b = policy_lines form s a b (unnamed_user a b) ++ (if policies_differ s a b then [] else none_text s)
+difference_text form s a b = policy_lines form s a b ++ (if policies_differ s a b then [] else none_text s)

@@ -1,5 +1,4 @@
-ghost use Rattle.std.specs.{Prelude.{◌≡◌, ◌++◌, ◌<◌, ◌≤◌, OnOk, OnErr, codes, length}, List.{flat_map, range_with_len}};
-ghost use Rattle.ix_policing.specs.Unnamed.{unnamed_user};
+ghost use Rattle.std.specs.{Prelude.{◌≡◌, ◌++◌, ◌<◌, ◌≤◌, OnOk, OnErr}, List.{flat_map, range_with_len}};
 ghost use Rattle.ix_policy_texts.specs.Answers.{can_line, can_text, decide_text, policy_text, reach_line, reach_text};
 
 use crate::requests::{push_request, push_ruling};
@@ -19,8 +18,25 @@ pub fn policy_text(out: &mut Vec<u8>, form: Form, policy: &Policy) -> Result<(),
     ensures ok { OnOk result (out.new.items ≡ out.old.items ++ policy_text form policy.now) }
     ensures err { OnErr result (out.new.items ≡ out.old.items) }
 {
+    policy_text_counted::<Brand>(out, form, policy, Blank::new(1))
+}
+
+/// The same, with a counter of its own.
+fn policy_text_counted<L: Ledger>(
+    out: &mut Vec<u8>,
+    form: Form,
+    policy: &Policy,
+    blank: Blank,
+) -> Result<(), NoMemory>
+    requires name { blank.name ≡ L.name }
+    requires parts { blank.parts ≡ L.parts }
+    requires some { 0 < L.parts }
+    ensures ok { OnOk result (out.new.items ≡ out.old.items ++ policy_text form policy.now) }
+    ensures err { OnErr result (out.new.items ≡ out.old.items) }
+{
+    let mut steps = Steps::<L>::new(blank);
     let mut line = Line::begin(out);
-    let written = push_reaches::<Brand>(&mut line, form, policy, Blank::new(1));
+    let written = push_reaches(&mut line, form, policy, &mut steps);
     line.end(out, written)
 }
 
@@ -36,8 +52,26 @@ pub fn can_text(
     ensures ok { OnOk result (out.new.items ≡ out.old.items ++ can_text form policy.now want) }
     ensures err { OnErr result (out.new.items ≡ out.old.items) }
 {
+    can_text_counted::<Brand>(out, form, policy, want, Blank::new(1))
+}
+
+/// The same, with a counter of its own.
+fn can_text_counted<L: Ledger>(
+    out: &mut Vec<u8>,
+    form: Form,
+    policy: &Policy,
+    want: PrivSet,
+    blank: Blank,
+) -> Result<(), NoMemory>
+    requires name { blank.name ≡ L.name }
+    requires parts { blank.parts ≡ L.parts }
+    requires some { 0 < L.parts }
+    ensures ok { OnOk result (out.new.items ≡ out.old.items ++ can_text form policy.now want) }
+    ensures err { OnErr result (out.new.items ≡ out.old.items) }
+{
+    let mut steps = Steps::<L>::new(blank);
     let mut line = Line::begin(out);
-    let written = push_grants::<Brand>(&mut line, form, policy, want, Blank::new(1));
+    let written = push_grants(&mut line, form, policy, want, &mut steps);
     line.end(out, written)
 }
 
@@ -51,8 +85,26 @@ pub fn decide_text(
     ensures ok { OnOk result (out.new.items ≡ out.old.items ++ decide_text form policy.now request.now) }
     ensures err { OnErr result (out.new.items ≡ out.old.items) }
 {
+    decide_text_counted::<Brand>(out, form, policy, request, Blank::new(1))
+}
+
+/// The same, with a counter of its own.
+fn decide_text_counted<L: Ledger>(
+    out: &mut Vec<u8>,
+    form: Form,
+    policy: &Policy,
+    request: &Request,
+    blank: Blank,
+) -> Result<(), NoMemory>
+    requires name { blank.name ≡ L.name }
+    requires parts { blank.parts ≡ L.parts }
+    requires some { 0 < L.parts }
+    ensures ok { OnOk result (out.new.items ≡ out.old.items ++ decide_text form policy.now request.now) }
+    ensures err { OnErr result (out.new.items ≡ out.old.items) }
+{
+    let mut steps = Steps::<L>::new(blank);
     let mut line = Line::begin(out);
-    let written = push_decided::<Brand>(&mut line, form, policy, request, Blank::new(1));
+    let written = push_decided(&mut line, form, policy, request, &mut steps);
     line.end(out, written)
 }
 
@@ -64,17 +116,20 @@ fn push_reach(line: &mut Line, form: Form, reach: &Reach) -> Result<(), NoMemory
     match reach {
         Reach::Decides(request) => {
             line.push(b" live ")?;
-            push_request(line, form, request)
+            push_request(line, form, request)?;
+            line.push(b"\n")
         }
         Reach::Shadowed(by) => {
             line.push(b" shadowed by ")?;
-            push_number(line, u64::from(*by))
+            push_number(line, u64::from(*by))?;
+            line.push(b"\n")
         }
-        Reach::GrantsNothing => line.push(b" grants nothing"),
+        Reach::GrantsNothing => line.push(b" grants nothing\n"),
     }
 }
 
 /// The line of the rule of a number.
+#[tactic(auto, unfolding(crate::specs::Answers::reach_line))]
 fn push_reach_line<L: Ledger>(
     line: &mut Line,
     form: Form,
@@ -87,34 +142,48 @@ fn push_reach_line<L: Ledger>(
     ensures text { OnOk result (line.new.text ≡ line.old.text ++ reach_line form policy.now other.now rule) }
 {
     push_number(line, u64::from(rule))?;
-    push_reach(line, form, &reach_at(policy, other, rule, steps))?;
-    line.push(b"\n")
+    push_reach(line, form, &reach_at(policy, other, rule, steps))
 }
 
-/// The lines of all rules.
-#[tactic(auto, using(crate::proofs::Lines::next_line, crate::proofs::Lines::no_line), unfolding(crate::specs::Answers::policy_text))]
+/// The lines of so many rules.
+#[tactic(auto, using(crate::proofs::Lines::next_reach, crate::proofs::Lines::no_reach))]
+fn push_reach_lines<L: Ledger>(
+    line: &mut Line,
+    form: Form,
+    policy: &Policy,
+    other: &Name,
+    count: u32,
+    steps: &mut Steps<L>,
+) -> Result<(), NoMemory>
+    requires { count ≤ 256 }
+    ensures stays { line.new.before ≡ line.old.before }
+    ensures text { OnOk result (line.new.text ≡ line.old.text ++ flat_map (reach_line form policy.now other.now) (range_with_len 1 count)) }
+{
+    for rule in 1..count + 1 {
+        push_reach_line(line, form, policy, other, rule, steps)?;
+    }
+    Ok(())
+}
+
+/// The lines of all rules, and the last line.
+#[tactic(auto, unfolding(crate::specs::Answers::policy_text))]
 fn push_reaches<L: Ledger>(
     line: &mut Line,
     form: Form,
     policy: &Policy,
-    blank: Blank,
+    steps: &mut Steps<L>,
 ) -> Result<(), NoMemory>
-    requires name { blank.name ≡ L.name }
-    requires parts { blank.parts ≡ L.parts }
-    requires some { 0 < L.parts }
     ensures stays { line.new.before ≡ line.old.before }
     ensures text { OnOk result (line.new.text ≡ line.old.text ++ policy_text form policy.now) }
 {
-    let mut steps = Steps::<L>::new(blank);
     let other = unnamed_user(policy, policy);
     let count = policy.rules().len() as u32;
-    for rule in 1..count + 1 {
-        push_reach_line(line, form, policy, &other, rule, &mut steps)?;
-    }
+    push_reach_lines(line, form, policy, &other, count, steps)?;
     line.push(b"end\n")
 }
 
 /// The line of the rule of a number, if it grants these privileges.
+#[tactic(auto, unfolding(crate::specs::Answers::can_line))]
 fn push_grant_line<L: Ledger>(
     line: &mut Line,
     form: Form,
@@ -135,26 +204,40 @@ fn push_grant_line<L: Ledger>(
     line.push(b"\n")
 }
 
-/// The lines of all rules that grant these privileges.
-#[tactic(auto, using(crate::proofs::Lines::next_line, crate::proofs::Lines::no_line), unfolding(crate::specs::Answers::can_text))]
+/// The lines of so many rules, where they grant these privileges.
+#[tactic(auto, using(crate::proofs::Lines::next_can, crate::proofs::Lines::no_can))]
+fn push_grant_lines<L: Ledger>(
+    line: &mut Line,
+    form: Form,
+    policy: &Policy,
+    want: PrivSet,
+    count: u32,
+    steps: &mut Steps<L>,
+) -> Result<(), NoMemory>
+    requires { count ≤ 256 }
+    ensures stays { line.new.before ≡ line.old.before }
+    ensures text { OnOk result (line.new.text ≡ line.old.text ++ flat_map (can_line form policy.now want) (range_with_len 1 count)) }
+{
+    for rule in 1..count + 1 {
+        push_grant_line(line, form, policy, want, rule, steps)?;
+    }
+    Ok(())
+}
+
+/// The lines of all rules that grant these privileges, and the last line.
+#[tactic(auto, unfolding(crate::specs::Answers::can_text))]
 fn push_grants<L: Ledger>(
     line: &mut Line,
     form: Form,
     policy: &Policy,
     want: PrivSet,
-    blank: Blank,
+    steps: &mut Steps<L>,
 ) -> Result<(), NoMemory>
-    requires name { blank.name ≡ L.name }
-    requires parts { blank.parts ≡ L.parts }
-    requires some { 0 < L.parts }
     ensures stays { line.new.before ≡ line.old.before }
     ensures text { OnOk result (line.new.text ≡ line.old.text ++ can_text form policy.now want) }
 {
-    let mut steps = Steps::<L>::new(blank);
     let count = policy.rules().len() as u32;
-    for rule in 1..count + 1 {
-        push_grant_line(line, form, policy, want, rule, &mut steps)?;
-    }
+    push_grant_lines(line, form, policy, want, count, steps)?;
     line.push(b"end\n")
 }
 
@@ -165,16 +248,12 @@ fn push_decided<L: Ledger>(
     form: Form,
     policy: &Policy,
     request: &Request,
-    blank: Blank,
+    steps: &mut Steps<L>,
 ) -> Result<(), NoMemory>
-    requires name { blank.name ≡ L.name }
-    requires parts { blank.parts ≡ L.parts }
-    requires some { 0 < L.parts }
     ensures stays { line.new.before ≡ line.old.before }
     ensures text { OnOk result (line.new.text ≡ line.old.text ++ decide_text form policy.now request.now) }
 {
-    let mut steps = Steps::<L>::new(blank);
-    let ruling = ruling_on(policy, request, &mut steps);
+    let ruling = ruling_on(policy, request, steps);
     push_ruling(line, form, request, &ruling)?;
     line.push(b"\n")
 }

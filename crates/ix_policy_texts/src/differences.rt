@@ -1,7 +1,5 @@
-ghost use Rattle.std.specs.Prelude.{◌≡◌, ◌++◌, ◌<◌, ◌+◌, OnOk, OnErr, IfOk, is_some};
-ghost use Rattle.ix_policing.specs.Differing.{difference_at};
-ghost use Rattle.ix_policing.specs.Unnamed.{unnamed_user};
-ghost use Rattle.ix_policy_texts.specs.Differences.{any_differs, difference_line, difference_text, none_text, pair_lines, policies_differ, policy_lines, rule_differs, rule_lines};
+ghost use Rattle.std.specs.{Prelude.{◌≡◌, ◌++◌, ◌<◌, ◌||◌, OnOk, OnErr, IfOk}, List.{flat_map, list_any, range_with_len}};
+ghost use Rattle.ix_policy_texts.specs.Differences.{difference_line, difference_text, none_text, pair_differs, pair_lines, policies_differ, policy_lines, rule_differs, rule_lines};
 
 use crate::requests::{push_request, push_ruling};
 use ix_label::{Form, Steps};
@@ -28,9 +26,28 @@ pub fn difference_text(
     ensures differ { IfOk result (λ any. any ≡ policies_differ sought first.now second.now) }
     ensures err { OnErr result (out.new.items ≡ out.old.items) }
 {
+    difference_counted::<Brand>(out, form, sought, first, second, Blank::new(1))
+}
+
+/// The same, with a counter of its own.
+fn difference_counted<L: Ledger>(
+    out: &mut Vec<u8>,
+    form: Form,
+    sought: Sought,
+    first: &Policy,
+    second: &Policy,
+    blank: Blank,
+) -> Result<bool, NoMemory>
+    requires name { blank.name ≡ L.name }
+    requires parts { blank.parts ≡ L.parts }
+    requires some { 0 < L.parts }
+    ensures ok { OnOk result (out.new.items ≡ out.old.items ++ difference_text form sought first.now second.now) }
+    ensures differ { IfOk result (λ any. any ≡ policies_differ sought first.now second.now) }
+    ensures err { OnErr result (out.new.items ≡ out.old.items) }
+{
+    let mut steps = Steps::<L>::new(blank);
     let mut line = Line::begin(out);
-    let found = push_all::<Brand>(&mut line, form, sought, first, second, Blank::new(1));
-    match found {
+    match push_all(&mut line, form, sought, first, second, &mut steps) {
         Ok(any) => {
             line.end(out, Ok(()))?;
             Ok(any)
@@ -57,20 +74,22 @@ fn push_line(line: &mut Line, form: Form, found: &Difference) -> Result<(), NoMe
 }
 
 /// The line of the rules of these numbers, if they differ; and whether they do.
+#[tactic(auto, unfolding(crate::specs::Differences::pair_lines, crate::specs::Differences::pair_differs))]
 fn push_pair<L: Ledger>(
     line: &mut Line,
     form: Form,
     sought: Sought,
-    policies: (&Policy, &Policy),
+    first: &Policy,
+    second: &Policy,
     other: &Name,
     numbers: (u32, u32),
     steps: &mut Steps<L>,
 ) -> Result<bool, NoMemory>
     ensures stays { line.new.before ≡ line.old.before }
-    ensures text { OnOk result (line.new.text ≡ line.old.text ++ pair_lines form sought policies.0.now policies.1.now other.now numbers.0 numbers.1) }
-    ensures differ { IfOk result (λ any. any ≡ is_some (difference_at sought policies.0.now policies.1.now other.now numbers.0 numbers.1)) }
+    ensures text { OnOk result (line.new.text ≡ line.old.text ++ pair_lines form sought first.now second.now other.now numbers.0 numbers.1) }
+    ensures differ { IfOk result (λ any. any ≡ pair_differs sought first.now second.now other.now numbers.0 numbers.1) }
 {
-    match difference_at(policies.0, policies.1, sought, numbers, other, steps) {
+    match difference_at(first, second, sought, numbers, other, steps) {
         None => Ok(false),
         Some(found) => {
             push_line(line, form, &found)?;
@@ -79,51 +98,102 @@ fn push_pair<L: Ledger>(
     }
 }
 
+/// Whether one of the two holds.
+fn either(one: bool, other: bool) -> bool
+    ensures { result ≡ (one || other) }
+{
+    one || other
+}
+
+/// The lines of a rule of the first policy and so many of the second; and whether there are any.
+#[tactic(auto, using(crate::proofs::Lines::next_pair, crate::proofs::Lines::no_pair, crate::proofs::Lines::next_pair_any, crate::proofs::Lines::no_pair_any))]
+fn push_pairs<L: Ledger>(
+    line: &mut Line,
+    form: Form,
+    sought: Sought,
+    first: &Policy,
+    second: &Policy,
+    other: &Name,
+    number: u32,
+    count: u32,
+    steps: &mut Steps<L>,
+) -> Result<bool, NoMemory>
+    ensures stays { line.new.before ≡ line.old.before }
+    ensures text { OnOk result (line.new.text ≡ line.old.text ++ flat_map (pair_lines form sought first.now second.now other.now number) (range_with_len 0 count)) }
+    ensures differ { IfOk result (λ any. any ≡ list_any (pair_differs sought first.now second.now other.now number) (range_with_len 0 count)) }
+{
+    let mut any = false;
+    for theirs in 0..count {
+        let numbers = (number, theirs);
+        let wrote = push_pair(line, form, sought, first, second, other, numbers, steps)?;
+        any = either(any, wrote);
+    }
+    Ok(any)
+}
+
 /// The lines of a rule of the first policy; and whether there are any.
-#[tactic(auto, using(crate::proofs::Lines::next_line, crate::proofs::Lines::no_line, crate::proofs::Lines::next_any, crate::proofs::Lines::no_any), unfolding(crate::specs::Differences::rule_lines, crate::specs::Differences::rule_differs))]
+#[tactic(auto, unfolding(crate::specs::Differences::rule_lines, crate::specs::Differences::rule_differs))]
 fn push_rule<L: Ledger>(
     line: &mut Line,
     form: Form,
     sought: Sought,
-    policies: (&Policy, &Policy),
+    first: &Policy,
+    second: &Policy,
     other: &Name,
     number: u32,
     steps: &mut Steps<L>,
 ) -> Result<bool, NoMemory>
     ensures stays { line.new.before ≡ line.old.before }
-    ensures text { OnOk result (line.new.text ≡ line.old.text ++ rule_lines form sought policies.0.now policies.1.now other.now number) }
-    ensures differ { IfOk result (λ any. any ≡ rule_differs sought policies.0.now policies.1.now other.now number) }
+    ensures text { OnOk result (line.new.text ≡ line.old.text ++ rule_lines form sought first.now second.now other.now number) }
+    ensures differ { IfOk result (λ any. any ≡ rule_differs sought first.now second.now other.now number) }
 {
-    let count = policies.1.rules().len() as u32 + 1;
-    let mut any = false;
-    for theirs in 0..count {
-        let wrote = push_pair(line, form, sought, policies, other, (number, theirs), steps)?;
-        any = any || wrote;
-    }
-    Ok(any)
+    let count = second.rules().len() as u32 + 1;
+    push_pairs(
+        line, form, sought, first, second, other, number, count, steps,
+    )
 }
 
-/// The lines of all rules, and whether there are any.
-#[tactic(auto, using(crate::proofs::Lines::next_line, crate::proofs::Lines::no_line, crate::proofs::Lines::next_any, crate::proofs::Lines::no_any), unfolding(crate::specs::Differences::policy_lines, crate::specs::Differences::any_differs))]
+/// The lines of so many rules of the first policy; and whether there are any.
+#[tactic(auto, using(crate::proofs::Lines::next_rule, crate::proofs::Lines::no_rule, crate::proofs::Lines::next_rule_any, crate::proofs::Lines::no_rule_any))]
 fn push_rules<L: Ledger>(
     line: &mut Line,
     form: Form,
     sought: Sought,
-    policies: (&Policy, &Policy),
+    first: &Policy,
+    second: &Policy,
     other: &Name,
+    count: u32,
     steps: &mut Steps<L>,
 ) -> Result<bool, NoMemory>
     ensures stays { line.new.before ≡ line.old.before }
-    ensures text { OnOk result (line.new.text ≡ line.old.text ++ policy_lines form sought policies.0.now policies.1.now other.now) }
-    ensures differ { IfOk result (λ any. any ≡ any_differs sought policies.0.now policies.1.now other.now) }
+    ensures text { OnOk result (line.new.text ≡ line.old.text ++ flat_map (rule_lines form sought first.now second.now other.now) (range_with_len 0 count)) }
+    ensures differ { IfOk result (λ any. any ≡ list_any (rule_differs sought first.now second.now other.now) (range_with_len 0 count)) }
 {
-    let count = policies.0.rules().len() as u32 + 1;
     let mut any = false;
     for number in 0..count {
-        let wrote = push_rule(line, form, sought, policies, other, number, steps)?;
-        any = any || wrote;
+        let wrote = push_rule(line, form, sought, first, second, other, number, steps)?;
+        any = either(any, wrote);
     }
     Ok(any)
+}
+
+/// The lines of all rules of the first policy; and whether there are any.
+#[tactic(auto, unfolding(crate::specs::Differences::policy_lines, crate::specs::Differences::policies_differ))]
+fn push_policy<L: Ledger>(
+    line: &mut Line,
+    form: Form,
+    sought: Sought,
+    first: &Policy,
+    second: &Policy,
+    steps: &mut Steps<L>,
+) -> Result<bool, NoMemory>
+    ensures stays { line.new.before ≡ line.old.before }
+    ensures text { OnOk result (line.new.text ≡ line.old.text ++ policy_lines form sought first.now second.now) }
+    ensures differ { IfOk result (λ any. any ≡ policies_differ sought first.now second.now) }
+{
+    let other = unnamed_user(first, second);
+    let count = first.rules().len() as u32 + 1;
+    push_rules(line, form, sought, first, second, &other, count, steps)
 }
 
 /// What is said where no rules differ.
@@ -137,27 +207,23 @@ fn none_words(sought: Sought) -> &'static [u8]
 }
 
 /// The whole text, and whether any rules differ.
-#[tactic(auto, unfolding(crate::specs::Differences::difference_text, crate::specs::Differences::policies_differ))]
+#[tactic(auto, unfolding(crate::specs::Differences::difference_text))]
 fn push_all<L: Ledger>(
     line: &mut Line,
     form: Form,
     sought: Sought,
     first: &Policy,
     second: &Policy,
-    blank: Blank,
+    steps: &mut Steps<L>,
 ) -> Result<bool, NoMemory>
-    requires name { blank.name ≡ L.name }
-    requires parts { blank.parts ≡ L.parts }
-    requires some { 0 < L.parts }
     ensures stays { line.new.before ≡ line.old.before }
     ensures text { OnOk result (line.new.text ≡ line.old.text ++ difference_text form sought first.now second.now) }
     ensures differ { IfOk result (λ any. any ≡ policies_differ sought first.now second.now) }
 {
-    let mut steps = Steps::<L>::new(blank);
-    let other = unnamed_user(first, second);
-    let any = push_rules(line, form, sought, (first, second), &other, &mut steps)?;
-    if !any {
-        line.push(none_words(sought))?;
+    let any = push_policy(line, form, sought, first, second, steps)?;
+    if any {
+        return Ok(true);
     }
-    Ok(any)
+    line.push(none_words(sought))?;
+    Ok(false)
 }

@@ -6,8 +6,6 @@ use Rattle.ix_policy_texts.proofs.differences.push_rules.Given as goal
 abbrev pub invariant-loop-number : goal.invariant-loop-number
 invariant-loop-number g l = record {
   stays : l.line.before ≡ l.fn.line.before;
-  text : l.line.text ++ flat_map (rule_lines l.form l.sought l.policies.0.now l.policies.1.now l.other) (range_with_len l.number (l.count - l.number))
-      ≡ l.fn.line.text ++ flat_map (rule_lines l.form l.sought l.policies.0.now l.policies.1.now l.other) (range_with_len 0 l.count);
-  differ : (l.any || list_any (rule_differs l.sought l.policies.0.now l.policies.1.now l.other) (range_with_len l.number (l.count - l.number)))
-      ≡ list_any (rule_differs l.sought l.policies.0.now l.policies.1.now l.other) (range_with_len 0 l.count);
+  text : l.line.text ++ flat_map (rule_lines l.form l.sought l.first l.second l.other) (range_with_len l.number (l.count - l.number)) ≡ l.fn.line.text ++ flat_map (rule_lines l.form l.sought l.first l.second l.other) (range_with_len 0 l.count);
+  differ : (l.any || list_any (rule_differs l.sought l.first l.second l.other) (range_with_len l.number (l.count - l.number))) ≡ list_any (rule_differs l.sought l.first l.second l.other) (range_with_len 0 l.count);
 }
