@@ -14,10 +14,18 @@ use Rattle.ix_policing.specs.declared.reach.Reach.TheVariants as reach
 use Rattle.ix_policy_texts.specs.Requests.{request_text, ruling_text}
 
 -- ---- which rules ever decide
+-- the words before the number of a rule that shadows one
+unfoldable pub shadowed_by : List ℕ
+shadowed_by = codes " shadowed by "
+
+-- that the rule of a number shadows one
+abbrev pub shadowed_text : ℕ → List ℕ
+shadowed_text by = shadowed_by ++ decimal by ++ codes "\n"
+
 -- a request that the rule decides, the rule that shadows it, or that it grants nothing
 abbrev pub reach_text : Form → Reach → List ℕ
 reach_text form (reach.Decides q) = codes " live " ++ request_text form q ++ codes "\n"
-reach_text form (reach.Shadowed by) = codes " shadowed by " ++ decimal by ++ codes "\n"
+reach_text form (reach.Shadowed by) = shadowed_text by
 reach_text form reach.GrantsNothing = codes " grants nothing\n"
 
 -- the line of the rule of a number, where no rule names the other user

@@ -1,5 +1,5 @@
 ghost use Rattle.std.specs.{Prelude.{◌≡◌, ◌++◌, ◌<◌, ◌≤◌, OnOk, OnErr}, List.{flat_map, range_with_len}};
-ghost use Rattle.ix_policy_texts.specs.Answers.{can_line, can_text, decide_text, policy_text, reach_line, reach_text};
+ghost use Rattle.ix_policy_texts.specs.Answers.{can_line, can_text, decide_text, policy_text, reach_line, reach_text, shadowed_by, shadowed_text};
 
 use crate::requests::{push_request, push_ruling};
 use ix_label::{Form, Steps};
@@ -108,6 +108,24 @@ fn decide_text_counted<L: Ledger>(
     line.end(out, written)
 }
 
+/// The words before the number of a rule that shadows one.
+#[tactic(auto, unfolding(crate::specs::Answers::shadowed_by))]
+fn shadowed_by() -> &'static [u8]
+    ensures { result.now ≡ shadowed_by }
+{
+    b" shadowed by "
+}
+
+/// That the rule of a number shadows one.
+fn push_shadowed(line: &mut Line, by: u32) -> Result<(), NoMemory>
+    ensures stays { line.new.before ≡ line.old.before }
+    ensures text { OnOk result (line.new.text ≡ line.old.text ++ shadowed_text by) }
+{
+    line.push(shadowed_by())?;
+    push_number(line, u64::from(by))?;
+    line.push(b"\n")
+}
+
 /// Whether a rule ever decides.
 fn push_reach(line: &mut Line, form: Form, reach: &Reach) -> Result<(), NoMemory>
     ensures stays { line.new.before ≡ line.old.before }
@@ -119,11 +137,7 @@ fn push_reach(line: &mut Line, form: Form, reach: &Reach) -> Result<(), NoMemory
             push_request(line, form, request)?;
             line.push(b"\n")
         }
-        Reach::Shadowed(by) => {
-            line.push(b" shadowed by ")?;
-            push_number(line, u64::from(*by))?;
-            line.push(b"\n")
-        }
+        Reach::Shadowed(by) => push_shadowed(line, *by),
         Reach::GrantsNothing => line.push(b" grants nothing\n"),
     }
 }
