@@ -10,6 +10,8 @@ mod configs;
 #[cfg(test)]
 mod gates;
 #[cfg(test)]
+mod hospital;
+#[cfg(test)]
 mod inodes;
 #[cfg(test)]
 mod journals;

@@ -335,9 +335,15 @@ fn two_thousand_pairs_of_policies_agree_with_a_walk_over_all_requests(
         let new = changed(&mut seed, &old);
         let first = Policy::read(alloc, Form::One, text(alloc, &old)?.as_slice())?;
         let second = Policy::read(alloc, Form::One, text(alloc, &new)?.as_slice())?;
-        assert!(rt; rules_agree::<Brand>(&first, &old, Blank::new(1)), "rules of {pair}");
+        assert!(rt;
+            rules_agree::<Brand>(&first, &old, Blank::new(1)),
+            "rules of {pair}"
+        );
         let policies = (&first, &second);
-        assert!(rt; differences_agree::<Brand>(policies, &old, &new, Blank::new(1)), "pair {pair}");
+        assert!(rt;
+            differences_agree::<Brand>(policies, &old, &new, Blank::new(1)),
+            "pair {pair}"
+        );
     }
     Ok(())
 }
