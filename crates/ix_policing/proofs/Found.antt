@@ -5,11 +5,11 @@ use Rattle.std.proofs.lemmas.Option.{cond_some}
 use Rattle.ix_policy.specs.Deciding.{decide, numbered}
 use Rattle.ix_policy.specs.declared.{request.Request.Request, rule.Rule.Rule}
 use Rattle.ix_policing.specs.{Common.{greatest}, Outcomes.{is_asked, is_denied, outcome, outcome_of, ruling, same_outcome}, Unnamed.{unnamed_user, IsUnnamed}, Within.is_within}
-use Rattle.ix_policing.specs.Differing.{are_deciders, differ, difference_at, difference_on, AllowsMore, AllowsNoMore, AreAlike, Differ, IsFirst, IsFirstAt, IsFirstOfRule, IsSought}
+use Rattle.ix_policing.specs.Differing.{are_deciders, differ, difference_at, difference_on, AllowsMore, AllowsNoMore, AreAlike, Differ, DifferencesAreOfRules, IsFirst, IsFirstAt, IsFirstOfRule, IsSought, RulesThatDifferHaveOne}
 use Rattle.ix_policing.specs.declared.difference.{Difference.Difference, Sought.Sought}
 use Rattle.ix_policing.specs.declared.difference.Sought.TheVariants as sought
 use Rattle.ix_policing.specs.declared.outcome.Outcome.TheVariants as outcomes
-use Rattle.ix_policing.proofs.{Commons.greatest_asked, Deciders.decided_within, Outcomes.{outcome_at, same_from, same_is, undecided_denied}, Pairs.{stands, Stands}}
+use Rattle.ix_policing.proofs.{Commons.greatest_asked, Deciders.decided_within, Outcomes.{outcome_at, same_from, same_is, undecided_denied}, Pairs.{stands, Stands}, Spares.{first_unnamed, second_unnamed}}
 
 -- ---- the difference of a pair of rules
 -- the difference on a request that these rules decide
@@ -211,3 +211,12 @@ module _ (a b : List Rule) (free_a : IsUnnamed (unnamed_user a b) a) (free_b : I
 
   pub no_more : ((k : ℕ) → k < length a + 1 → (l : ℕ) → l < length b + 1 → difference_at sought.Allowed a b (unnamed_user a b) k l ≡ None) → AllowsNoMore a b
   no_more none q asked denied = no_more_by q asked denied (none_sought sought.Allowed none q) (is_denied (outcome b q)) refl
+
+-- ---- laws
+pub of_rules : DifferencesAreOfRules
+of_rules s a b other k l d is =
+    let h = has s a b other k l d is in record { is_sought = h.is_sought; first = h.first; second = h.second; rule = h.rule; other_rule = h.other_rule }
+
+pub have_one : RulesThatDifferHaveOne
+have_one s a b q few_a few_b h =
+    let m = met s a b (unnamed_user a b) (first_unnamed a b few_a few_b) (second_unnamed a b few_a few_b) q h in (m.difference, m.is, m.within)

@@ -1,5 +1,5 @@
 -- Where two policies decide differently.
-use Rattle.std.specs.Prelude.{◌≡◌, ◌≢◌, ℕ, ◌+◌, ◌<◌, ◌==◌, Bool, true, not, ◌&&◌, List, length, Option, Some, None, if◌then◌else◌}
+use Rattle.std.specs.Prelude.{◌≡◌, ◌≢◌, ℕ, ◌+◌, ◌<◌, ◌≤◌, ◌==◌, Bool, true, not, ◌&&◌, List, length, Option, Some, None, if◌then◌else◌}
 use Rattle.ix_policy.specs.Deciding.{decide, numbered}
 use Rattle.ix_policy.specs.declared.request.Request.{Request}
 use Rattle.ix_policy.specs.declared.rule.Rule.{Rule}
@@ -88,3 +88,20 @@ pub record IsFirstAt (s : Sought) (a b : List Rule) (d : Difference) : Type 0 wh
   pub found : difference_at s a b (unnamed_user a b) d.first.rule d.second.rule ≡ Some d
   pub earlier : (k : ℕ) → k < d.first.rule → (l : ℕ) → l < length b + 1 → difference_at s a b (unnamed_user a b) k l ≡ None
   pub same_rule : (l : ℕ) → l < d.second.rule → difference_at s a b (unnamed_user a b) d.first.rule l ≡ None
+
+-- ---- laws
+-- the difference of two rules is on a request that is sought and that they decide, with the rulings of the two policies
+pub record IsOfRules (s : Sought) (a b : List Rule) (k l : ℕ) (d : Difference) : Type 0 where
+  pub is_sought : IsSought s a b d.request
+  pub first : d.first ≡ ruling a d.request
+  pub second : d.second ≡ ruling b d.request
+  pub rule : d.first.rule ≡ k
+  pub other_rule : d.second.rule ≡ l
+
+abbrev pub DifferencesAreOfRules : Type 0
+DifferencesAreOfRules = (s : Sought) (a b : List Rule) (other : List ℕ) (k l : ℕ) (d : Difference) → difference_at s a b other k l ≡ Some d → IsOfRules s a b k l d
+
+-- the rules that decide a request which is sought have a difference, and the request is within it
+abbrev pub RulesThatDifferHaveOne : Type 0
+RulesThatDifferHaveOne = (s : Sought) (a b : List Rule) (q : Request) → length a ≤ 256 → length b ≤ 256 → IsSought s a b q
+    → (d : Difference) × (difference_at s a b (unnamed_user a b) (decide a q).rule (decide b q).rule ≡ Some d) × (is_within (unnamed_user a b) q d.request ≡ true)

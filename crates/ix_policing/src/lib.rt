@@ -11,7 +11,10 @@ mod unnamed;
 
 pub use difference::{Difference, Sought, difference_at, find_allowed, find_difference};
 pub use granting::widest_grant;
-pub use laws::{grants_are_listed, read_policies_are_spelled};
+pub use laws::{
+    differences_are_of_rules, grants_are_listed, read_policies_are_spelled,
+    rules_that_differ_have_one,
+};
 pub use outcome::{Outcome, Ruling, ruling_on, session_ruling};
 pub use reach::{Reach, reach_at, reach_of};
 pub use unnamed::unnamed_user;

@@ -1,5 +1,5 @@
 ghost use Rattle.std.specs.Prelude.{◌≡◌, ◌+◌, ◌<◌, ◌≤◌, length};
-ghost use Rattle.ix_policing.specs.Reaching.{reach_at, DeadExactly, IsReach};
+ghost use Rattle.ix_policing.specs.{Reaching.{reach_at, DeadExactly, IsReach}, Unnamed.{unnamed_user}};
 
 use crate::common::greatest;
 use crate::unnamed::unnamed_user;
@@ -23,7 +23,8 @@ pub enum Reach {
 pub fn reach_of<L: Ledger>(policy: &Policy, rule: u32, steps: &mut Steps<L>) -> Reach
     requires from_one { 0 < rule }
     requires there { rule ≤ length policy.now }
-    ensures told { IsReach policy.now rule result }
+    ensures is { result ≡ reach_at policy.now (unnamed_user policy.now policy.now) rule }
+    ensures reach { IsReach policy.now rule result }
     ensures dead { DeadExactly policy.now rule }
     ensures cost { steps.new ≤ steps.old + length policy.now + 1 }
 {
