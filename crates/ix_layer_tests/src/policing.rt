@@ -283,6 +283,20 @@ fn set(want: u64) -> PrivSet {
 }
 
 /// Whether the differences of two policies are those of their rules.
+fn differences_are_right(
+    policies: (&Policy, &Policy),
+    first: &[Plain; 5],
+    second: &[Plain; 5],
+) -> bool {
+    differences_agree::<Brand>(policies, first, second, Blank::new(1))
+}
+
+/// Whether what a policy's rules decide and grant is what they do.
+fn rules_are_right(policy: &Policy, rules: &[Plain; 5]) -> bool {
+    rules_agree::<Brand>(policy, rules, Blank::new(1))
+}
+
+/// The same, with a counter of its own.
 fn differences_agree<L: Ledger>(
     policies: (&Policy, &Policy),
     first: &[Plain; 5],
@@ -299,7 +313,7 @@ fn differences_agree<L: Ledger>(
     is_of(all, first_pair(first, second, false)) && is_of(allowed, first_pair(first, second, true))
 }
 
-/// Whether what a policy's rules decide and grant is what they do.
+/// The same, with a counter of its own.
 fn rules_agree<L: Ledger>(policy: &Policy, rules: &[Plain; 5], blank: Blank) -> bool
     requires name { blank.name ≡ L.name }
     requires parts { blank.parts ≡ L.parts }
@@ -335,15 +349,9 @@ fn two_thousand_pairs_of_policies_agree_with_a_walk_over_all_requests(
         let new = changed(&mut seed, &old);
         let first = Policy::read(alloc, Form::One, text(alloc, &old)?.as_slice())?;
         let second = Policy::read(alloc, Form::One, text(alloc, &new)?.as_slice())?;
-        assert!(rt;
-            rules_agree::<Brand>(&first, &old, Blank::new(1)),
-            "rules of {pair}"
-        );
+        assert!(rt; rules_are_right(&first, &old), "rules of {pair}");
         let policies = (&first, &second);
-        assert!(rt;
-            differences_agree::<Brand>(policies, &old, &new, Blank::new(1)),
-            "pair {pair}"
-        );
+        assert!(rt; differences_are_right(policies, &old, &new), "pair {pair}");
     }
     Ok(())
 }
