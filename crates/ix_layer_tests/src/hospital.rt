@@ -69,7 +69,7 @@ fn last_months_policy_of_a_hospital_is_compared(rt: HostRuntime) -> Result<(), F
 }
 
 #[test]
-fn faults_of_policies_are_told_in_words(rt: HostRuntime) -> Result<(), Fail> {
+fn the_fault_of_a_policy_is_printed_in_words(rt: HostRuntime) -> Result<(), Fail> {
     let alloc = rt.alloc();
     let mut out = Vec::new(alloc);
     let fault = PolicyFault::Rule {
