@@ -1,4 +1,4 @@
-//! Tests of the layers under the calls, of the gate, of the kernel and of policies, each by itself.
+//! Tests of the layers under the calls, of the gate, of the kernel and of policies and their analysis, each by itself.
 #![tactic(auto)]
 
 #[cfg(test)]
@@ -9,6 +9,8 @@ mod blocks;
 mod configs;
 #[cfg(test)]
 mod gates;
+#[cfg(test)]
+mod hospital;
 #[cfg(test)]
 mod inodes;
 #[cfg(test)]
@@ -33,6 +35,8 @@ mod opens;
 mod pipes;
 #[cfg(test)]
 mod policies;
+#[cfg(test)]
+mod policing;
 #[cfg(test)]
 mod procs;
 #[cfg(test)]

@@ -1,0 +1,15 @@
+pub mod Privs
+pub mod Users
+pub mod Matches
+pub mod Commons
+pub mod Covered
+pub mod Deciders
+pub mod Outcomes
+pub mod Pairs
+pub mod Found
+pub mod Reached
+pub mod Widest
+pub mod Costs
+pub mod Spares
+pub mod Spellings
+pub mod Readings

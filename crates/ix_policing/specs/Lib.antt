@@ -1,0 +1,9 @@
+pub mod Outcomes
+pub mod Unnamed
+pub mod Common
+pub mod Within
+pub mod Covering
+pub mod Granting
+pub mod Reaching
+pub mod Differing
+pub mod Spelled

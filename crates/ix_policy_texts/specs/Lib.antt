@@ -1,0 +1,4 @@
+pub mod Requests
+pub mod Faults
+pub mod Answers
+pub mod Differences
