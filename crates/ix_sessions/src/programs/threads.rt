@@ -1,3 +1,5 @@
+ghost use Rattle.std.specs.Prelude.{◌<◌};
+
 use super::command;
 use itoa::Buffer;
 use ix_host::{Status, Watch, run_lanes};
